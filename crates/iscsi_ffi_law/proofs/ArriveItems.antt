@@ -30,20 +30,20 @@ use Rattle.iscsi_ffi_rules.specs.rules.Needs.{admitted_by, is_held, is_of_event,
 use Rattle.iscsi_ffi_rules.specs.rules.Sides.{Side}
 use Rattle.iscsi_ffi_steps.specs.State.{State}
 use Rattle.iscsi_ffi_steps.specs.Walk.{on_effects}
-use Rattle.iscsi_ffi_law.specs.Arrived.{AreStepsFit, IsReceivable, IsStepFit, effects_by, is_plain, side_behind, starts_late}
+use Rattle.iscsi_ffi_law.specs.Arrived.{AreStepsFit, IsReceivable, IsStepFit, effects_by, is_plain_item, side_behind, starts_late}
 use Rattle.iscsi_ffi_law.specs.Names.{Name, Note, place_named}
 use Rattle.iscsi_ffi_law.specs.Parts.{IsRequest}
 use Rattle.iscsi_ffi_law.specs.Stands.{AreRequests}
 use Rattle.iscsi_ffi_law.specs.Uses.{count_functions, count_held}
 use Rattle.iscsi_ffi_law.proofs.Admitting.{distinct_with, held_with, requests_with, slots_with, some_with}
 use Rattle.iscsi_ffi_law.proofs.Asked.{any_nothing, find_nothing}
-use Rattle.iscsi_ffi_law.proofs.Alone.{IsAlone}
 use Rattle.iscsi_ffi_law.proofs.Between.{IsBetween, arrival_headed, distinct_same, held_same}
 use Rattle.iscsi_ffi_law.proofs.DoneShape.{enables}
 use Rattle.iscsi_ffi_law.proofs.ItemsGo.{AllGo, all_due, executed_goes, first_sound, goes_then, led_due, none_more, side_after}
 use Rattle.iscsi_ffi_law.proofs.Members.{each_in}
 use Rattle.iscsi_ffi_law.proofs.Moved.{IsMoved, requests_moved}
 use Rattle.iscsi_ffi_law.proofs.NameLemmas.{Named, found_named}
+use Rattle.iscsi_ffi_law.proofs.Opens.{OpensIf}
 use Rattle.iscsi_ffi_law.proofs.Postponing.{postponed_goes}
 use Rattle.iscsi_ffi_law.proofs.QuietBox.{empty_item, quiet_item}
 use Rattle.iscsi_ffi_law.proofs.QuietItems.{IsUnheld, is_held_on}
@@ -233,7 +233,7 @@ module _ (i : Interface) (names : List Name) (notes : List Note) (distinct : are
       own_first = λ p none. absurd (let no : ⊥ = cc in no);
     }
 
-    pub received_go : (rest : List (List Mark)) → EachOn (IsDue i.outbox.session) ((Admits a ∷ []) ∷ r.both.trace) rest → starts_late r.both.event rest ≡ false → list_all (list_all is_plain) rest ≡ true → AreStepsFit i (side_behind i r (Admits a ∷ [])) rest
+    pub received_go : (rest : List (List Mark)) → EachOn (IsDue i.outbox.session) ((Admits a ∷ []) ∷ r.both.trace) rest → starts_late r.both.event rest ≡ false → list_all is_plain_item rest ≡ true → AreStepsFit i (side_behind i r (Admits a ∷ [])) rest
         → AllGo i names notes s1 r None [] ((Admits a ∷ []) ∷ rest)
     received_go rest due prompt plain fits =
         let later : AllGo i names notes state_held (side_behind i r admission) None [] rest = all_due i names notes distinct rest state_held (side_behind i r admission) [] between_held due plain fits in
@@ -270,21 +270,21 @@ module _ (i : Interface) (names : List Name) (notes : List Note) (distinct : are
       = plain_goes i names notes s r (Some place) [] (Sends cid reply ∷ []) refl (goes_sent i names notes s r (Some place) [] k (Sends cid reply ∷ []) None cid r.both.event reply fit.0 distinct fit.1 (rejected_answering i names notes s r place [] k cid reply)) in
       goes_then i names notes s r (Some place) [] (Sends cid reply ∷ []) [] g (none_more i names notes distinct g.state (side_behind i r (Sends cid reply ∷ [])) g.ended g.between) refl
 
-  pub executed_go : (s : State) (r : Side) (place : ℕ) (k : IsBetween i names notes s r (Some place) []) (a : Arrival) (now : a.event ≡ r.both.event) (before : EachOf (λ (b : Arrival). b.event < r.both.event) (waiting r.both.trace)) (d : Deeds) (rest : List (List Mark)) → IsDone i.outbox.session r.both.trace AtArrival a d → IsAlone (marks_done a d)
-      → EachOn (IsDue i.outbox.session) ((Executes a ∷ marks_done a d) ∷ r.both.trace) rest → list_all (list_all is_plain) ((Executes a ∷ marks_done a d) ∷ rest) ≡ true → AreStepsFit i r ((Executes a ∷ marks_done a d) ∷ rest)
+  pub executed_go : (s : State) (r : Side) (place : ℕ) (k : IsBetween i names notes s r (Some place) []) (a : Arrival) (now : a.event ≡ r.both.event) (before : EachOf (λ (b : Arrival). b.event < r.both.event) (waiting r.both.trace)) (d : Deeds) (rest : List (List Mark)) → IsDone i.outbox.session r.both.trace AtArrival a d → OpensIf a (marks_done a d)
+      → EachOn (IsDue i.outbox.session) ((Executes a ∷ marks_done a d) ∷ r.both.trace) rest → list_all is_plain_item ((Executes a ∷ marks_done a d) ∷ rest) ≡ true → AreStepsFit i r ((Executes a ∷ marks_done a d) ∷ rest)
       → AllGo i names notes s r (Some place) [] ((Executes a ∷ marks_done a d) ∷ rest)
-  executed_go s r place k a now before d rest done alone due plain fit =
+  executed_go s r place k a now before d rest done opens due plain fit =
       let item : List Mark = Executes a ∷ marks_done a d in
-      let parts = and_parts (list_all is_plain (Executes a ∷ marks_done a d)) (list_all (list_all is_plain) rest) plain in
+      let parts = and_parts (is_plain_item (Executes a ∷ marks_done a d)) (list_all is_plain_item rest) plain in
       let g : ItemGoes i names notes s r (Some place) [] (Executes a ∷ marks_done a d)
-      = executed_goes i names notes distinct s r (Some place) [] k AtArrival a d parts.0 done alone fit.0 (first_sound i (side_behind i r item) rest fit.1) (arrival_headed i names notes s r place [] k a now before d.void d.entering d.reply) in
+      = executed_goes i names notes distinct s r (Some place) [] k AtArrival a d (opens parts.0) done fit.0 (first_sound i (side_behind i r item) rest fit.1) (arrival_headed i names notes s r place [] k a now before) in
       goes_then i names notes s r (Some place) [] (Executes a ∷ marks_done a d) rest g
       (all_due i names notes distinct rest g.state (side_behind i r item) g.ended g.between due parts.1 fit.1)
       (led_due i names notes distinct (item ∷ r.both.trace) rest due)
 
   pub postponed_go : (s : State) (r : Side) (place : ℕ) (k : IsBetween i names notes s r (Some place) []) (a : Arrival) (now : a.event ≡ r.both.event) (before : EachOf (λ (b : Arrival). b.event < r.both.event) (shown admitted_by r.both.trace)) (waits_before : EachOf (λ (b : Arrival). b.event < r.both.event) (waiting r.both.trace))
       → is_known (connection_of a.request) i.outbox.session.conns ≡ true → EachOf (λ (b : Arrival). waiting_on (connection_of b.request) r.both.trace ≤ MOST_WAITING) (waiting r.both.trace) → waiting_on (connection_of a.request) r.both.trace < MOST_WAITING
-      → (rest : List (List Mark)) → EachOn (IsDue i.outbox.session) ((Waits a ∷ []) ∷ r.both.trace) rest → list_all (list_all is_plain) rest ≡ true → AreStepsFit i r ((Waits a ∷ []) ∷ rest) → AllGo i names notes s r (Some place) [] ((Waits a ∷ []) ∷ rest)
+      → (rest : List (List Mark)) → EachOn (IsDue i.outbox.session) ((Waits a ∷ []) ∷ r.both.trace) rest → list_all is_plain_item rest ≡ true → AreStepsFit i r ((Waits a ∷ []) ∷ rest) → AllGo i names notes s r (Some place) [] ((Waits a ∷ []) ∷ rest)
   postponed_go s r place k a now before waits_before known all_wait one_waits rest due plain fit =
       let item : List Mark = Waits a ∷ [] in
       let g : ItemGoes i names notes s r (Some place) [] (Waits a ∷ [])

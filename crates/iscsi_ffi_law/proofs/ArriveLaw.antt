@@ -1,11 +1,16 @@
 -- A request arrives that has a place: both go on alike.
-use Rattle.std.proofs.Common.{◌≡◌, ℕ, ◌+◌, ◌<◌, not, cond, Bool, true, false, List, [], ◌∷◌, ◌++◌, length, map, filter, Option, Some, None, refl, ap, sym, subst, ◌∙◌, arith, length-set}
+use Rattle.std.proofs.Common.{◌≡◌, ℕ, ◌+◌, ◌<◌, not, cond, Bool, true, false, List, [], ◌∷◌, ◌++◌, length, filter, Option, Some, None, refl, ap, sym, subst, ◌∙◌, arith, length-set, ◌≤◌}
+use Rattle.iscsi_outbox_rules.specs.promises.Room.{places}
+use Rattle.iscsi_history.specs.rules.Settings.{is_known}
+use Rattle.iscsi_ffi_rules.specs.rules.Run.{cids}
+use Rattle.std.proofs.lemmas.List.{length-map}
+use Rattle.iscsi_requests.specs.Numbers.{HeldNumbers, size_for, index_of}
+use Rattle.iscsi_ffi_law.proofs.KeptCounts.{held_or_waiting, kept_few}
+use Rattle.iscsi_history.proofs.NumberingLemmas.{to_list}
+use Rattle.iscsi_history.proofs.TouchLemmas.{enters_form}
 use Rattle.std.specs.List.{list_all}
-use Rattle.iscsi_wire.specs.Fields.{cmd_sn}
-use Rattle.iscsi_requests.specs.Numbers.{index_of}
-use Rattle.std.proofs.lemmas.Bool.{and_from, eq-eqb}
-use Rattle.iscsi_wire.specs.Fields.{connection_of, header_of, is_immediate, request_of}
-use Rattle.iscsi_wire.specs.declared.reply.Reply.{Reply}
+use Rattle.std.proofs.lemmas.Bool.{and_from, eq-eqb, false≢true}
+use Rattle.iscsi_wire.specs.Fields.{connection_of, header_of, is_immediate, request_of, cmd_sn}
 use Rattle.iscsi_wire.specs.declared.reply.Reply.TheVariants.{Reject}
 use Rattle.iscsi_wire.specs.declared.request.Request.{Request}
 use Rattle.iscsi_history.specs.declared.effect.Why.{Why}
@@ -14,9 +19,9 @@ use Rattle.iscsi_history.specs.declared.event.Event.TheVariants.{Arrive}
 use Rattle.iscsi_history.specs.rules.Execution.{rejected}
 use Rattle.iscsi_history.specs.rules.Management.{MOST_WAITING, waiting_on}
 use Rattle.iscsi_history.specs.rules.Run.{effects_of, effects_of_item}
-use Rattle.iscsi_history.specs.rules.Trace.{Admits, Arrival, Empties, Command, Enters, Executes, Ignores, Leaves, Mark, Sends, Trace, Waits, entered, is_received, waiting}
+use Rattle.iscsi_history.specs.rules.Trace.{Admits, Arrival, Command, Executes, Ignores, Mark, Trace, Waits, entered, is_received, waiting}
 use Rattle.iscsi_history.proofs.BoolLemmas.{and_parts}
-use Rattle.iscsi_history.proofs.Forms.{AfterWaiting, AtArrival, AtTurn, Deeds, IsDone, Start, if_some, marks_done, start_mark}
+use Rattle.iscsi_history.proofs.Forms.{AfterWaiting, AtArrival, AtTurn, Deeds, IsDone, Start, marks_done, start_mark, Executed}
 use Rattle.iscsi_history.proofs.ElementLemmas.{filter-in}
 use Rattle.iscsi_history.proofs.NewlyLemmas.{newly-untouched}
 use Rattle.iscsi_outbox_rules.specs.rules.Run.{after_call}
@@ -28,10 +33,9 @@ use Rattle.iscsi_ffi_rules.specs.rules.Run as rules
 use Rattle.iscsi_ffi_rules.specs.rules.Sides.{Side}
 use Rattle.iscsi_ffi_steps.specs.State.{State}
 use Rattle.iscsi_ffi_steps.specs.Steps.{Going, arriving, changed, done, happens, hold, is_held_first}
-use Rattle.iscsi_ffi_law.specs.Arrived.{AreStepsFit, IsPlainArrival, arrive_call, arrived, is_plain, items_then, side_behind, starts_late}
+use Rattle.iscsi_ffi_law.specs.Arrived.{AreStepsFit, IsPlainArrival, arrive_call, arrived, is_plain_item, items_then, side_behind, starts_late}
 use Rattle.iscsi_ffi_law.specs.Names.{Name, Note}
 use Rattle.iscsi_ffi_law.specs.Parts.{IsCommand, IsLiveNamed, is_named}
-use Rattle.iscsi_ffi_law.proofs.Alone.{IsAlone}
 use Rattle.iscsi_ffi_law.proofs.ArriveItems.{arrived_unheld, executed_go, held_now, ignored_go, postponed_go, received_go, rejected_go}
 use Rattle.iscsi_ffi_law.proofs.ArriveOpens.{IsFoundAt}
 use Rattle.iscsi_ffi_law.proofs.Between.{IsBetween, pending_as}
@@ -41,15 +45,14 @@ use Rattle.iscsi_ffi_law.proofs.EventEnds.{AreBegun, IsEventOf}
 use Rattle.iscsi_ffi_law.proofs.EventGoes.{first_between, outbox_first, parts}
 use Rattle.iscsi_ffi_law.proofs.EventLaw.{event_goes, pairs_live}
 use Rattle.iscsi_ffi_law.proofs.EventRules.{admits_alone}
-use Rattle.iscsi_ffi_law.proofs.HeldNews.{enters_once}
-use Rattle.iscsi_ffi_law.proofs.ItemsGo.{AllGo, deeds_plain, open_marks, side_after}
+use Rattle.iscsi_ffi_law.proofs.HeldNews.{enters_once, one_at_most}
+use Rattle.iscsi_ffi_law.proofs.ItemsGo.{AllGo, side_after}
+use Rattle.iscsi_ffi_law.proofs.Opens.{OpensIf}
 use Rattle.iscsi_ffi_law.proofs.Marking.{named_first}
 use Rattle.iscsi_ffi_law.proofs.Members.{each_in, in_pairs}
 use Rattle.iscsi_ffi_law.proofs.Releases.{endings}
 use Rattle.iscsi_ffi_law.proofs.Releasing.{ending}
 use Rattle.iscsi_ffi_law.proofs.Turns.{Becomes, IsDue, IsExecuted, IsIgnored, IsPostponed, IsReceived, IsRejected, becomes}
-use Rattle.iscsi_ffi_law.proofs.Postponing.{few_functions}
-use Rattle.iscsi_ffi_rules.specs.rules.Run.{cids}
 
 -- behind the last item the box is sound
 last_sound : (i : Interface) (items : List (List Mark)) (r : Side) → AreStepsFit i r items → IsSound i.outbox (side_after i r items).both.box
@@ -66,34 +69,16 @@ due_alone i (item ∷ items) t due = and_from (admits_alone item) (list_all admi
     by_start AfterWaiting a ms = refl
 
 -- one command enters by each, if any does
-once_emptied : (hs : List Arrival) (conn : ℕ) (entering : Option Command) (reply : Option Reply) → enters_once (map Empties hs ++ (if_some Enters entering ++ if_some (Sends conn) reply)) ≡ true
-once_emptied [] conn None None = refl
-once_emptied [] conn None (Some reply) = refl
-once_emptied [] conn (Some c) None = refl
-once_emptied [] conn (Some c) (Some reply) = refl
-once_emptied (b ∷ hs) conn entering reply = once_emptied hs conn entering reply
-
-once_left : (cs : List Command) (hs : List Arrival) (conn : ℕ) (entering : Option Command) (reply : Option Reply) → enters_once (map Leaves cs ++ (map Empties hs ++ (if_some Enters entering ++ if_some (Sends conn) reply))) ≡ true
-once_left [] hs conn entering reply = once_emptied hs conn entering reply
-once_left (d ∷ cs) hs conn entering reply = once_left cs hs conn entering reply
-
-once_marks : (a : Arrival) (void : Option ℕ) (cs : List Command) (hs : List Arrival) (entering : Option Command) (reply : Option Reply) → enters_once (open_marks a void cs hs entering reply) ≡ true
-once_marks a None cs hs entering reply = once_left cs hs (connection_of a.request) entering reply
-once_marks a (Some n) cs hs entering reply = once_left cs hs (connection_of a.request) entering reply
-
-item_once : (start : Start) (a : Arrival) (d : Deeds) → list_all is_plain (start_mark start a ∷ marks_done a d) ≡ true → enters_once (start_mark start a ∷ marks_done a d) ≡ true
-item_once start a d plain = by_start start plain
+item_once : (start : Start) (a : Arrival) (d : Deeds) → enters_once (start_mark start a ∷ marks_done a d) ≡ true
+item_once start a d = ap one_at_most (enters_form (Executed start a d)) ∙ by_entering d.entering
   where
-    by_start : (x : Start) → list_all is_plain (start_mark x a ∷ marks_done a d) ≡ true → enters_once (start_mark x a ∷ marks_done a d) ≡ true
-    by_start AtTurn k = ap enters_once (deeds_plain a d k) ∙ once_marks a d.void d.leaving d.emptied d.entering d.reply
-    by_start AtArrival k = ap enters_once (deeds_plain a d k) ∙ once_marks a d.void d.leaving d.emptied d.entering d.reply
-    by_start AfterWaiting k = ap enters_once (deeds_plain a d k) ∙ once_marks a d.void d.leaving d.emptied d.entering d.reply
+    by_entering : (x : Option Command) → one_at_most (to_list x) ≡ true
+    by_entering None = refl
+    by_entering (Some c) = refl
 
-due_once : (i : Interface) (items : List (List Mark)) (t : Trace) → EachOn (IsDue i.outbox.session) t items → list_all (list_all is_plain) items ≡ true → list_all enters_once items ≡ true
-due_once i [] t due plain = refl
-due_once i (item ∷ items) t due plain =
-    let k = and_parts (list_all is_plain item) (list_all (list_all is_plain) items) plain in
-    and_from (enters_once item) (list_all enters_once items) (ap enters_once due.0.is ∙ item_once due.0.start due.0.a due.0.deeds (subst (λ ms. list_all is_plain ms ≡ true) due.0.is k.0)) (due_once i items (item ∷ t) due.1 k.1)
+due_once : (i : Interface) (items : List (List Mark)) (t : Trace) → EachOn (IsDue i.outbox.session) t items → list_all enters_once items ≡ true
+due_once i [] t due = refl
+due_once i (item ∷ items) t due = and_from (enters_once item) (list_all enters_once items) (ap enters_once due.0.is ∙ item_once due.0.start due.0.a due.0.deeds) (due_once i items (item ∷ t) due.1)
 
 module _ (i : Interface) (names : List Name) (notes : List Note) (s : State) (r : Side) (cid : ℕ) (header : List ℕ) (place : ℕ) (f : IsFoundAt i names notes s r cid header place) (p : IsPlainArrival i r cid header) where
   abbrev e : Event
@@ -129,16 +114,27 @@ module _ (i : Interface) (names : List Name) (notes : List Note) (s : State) (r 
     own_first = λ n is. refl;
   }
 
+  -- no more are held, or wait, than there are places for
+  few_kept : (v : HeldNumbers) → length v.places ≡ size_for i.outbox.session.window → held_or_waiting v s.functions ≤ places i.outbox
+  few_kept v size =
+      let few = kept_few (cids i) names s.functions (waiting r.both.trace) f.functions f.sizes.functions f.fit.waits v i.outbox.session.window size in
+      let conns = length-map i.outbox.session.conns (λ (x : ℕ × ℕ). x.0) in
+      let some = known_some cid i.outbox.session.conns f.known in
+      omega (arith, few, conns, some)
+    where
+      known_some : (c : ℕ) (cs : List (ℕ × ℕ)) → is_known c cs ≡ true → 1 ≤ length cs
+      known_some c [] known = absurd (false≢true known)
+      known_some c (x ∷ cs) known = omega arith
+
   -- commands before it
   begun_with : AreBegun i s r
   begun_with = record {
-    slots = f.slots.size_is;
-    waits = few_functions (cids i) names s.functions (waiting r.both.trace) f.functions f.sizes.functions f.fit.waits;
     few =
         let lives = pairs_live names r s.commands.items (filter (is_named names) (entered r.both.trace)) f.requests.commands in
         let named = ap length (named_first names r.both.trace (entered r.both.trace) f.requests.live_named) in
         let few = f.fit.found in
         omega (arith, lives, named, few);
+    kept = few_kept s.held f.slots.size_is;
     freed = λ c there lives told.
         let named : is_named names c ≡ true = each_in (IsLiveNamed names r.both.trace) (entered r.both.trace) c there f.requests.live_named lives in
         let pair = in_pairs (IsCommand names r) s.commands.items (filter (is_named names) (entered r.both.trace)) c (filter-in (is_named names) (entered r.both.trace) c there named) f.requests.commands in
@@ -190,16 +186,14 @@ module _ (i : Interface) (names : List Name) (notes : List Note) (s : State) (r 
       not_held (ap (λ ms. is_held_first request (effects_of i.outbox.session r.both.trace ms)) is) (ap (list_all admits_alone) is) (ap (starts_late r.both.event) is) (ap (list_all enters_once) is)
       (subst (AllGo i names notes s0 r (Some place) []) (sym is) (rejected_go i names notes f.fit.fit.distinct s0 r place first (connection_of a.request) (Reject 5 (header_of a.request)) (subst (AreStepsFit i r) is f.fit.steps)))
 
-  executes : (d : Deeds) (rest : List (List Mark)) → is_immediate a.request ≡ true → IsDone i.outbox.session r.both.trace AtArrival a d → IsAlone (marks_done a d) → items_then i r cid header ≡ (Executes a ∷ marks_done a d) ∷ rest → EachOn (IsDue i.outbox.session) ((Executes a ∷ marks_done a d) ∷ r.both.trace) rest → ArrivesTo
-  executes d rest immediate does alone is due =
-      not_held (ap (λ ms. is_held_first request (effects_of i.outbox.session r.both.trace ms)) is ∙ ap not immediate) (ap (list_all admits_alone) is ∙ due_alone i rest ((Executes a ∷ marks_done a d) ∷ r.both.trace) due) (ap (starts_late r.both.event) is ∙ ap not (eq-eqb r.both.event r.both.event refl)) (once_by ((Executes a ∷ marks_done a d) ∷ rest) is (by_item (subst (λ ms. list_all (list_all is_plain) ms ≡ true) is p.plain)))
+  executes : (d : Deeds) (rest : List (List Mark)) → is_immediate a.request ≡ true → IsDone i.outbox.session r.both.trace AtArrival a d → OpensIf a (marks_done a d) → items_then i r cid header ≡ (Executes a ∷ marks_done a d) ∷ rest → EachOn (IsDue i.outbox.session) ((Executes a ∷ marks_done a d) ∷ r.both.trace) rest → ArrivesTo
+  executes d rest immediate does opens is due =
+      not_held (ap (λ ms. is_held_first request (effects_of i.outbox.session r.both.trace ms)) is ∙ ap not immediate) (ap (list_all admits_alone) is ∙ due_alone i rest ((Executes a ∷ marks_done a d) ∷ r.both.trace) due) (ap (starts_late r.both.event) is ∙ ap not (eq-eqb r.both.event r.both.event refl)) (once_by ((Executes a ∷ marks_done a d) ∷ rest) is by_item)
       (subst (AllGo i names notes s0 r (Some place) []) (sym is)
-      (executed_go i names notes f.fit.fit.distinct s0 r place first a refl f.before.waiting d rest does alone due (subst (λ ms. list_all (list_all is_plain) ms ≡ true) is p.plain) (subst (AreStepsFit i r) is f.fit.steps)))
+      (executed_go i names notes f.fit.fit.distinct s0 r place first a refl f.before.waiting d rest does opens due (subst (λ ms. list_all is_plain_item ms ≡ true) is p.plain) (subst (AreStepsFit i r) is f.fit.steps)))
     where
-      by_item : list_all (list_all is_plain) ((Executes a ∷ marks_done a d) ∷ rest) ≡ true → list_all enters_once ((Executes a ∷ marks_done a d) ∷ rest) ≡ true
-      by_item plain =
-          let k = and_parts (list_all is_plain (Executes a ∷ marks_done a d)) (list_all (list_all is_plain) rest) plain in
-          and_from (enters_once (Executes a ∷ marks_done a d)) (list_all enters_once rest) (item_once AtArrival a d k.0) (due_once i rest ((Executes a ∷ marks_done a d) ∷ r.both.trace) due k.1)
+      by_item : list_all enters_once ((Executes a ∷ marks_done a d) ∷ rest) ≡ true
+      by_item = and_from (enters_once (Executes a ∷ marks_done a d)) (list_all enters_once rest) (item_once AtArrival a d) (due_once i rest ((Executes a ∷ marks_done a d) ∷ r.both.trace) due)
 
   -- ---- it is held first
 
@@ -207,8 +201,8 @@ module _ (i : Interface) (names : List Name) (notes : List Note) (s : State) (r 
     steps : AreStepsFit i r ((Admits a ∷ []) ∷ rest)
     steps = subst (AreStepsFit i r) is f.fit.steps
 
-    plain_rest : list_all (list_all is_plain) rest ≡ true
-    plain_rest = (and_parts (list_all is_plain (Admits a ∷ [])) (list_all (list_all is_plain) rest) (subst (λ ms. list_all (list_all is_plain) ms ≡ true) is p.plain)).1
+    plain_rest : list_all is_plain_item rest ≡ true
+    plain_rest = (and_parts (is_plain_item (Admits a ∷ [])) (list_all is_plain_item rest) (subst (λ ms. list_all is_plain_item ms ≡ true) is p.plain)).1
 
     behind_first : (items : List (List Mark)) → AreStepsFit i (side_behind i r (Admits a ∷ [])) items → IsSound i.outbox (side_behind i r (Admits a ∷ [])).both.box
     behind_first [] h = h
@@ -235,17 +229,17 @@ module _ (i : Interface) (names : List Name) (notes : List Note) (s : State) (r 
     holds =
         subst (λ v. GoesTo i (done (cond v (happens i None e (changed (hold request place) begins)) (happens i (Some place) e begins))) (rules.done (happens_there i r e)))
         (sym (ap (λ ms. is_held_first request (effects_of i.outbox.session r.both.trace ms)) is ∙ held_first))
-        (event_goes i names notes held_state r None e (event_of (ap (list_all admits_alone) is ∙ due_alone i rest ((Admits a ∷ []) ∷ r.both.trace) due) (ap (starts_late r.both.event) is) (once_by ((Admits a ∷ []) ∷ rest) is (due_once i rest ((Admits a ∷ []) ∷ r.both.trace) due plain_rest))) (record { slots = length-set s.held.places (index_of (cmd_sn a.request) s.held) (Some place) ∙ f.slots.size_is; waits = begun_with.waits; few = begun_with.few; freed = begun_with.freed }) f.outbox
+        (event_goes i names notes held_state r None e (event_of (ap (list_all admits_alone) is ∙ due_alone i rest ((Admits a ∷ []) ∷ r.both.trace) due) (ap (starts_late r.both.event) is) (once_by ((Admits a ∷ []) ∷ rest) is (due_once i rest ((Admits a ∷ []) ∷ r.both.trace) due))) (record { few = begun_with.few; kept = few_kept held_state.held (length-set s.held.places (index_of (cmd_sn a.request) s.held) (Some place) ∙ f.slots.size_is); freed = begun_with.freed }) f.outbox
         (subst (AllGo i names notes (record held_state { outbox = outbox_first i r e lead s.outbox }) r None []) (sym is)
         (received_go i names notes f.fit.fit.distinct s0 r place first a refl f.before.admitted f.before.waiting new (f.fit.received rest is) steps.0 (behind_first rest steps.1) rest due (f.fit.prompt rest is) plain_rest steps.1)) f.calm p.withheld)
 
   postponed : (rest : List (List Mark)) → is_immediate a.request ≡ true → waiting_on (connection_of a.request) r.both.trace < MOST_WAITING → items_then i r cid header ≡ (Waits a ∷ []) ∷ rest → EachOn (IsDue i.outbox.session) ((Waits a ∷ []) ∷ r.both.trace) rest → ArrivesTo
   postponed rest immediate few is due =
       not_held (ap (λ ms. is_held_first request (effects_of i.outbox.session r.both.trace ms)) is ∙ ap not immediate) (ap (list_all admits_alone) is ∙ due_alone i rest ((Waits a ∷ []) ∷ r.both.trace) due) (ap (starts_late r.both.event) is)
-      (once_by ((Waits a ∷ []) ∷ rest) is (due_once i rest ((Waits a ∷ []) ∷ r.both.trace) due (and_parts (list_all is_plain (Waits a ∷ [])) (list_all (list_all is_plain) rest) (subst (λ ms. list_all (list_all is_plain) ms ≡ true) is p.plain)).1))
+      (once_by ((Waits a ∷ []) ∷ rest) is (due_once i rest ((Waits a ∷ []) ∷ r.both.trace) due))
       (subst (AllGo i names notes s0 r (Some place) []) (sym is)
       (postponed_go i names notes f.fit.fit.distinct s0 r place first a refl f.before.admitted f.before.waiting f.known f.fit.waits few rest due
-      (and_parts (list_all is_plain (Waits a ∷ [])) (list_all (list_all is_plain) rest) (subst (λ ms. list_all (list_all is_plain) ms ≡ true) is p.plain)).1 (subst (AreStepsFit i r) is f.fit.steps)))
+      (and_parts (is_plain_item (Waits a ∷ [])) (list_all is_plain_item rest) (subst (λ ms. list_all is_plain_item ms ≡ true) is p.plain)).1 (subst (AreStepsFit i r) is f.fit.steps)))
 
   pub arrives_to : ArrivesTo
   arrives_to = by_becomes (becomes i.outbox.session r.both.trace a)
@@ -254,5 +248,5 @@ module _ (i : Interface) (names : List Name) (notes : List Note) (s : State) (r 
       by_becomes (IsIgnored why is) = over why is
       by_becomes (IsRejected is) = rejects is
       by_becomes (IsReceived rest numbered new is due) = holds rest numbered new is due
-      by_becomes (IsExecuted d rest immediate does alone is due) = executes d rest immediate does alone is due
+      by_becomes (IsExecuted d rest immediate does opens is due) = executes d rest immediate does opens is due
       by_becomes (IsPostponed rest immediate few is due) = postponed rest immediate few is due

@@ -47,7 +47,7 @@ steps_asked i asked (item ∷ items) r h = (
     enters = λ c is. let k : IsFreshCommand r c = h.0.enters c is in record { unentered = k.unentered; unleft = k.unleft; untold = k.untold; unmarked = k.unmarked; idle = k.idle; unarrived = k.unarrived };
     waited = h.0.waited;
     leaves = each-weaken (IsLeavingFit i r item) (IsLeavingFit i (record r { asked = asked }) item) (filter_map leaving item) (λ d k. record { held = k.held; waiting = k.waiting; unanswered = k.unanswered; runs = k.runs }) h.0.leaves;
-    empties = h.0.empties;
+    emptied = h.0.emptied;
   },
   steps_asked i asked items (side_behind i r item) h.1,
 )

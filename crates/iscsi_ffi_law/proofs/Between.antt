@@ -1,5 +1,6 @@
 -- What holds between two items of an event, and what it comes to as the next one begins.
-use Rattle.std.proofs.Common.{◌≡◌, ℕ, ◌+◌, ◌<◌, ◌≤◌, ◌==◌, ◌&&◌, ◌||◌, ⊎_elim, not, cond, Bool, false, List, [], ◌∷◌, ◌++◌, length, count_by, filter_map, Option, Some, None, is_some, refl, ap, sym, subst, ◌∙◌, arith, ne_eqb, eq-eqb, nat_lt, le-ltb, lt-ltb}
+use Rattle.std.proofs.Common.{◌≡◌, ℕ, ◌+◌, ◌<◌, ◌≤◌, ◌==◌, ◌&&◌, ◌||◌, ⊎_elim, not, cond, Bool, false, List, [], ◌∷◌, ◌++◌, length, count_by, filter_map, Option, Some, None, refl, ap, sym, subst, ◌∙◌, arith, ne_eqb, eq-eqb, nat_lt, le-ltb, lt-ltb, is_some}
+use Rattle.iscsi_ffi_law.proofs.KeptCounts.{held_or_waiting}
 use Rattle.std.specs.List.{list_any}
 use Rattle.std.proofs.lemmas.Bool.{cases_lt, false≢true}
 use Rattle.std.proofs.lemmas.List.{append-nil}
@@ -12,7 +13,7 @@ use Rattle.iscsi_history.proofs.HeldLemmas.{held-delivered}
 use Rattle.iscsi_outbox_law.specs.Pairs.{EachOf}
 use Rattle.iscsi_outbox_law.specs.Stands.{Stands as OutboxStands}
 use Rattle.iscsi_outbox_law.proofs.PairLemmas.{each-weaken}
-use Rattle.iscsi_outbox_steps.specs.State.{State as OutboxState}
+use Rattle.iscsi_outbox_steps.specs.State.{State as OutboxState, limits_of}
 use Rattle.iscsi_requests.specs.Functions.{WaitingFunctions}
 use Rattle.iscsi_requests.specs.declared.functions.WaitingFunction.{WaitingFunction}
 use Rattle.iscsi_requests.specs.Numbers.{HeldNumbers, index_of, size_for}
@@ -36,9 +37,8 @@ use Rattle.iscsi_ffi_law.proofs.Plain.{plain_item, plain_marks, start_effect, un
 use Rattle.iscsi_ffi_law.proofs.QuietItems.{IsUnheld, is_held_on}
 use Rattle.iscsi_ffi_law.proofs.Releases.{endings}
 use Rattle.iscsi_ffi_law.proofs.Releasing.{ending}
-use Rattle.iscsi_ffi_law.proofs.Slots.{IsTurnOf, at, count_put, count_then, distinct_then, in_place, index_within, long_then, held_in, held_then, named_then, noted_then, slots_same, slots_then}
-use Rattle.iscsi_ffi_law.proofs.Walking.{walk_at, walk_in, IsOutboxOf}
-use Rattle.iscsi_requests.specs.Conns.{count_all}
+use Rattle.iscsi_ffi_law.proofs.Slots.{IsTurnOf, at, count_then, distinct_then, in_place, index_within, long_then, held_in, held_then, named_then, noted_then, slots_same, slots_then, count_put}
+use Rattle.iscsi_ffi_law.proofs.Walking.{walk_at, walk_in}
 
 -- as many uses have ended, counted in another way
 pub pending_as : (names : List Name) (notes : List Note) (pending pending' : ℕ → ℕ) (gone : ℕ → List (Option ℕ)) (s : State) (r : Side) → ((p : ℕ) → pending p ≡ pending' p) → AreRequests names notes pending gone s r → AreRequests names notes pending' gone s r
@@ -91,14 +91,14 @@ pub record IsHeaded (i : Interface) (names : List Name) (notes : List Note) (s :
   pub uses : (p : ℕ) → count_by (is_place p) held.places + count_lists (λ (f : WaitingFunction). f.request == p) functions.waiting + (one (place == p) + endings xs p) ≡ count_held p s + count_functions p s + (ending own p + endings xs p)
   pub requests : EachOf (IsRequest (record s { held = held; functions = functions }) (item ∷ r.both.trace)) names
   pub noted : EachOf (IsNote (record s { held = held; functions = functions }) r.both.box.links) notes
+  pub fewer : held_or_waiting held functions ≤ held_or_waiting s.held s.functions
   pub slots : AreHeld (size_for i.outbox.session.window) s.commands.room names held (item ∷ r.both.trace)
   pub distinct : AreDistinct (item ∷ r.both.trace)
   pub fresh : endings xs place ≡ 0
-  pub fewer : count_by is_some held.places + count_all functions.waiting ≤ count_by is_some s.held.places + count_all s.functions.waiting
   pub over : count_by (is_place place) held.places + count_lists (λ (f : WaitingFunction). f.request == place) functions.waiting ≡ 0
   pub by : StopReason
   pub why : by ≡ reason_by a.request (Some place)
-  pub walk : (o : OutboxState) → IsOutboxOf i o → (acts : List Action) (first : Bool) (sent : ℕ) → (first && is_late r.both.event item) ≡ false → on_effect first (start_effect start a.request) (walk_at o s acts xs own sent) ≡ walk_in o (record s { held = held; functions = functions }) acts xs (Some place) None (Some by) sent
+  pub walk : (o : OutboxState) → o.limits ≡ limits_of i.outbox → (acts : List Action) (first : Bool) (sent : ℕ) → (first && is_late r.both.event item) ≡ false → on_effect first (start_effect start a.request) (walk_at o s acts xs own sent) ≡ walk_in o (record s { held = held; functions = functions }) acts xs (Some place) None (Some by) sent
 
 -- ---- its turn comes
 
@@ -161,12 +161,12 @@ module _ (i : Interface) (names : List Name) (notes : List Note) (s : State) (r 
     long = long_then size s.commands.room names notes k.requests.apart s r.both.trace k.slots k.distinct k.sizes.slots a is item turn;
     named = it_stands.named;
     uses = λ p. omega (arith, counted p);
+    fewer = (let put = count_put (λ (x : Option ℕ). is_some x) s.held.places (index_of (cmd_sn a.request) s.held) None (index_within (cmd_sn a.request) s.held k.sizes.slots) in omega (arith, put));
     requests = named_then size s.commands.room names notes k.requests.apart s r.both.trace k.slots k.distinct k.sizes.slots a is item turn (λ e. ap (list_any (is_of_event e)) (waits_turn r.both.trace a void entering reply)) k.requests.named;
     noted = noted_then size s.commands.room names notes k.requests.apart s r.both.trace k.slots k.distinct k.sizes.slots a is item turn r.both.box.links k.requests.noted_apart;
     slots = slots_then size s.commands.room names notes k.requests.apart s r.both.trace k.slots k.distinct k.sizes.slots a is item turn;
     distinct = distinct_then size s.commands.room names notes k.requests.apart s r.both.trace k.slots k.distinct k.sizes.slots a is item turn (waits_turn r.both.trace a void entering reply);
     fresh = ⊎_elim (λ some. absurd (let none = k.over it_stands.place (omega (arith, some)) in let no : ⊥ = omega (arith, none, one_there) in no)) (λ few. omega (arith, few)) (cases_lt 0 (endings xs it_stands.place));
-    fewer = (let put = count_put is_some s.held.places (index_of (cmd_sn a.request) s.held) None (index_within (cmd_sn a.request) s.held k.sizes.slots) in omega (arith, put));
     over =
         let here : one (it_stands.place == it_stands.place) ≡ 1 = ap one (eq-eqb it_stands.place it_stands.place refl) in
         omega (arith, here, counted it_stands.place, k.slots.once it_stands.place, none_waits);
@@ -217,13 +217,13 @@ module _ (i : Interface) (names : List Name) (notes : List Note) (s : State) (r 
     functions_are = subst (AreFunctions (cids i) names s.functions) (sym waits) k.functions;
     named = ap (place_named names) now ∙ k.own_named place refl;
     uses = λ p. omega arith;
+    fewer = omega arith;
     requests = each-weaken (IsRequest s r.both.trace) (IsRequest s (plain_item AtArrival a void entering reply ∷ r.both.trace)) names
         (λ n e. record { held = is_held_on r.both.trace (plain_item AtArrival a void entering reply) u n.event ∙ e.held; waiting = ap (list_any (is_of_event n.event)) waits ∙ e.waiting }) k.requests.named;
     noted = k.requests.noted_apart;
     slots = slots_same (size_for i.outbox.session.window) s.commands.room names s.held r.both.trace (plain_item AtArrival a void entering reply ∷ r.both.trace) (held_same r.both.trace (plain_item AtArrival a void entering reply) u) k.slots;
     distinct = distinct_same r.both.trace (plain_item AtArrival a void entering reply) u (λ e. let same = ap (count_by (λ (x : Arrival). x.event == e)) waits in omega (arith, same)) k.distinct;
     fresh = ap (λ ys. endings ys place) (k.own_first place refl);
-    fewer = omega arith;
     over = k.own_unheld place refl;
     by = reason_by a.request (Some place);
     why = refl;

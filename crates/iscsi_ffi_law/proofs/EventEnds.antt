@@ -1,10 +1,9 @@
 -- An event by the steps as by the rules, from the end of its items to that of the call.
-use Rattle.std.proofs.Common.{◌≡◌, ℕ, ◌+◌, ◌-◌, ◌*◌, ◌<◌, ◌≤◌, ◌==◌, ◌&&◌, ◌||◌, ◌^◌, not, cond, Bool, true, false, List, [], ◌∷◌, ◌++◌, length, map, count_by, filter, filter_map, find, nat_le, unwrap_or, Option, Some, None, is_some, refl, ap, sym, subst, ◌∙◌, arith, lt-ltb, eq-eqb, length-append}
+use Rattle.std.proofs.Common.{◌≡◌, ℕ, ◌+◌, ◌-◌, ◌*◌, ◌<◌, ◌≤◌, ◌==◌, ◌&&◌, ◌||◌, ◌^◌, not, cond, Bool, true, false, List, [], ◌∷◌, ◌++◌, length, map, count_by, filter, filter_map, Option, None, refl, ap, sym, subst, ◌∙◌, arith, lt-ltb, eq-eqb, length-append}
+use Rattle.iscsi_ffi_law.proofs.KeptCounts.{held_or_waiting}
 use Rattle.std.specs.List.{flat_map, list_all, list_any}
-use Rattle.std.proofs.lemmas.Bool.{eqb-true, false≢true, leb-false, not-true}
+use Rattle.std.proofs.lemmas.Bool.{eqb-true, false≢true, not-true}
 use Rattle.std.proofs.lemmas.List.{length-map}
-use Rattle.std.proofs.lemmas.List.Sums.{count_by-le-length}
-use Rattle.iscsi_requests.specs.Numbers.{size_for}
 use Rattle.iscsi_wire.specs.Serial.{lift}
 use Rattle.iscsi_history.specs.declared.effect.Effect.{Effect}
 use Rattle.iscsi_history.specs.declared.effect.Numbers.{Numbers}
@@ -21,7 +20,7 @@ use Rattle.iscsi_outbox_rules.specs.rules.Boxes.{Box, Task}
 use Rattle.iscsi_outbox_rules.specs.rules.Items.{after_event, after_items as box_after_items, phase_told, ticket_enabled}
 use Rattle.iscsi_outbox_rules.specs.rules.Words.{contains}
 use Rattle.iscsi_outbox_rules.proofs.ClosedParts.{effects_each}
-use Rattle.iscsi_outbox_law.specs.Commands.{link_in, is_under_way}
+use Rattle.iscsi_outbox_law.specs.Commands.{link_in}
 use Rattle.iscsi_outbox_law.specs.Pairs.{EachOf}
 use Rattle.iscsi_outbox_law.specs.Sound.{IsSound, NoneIsFresh}
 use Rattle.iscsi_outbox_law.specs.Stands.{Stands as OutboxStands}
@@ -31,7 +30,7 @@ use Rattle.iscsi_outbox_law.proofs.TurningFresh.{event_fresh}
 use Rattle.iscsi_outbox_law.proofs.TurningLast.{tell_last}
 use Rattle.iscsi_outbox_steps.specs.State.{Limits, State as OutboxState}
 use Rattle.iscsi_outbox_steps.specs.Steps.{after_items as steps_after_items, is_running_ticket, taken}
-use Rattle.iscsi_requests.specs.Conns.{of_conn, count_all}
+use Rattle.iscsi_requests.specs.Conns.{of_conn}
 use Rattle.iscsi_ffi_commands.specs.declared.command.Command.{Command}
 use Rattle.iscsi_ffi_commands.specs.declared.command.Stage.{Stage}
 use Rattle.iscsi_ffi_commands.specs.declared.command.Stage.TheVariants.{Cleared, Entered, Marked, Over, Started}
@@ -74,34 +73,7 @@ use Rattle.iscsi_ffi_law.proofs.Starting.{Starts, all_start}
 use Rattle.iscsi_ffi_law.proofs.StartsAfter.{starts_released}
 use Rattle.iscsi_ffi_law.proofs.StartsOver.{alive_start}
 use Rattle.iscsi_ffi_law.proofs.Stepping.{IsCalm}
-use Rattle.iscsi_ffi_law.proofs.Walking.{core_at, walk_at, IsOutboxOf}
-use Rattle.iscsi_ffi_law.proofs.Finish.{as_many_links}
-use Rattle.iscsi_outbox_law.proofs.Standing.{as_many}
-
--- ---- sizes
-
--- each size is at most twice the one before
-abbrev AreDoubled : ℕ → List ℕ → Type 0
-AreDoubled least [] = 1024 ≤ 2 * least
-AreDoubled least (size ∷ sizes) = (size ≤ 2 * least) × AreDoubled size sizes
-
-doubled_for : (w : ℕ) (sizes : List ℕ) (least : ℕ) → least < w → AreDoubled least sizes → unwrap_or (find (λ size. nat_le w size) sizes) 1024 ≤ 2 * w
-doubled_for w [] least below doubled = omega (arith, below, doubled)
-doubled_for w (size ∷ sizes) least below doubled = by_test (λ more. doubled_for w sizes size more doubled.1) (nat_le w size) refl
-  where
-    by_test : (size < w → unwrap_or (find (λ n. nat_le w n) sizes) 1024 ≤ 2 * w) → (v : Bool) → nat_le w size ≡ v → unwrap_or (cond v (Some size) (find (λ n. nat_le w n) sizes)) 1024 ≤ 2 * w
-    by_test later true is = let near = doubled.0 in omega (arith, below, near)
-    by_test later false is = later (leb-false w size is)
-
--- the table of a window has at most twice as many slots
-size_least : (w : ℕ) → size_for w ≤ 2 * w + 1
-size_least w = by_test (nat_le w 1) refl
-  where
-    by_test : (v : Bool) → nat_le w 1 ≡ v → unwrap_or (cond v (Some 1) (find (λ n. nat_le w n) (2 ∷ 4 ∷ 8 ∷ 16 ∷ 32 ∷ 64 ∷ 128 ∷ 256 ∷ 512 ∷ 1024 ∷ []))) 1024 ≤ 2 * w + 1
-    by_test true is = omega arith
-    by_test false is =
-        let near = doubled_for w (2 ∷ 4 ∷ 8 ∷ 16 ∷ 32 ∷ 64 ∷ 128 ∷ 256 ∷ 512 ∷ 1024 ∷ []) 1 (leb-false w 1 is) (omega arith, (omega arith, (omega arith, (omega arith, (omega arith, (omega arith, (omega arith, (omega arith, (omega arith, (omega arith, omega arith)))))))))) in
-        omega (arith, near)
+use Rattle.iscsi_ffi_law.proofs.Walking.{core_at, walk_at}
 
 -- ---- commands are told to start
 
@@ -153,9 +125,8 @@ pub record IsEventOf (i : Interface) (r : Side) (e : Event) : Type 0 where
 
 -- what is known of commands before it
 pub record AreBegun (i : Interface) (s : State) (r : Side) : Type 0 where
-  pub slots : length s.held.places ≡ size_for i.outbox.session.window
-  pub waits : count_all s.functions.waiting ≤ 4 * length (cids i)
   pub few : count_by is_live s.commands.items ≤ places i.outbox
+  pub kept : held_or_waiting s.held s.functions ≤ places i.outbox
   -- those that were told to start were free
   pub freed : (c : RulesCommand) → In c (entered r.both.trace) → has (leaves_ticket c.ticket) r.both.trace ≡ false → contains r.told c.ticket ≡ true → was_free c r.both.trace ≡ true
 
@@ -294,24 +265,8 @@ module _ (i : Interface) (names : List Name) (notes : List Note) (s : State) (r 
   few_told : length (stops ++ resets) ≤ 2 * places i.outbox
   few_told = let long = length-append stops resets in omega (arith, few_reset, few_stopped, long)
 
-  -- so were those that end, or held, or waited, or are of an item each
-  few_held : count_by is_some s.held.places ≤ places i.outbox
-  few_held =
-      let most = count_by-le-length is_some s.held.places in
-      let size = first.slots in
-      let few = size_least i.outbox.session.window in
-      let conns = fit.fit.some in
-      let long = length-map i.outbox.session.conns (λ (x : ℕ × ℕ). x.0) in
-      omega (arith, most, size, few, conns, long)
-
-  pub few_ended : length go.ended ≤ 4 * places i.outbox
-  few_ended =
-      let few = go.few in
-      let short = fit.short in
-      let lives = first.few in
-      let waits = first.waits in
-      let long = length-map i.outbox.session.conns (λ (x : ℕ × ℕ). x.0) in
-      omega (arith, few, short, lives, few_held, waits, long)
+  pub few_ended : length go.ended ≤ 3 * places i.outbox
+  few_ended = let few = go.few in let short = fit.short in let lives = first.few in let kept = first.kept in omega (arith, few, short, lives, kept)
 
   pub news_are : (x : RulesCommand) → In x ns → In x (entered t') × (has (leaves_ticket x.ticket) t' ≡ false) × (was_free x t' ≡ true)
   news_are x at =
@@ -346,16 +301,13 @@ module _ (i : Interface) (names : List Name) (notes : List Note) (s : State) (r 
   abbrev walked_to : Doing
   walked_to = record { state = record go.state { outbox = s.outbox; cookies = K.cookies; commands = K.commands }; actions = stops; forgets = K.forgets }
 
-  outbox_found : IsOutboxOf i s.outbox
-  outbox_found = record { limits = k.sizes.limits; links = as_many (is_under_way i.outbox r.both.box.links) i.outbox s.outbox r.both.box k ∙ as_many_links i s r k }
-
   sent_is : s.outbox.sent ≡ r.both.box.sent
   sent_is = let e' = k.numbers.sent in let lt = fit.sent in omega (arith, e', lt)
 
   walked : (on_effects true effects (walk_from own (record { state = s; actions = []; forgets = [] }))).doing ≡ walked_to
   walked =
       ap (λ n. (on_effects true effects (walk_at s.outbox (record s { outbox = outbox_first i r e (parts i r e).lead s.outbox }) [] [] own n)).doing) sent_is
-      ∙ ap (λ (w : Walk). w.doing) (go.walk s.outbox outbox_found [] true fit.prompt (let same = go.room in omega (arith, few_stopped, wide, same)))
+      ∙ ap (λ (w : Walk). w.doing) (go.walk s.outbox k.sizes.limits [] true fit.prompt (let same = go.room in omega (arith, few_stopped, wide, same)))
 
   abbrev taken_in : Doing
   taken_in = record { state = record state2 { cookies = K.cookies; commands = K.commands }; actions = stops; forgets = K.forgets }

@@ -170,7 +170,7 @@ module _ (i : Interface) (o : OutboxState) (b : Box) (h : OutboxStands i.outbox 
 
   one_swept : (e : Effect) → IsCalm b e → sweep (touched_by d.state e) d ≡ d
   one_swept (Send cid sn reply) calm = ap (λ (x : OutboxState). sweep (as_list (place_of x cid)) d) same ∙ kept_there cid calm
-  one_swept (CloseConn cid) calm = absurd calm
+  one_swept (CloseConn cid) calm = ap (λ (x : OutboxState). sweep (as_list (place_of x cid)) d) same ∙ kept_there cid calm
   one_swept CloseSession calm = absurd calm
   one_swept (Deliver r) calm = refl
   one_swept (Immediate r) calm = refl

@@ -84,7 +84,7 @@ module _ (i : Interface) (opening : IsOpening i) where
           fit = record {
             before = k.before;
             heard = k.heard;
-            event = record { fit = w.fit; steps = w.steps (taken_leaves i opening n r cid header is h w lasts.replied lasts.freed told_is); stale = w.stale; sent = w.sent; found = w.found; short = w.short; enabled = w.enabled; few = w.few; regular = w.regular; distinct = w.distinct; received = w.received; prompt = w.prompt; waits = w.waits };
+            event = record { fit = w.fit; steps = w.steps (taken_leaves i opening n r cid header is h w.items w.stale lasts.replied lasts.freed told_is); stale = w.stale; sent = w.sent; found = w.found; short = w.short; enabled = w.enabled; few = w.few; regular = w.regular; distinct = w.distinct; received = w.received; prompt = w.prompt; waits = w.waits };
           };
           taken = is;
           room = free i opening n s r st z h;

@@ -48,7 +48,7 @@ module _ (o : Setting) where
       by_first items (IsIgnored why is) = omega (arith, ap length is)
       by_first items (IsRejected is) = omega (arith, ap length is)
       by_first items (IsReceived rest later new is due) = omega (arith, ap length is, due_short ((Admits a ∷ []) ∷ t) rest due, stored_item (Admits a ∷ []) t, count-cons any a [])
-      by_first items (IsExecuted d rest now done alone is due) =
+      by_first items (IsExecuted d rest now done opens is due) =
           let ws : List Arrival = filter (λ (b : Arrival). not (b.event == a.event)) (waiting t) in
           omega (
             arith,

@@ -8,26 +8,26 @@ use Rattle.iscsi_history.specs.declared.event.Event.TheVariants.{Arrive}
 use Rattle.iscsi_history.specs.promises.Order.{in_parts}
 use Rattle.iscsi_history.specs.rules.Agenda.{arrival_of, items_of}
 use Rattle.iscsi_history.specs.rules.Run.{effects_of}
-use Rattle.iscsi_history.specs.rules.Trace.{Arrival, Command, is_closed, live, was_free, waiting}
 use Rattle.iscsi_history.specs.rules.Execution.{exp_of}
+use Rattle.iscsi_history.specs.rules.Trace.{Arrival, Command, is_closed, live, waiting, was_free}
 use Rattle.iscsi_history.proofs.CloseRuns.{event_sound}
 use Rattle.iscsi_history.proofs.ElementLemmas.{In}
 use Rattle.iscsi_history.proofs.FormRuns.{event_going as event_forms}
 use Rattle.iscsi_outbox_rules.specs.rules.Boxes.{Box}
 use Rattle.iscsi_outbox_rules.specs.rules.Calls as outbox
+use Rattle.iscsi_outbox_rules.specs.promises.Room.{places}
 use Rattle.iscsi_outbox_rules.specs.rules.Items.{after_item, ticket_enabled}
 use Rattle.iscsi_outbox_rules.specs.rules.Words.{contains, owing, replies_waiting, room}
-use Rattle.iscsi_outbox_rules.specs.promises.Room.{places}
 use Rattle.iscsi_outbox_rules.proofs.ClosedParts.{Parts, effects_each, event_parts}
 use Rattle.iscsi_outbox_rules.proofs.RoomSends.{Formed, event_going}
 use Rattle.iscsi_outbox_law.specs.Pairs.{EachOf}
-use Rattle.iscsi_outbox_law.specs.Sound.{IsSound}
+use Rattle.iscsi_outbox_law.specs.Sound.{IsSound, NoneIsFresh}
 use Rattle.iscsi_outbox_law.proofs.SoundRuns.{SoundItems}
 use Rattle.iscsi_ffi_rules.specs.rules.Calls.{Interface}
 use Rattle.iscsi_ffi_rules.specs.rules.Run.{heard_in, refusal_of, tag_heard, word_at}
 use Rattle.iscsi_ffi_rules.specs.rules.Sides.{Side}
 use Rattle.iscsi_ffi_law.specs.Arrived.{AreLeavingFit, AreStepsFit, arrived, effects_then, items_then}
-use Rattle.iscsi_ffi_law.specs.Sides.{AreItemsFit, IsHeardFit, IsOpening, AreBytes}
+use Rattle.iscsi_ffi_law.specs.Sides.{AreBytes, AreItemsFit, IsOpening}
 use Rattle.iscsi_ffi_law.proofs.FitArrivals.{event_items}
 use Rattle.iscsi_ffi_law.proofs.FitCounts.{event_enables, items_short}
 use Rattle.iscsi_ffi_law.proofs.FitFacts.{limits}
@@ -35,10 +35,10 @@ use Rattle.iscsi_ffi_law.proofs.FitHolds.{Holds, arrival_read, arrival_room, hol
 use Rattle.iscsi_ffi_law.proofs.FitItems.{Q, steps_fit}
 use Rattle.iscsi_ffi_law.proofs.FitJoined.{has_joined, joined_other}
 use Rattle.iscsi_ffi_law.proofs.FitLeaving.{arrival_fit, mid_begun}
-use Rattle.iscsi_ffi_law.proofs.FitNumbers.{all_sends}
-use Rattle.iscsi_ffi_law.proofs.FitPhases.{AreFreed, freed_call}
 use Rattle.iscsi_ffi_law.proofs.FitLimits.{few_reached, stands_reached, trace_reached}
+use Rattle.iscsi_ffi_law.proofs.FitNumbers.{all_sends}
 use Rattle.iscsi_ffi_law.proofs.FitOrder.{AreNear, IsOld, near_event, waited_arrival}
+use Rattle.iscsi_ffi_law.proofs.FitPhases.{AreFreed, freed_call}
 use Rattle.iscsi_ffi_law.proofs.FitReached.{sound_event, sound_reached}
 use Rattle.iscsi_ffi_law.proofs.FitReady.{AreStepsReady, steps_ready}
 use Rattle.iscsi_ffi_law.proofs.FitReceived.{IsWired, wired, wired_bytes}
@@ -83,15 +83,6 @@ module _ (i : Interface) (opening : IsOpening i) (n : ℕ) (r : Side) (cid : ℕ
       by_lead true y = subst (λ b. X b each) (empty_item i.outbox s.both.box sound) (without each y)
       by_lead false y = y
 
-  -- what is known of the commands that leave
-  pub taken_leaves : IsHeardFit i s cid header → AreReplied r.both.event r.both.trace r.answers → AreFreed i.outbox r.both.trace r.both.box → ((c : Command) → In c (live r.both.trace) → contains r.told c.ticket ≡ was_free c r.both.trace) → AreLeavingFit i s (items_then i s cid header)
-  taken_leaves w replied freed told_is =
-      let a : Arrival = arrival_of i.outbox.session s.both.event s.both.trace (request_of cid header) in
-      let sound : IsSound i.outbox s.both.box = (sound_reached i.outbox (limits i opening).distinct s.both g.good.reached).0 in
-      let freed_then = freed_call i.outbox r.both.box (outbox.Hears cid (word_at 28 header) (tag_heard header)) r.both.trace tt freed in
-      arrival_fit i s (s.both.event + 1) a refl g.together.forms (items_then i s cid header) (becomes i.outbox.session s.both.trace a) (event_forms i.outbox.session s.both.event s.both.trace e g.together.forms) (by_parts (AreItemsFit i.outbox) (λ ps x. x.1) w.items)
-      (mid_begun i s replied freed_then g.told g.together.lives sound w.stale told_is)
-
   -- what goes out by it has places
   sends_few : replies_waiting s.both.box + all_sends each ≤ places i.outbox
   sends_few =
@@ -135,6 +126,15 @@ module _ (i : Interface) (opening : IsOpening i) (n : ℕ) (r : Side) (cid : ℕ
       let some = (limits i opening).some in
       omega (arith, many, few, some)
 
+  -- what is known of the commands that leave
+  pub taken_leaves : AreItemsFit i.outbox s.both.box whole → NoneIsFresh s.both.box → AreReplied r.both.event r.both.trace r.answers → AreFreed i.outbox r.both.trace r.both.box → ((c : Command) → In c (live r.both.trace) → contains r.told c.ticket ≡ was_free c r.both.trace) → AreLeavingFit i s (items_then i s cid header)
+  taken_leaves items stale replied freed told_is =
+      let a : Arrival = arrival_of i.outbox.session s.both.event s.both.trace (request_of cid header) in
+      let sound : IsSound i.outbox s.both.box = (sound_reached i.outbox (limits i opening).distinct s.both g.good.reached).0 in
+      let freed_then = freed_call i.outbox r.both.box (outbox.Hears cid (word_at 28 header) (tag_heard header)) r.both.trace tt freed in
+      arrival_fit i s (s.both.event + 1) a refl g.together.forms (items_then i s cid header) (becomes i.outbox.session s.both.trace a) (event_forms i.outbox.session s.both.event s.both.trace e g.together.forms) (by_parts (AreItemsFit i.outbox) (λ ps x. x.1) items)
+      (mid_begun i s replied freed_then g.told g.together.lives sound stale told_is)
+
   pub taken_steps : AreBytes header → r.both.event + 1 ≤ 2 ^ 48 → AreItemsFit i.outbox s.both.box whole → AreLeavingFit i s (items_then i s cid header) → AreStepsFit i s (items_then i s cid header)
   taken_steps bytes early items leaves =
       let t = taken_in i r cid is in
@@ -146,8 +146,8 @@ module _ (i : Interface) (opening : IsOpening i) (n : ℕ) (r : Side) (cid : ℕ
       (event_forms i.outbox.session s.both.event s.both.trace e g.together.forms)
       (event_sound i.outbox.session s.both.event s.both.trace e t.known g.together.sounds)
       (event_items i.outbox.session s.both.event (Q i s.both.event (has_joined s.both.box.links) (λ c. is_closed c s.both.trace)) s.both.trace e (inl joined) g.served.served)
-      (event_items i.outbox.session s.both.event IsWired s.both.trace e (wired s.both.event (exp_of i.outbox.session s.both.trace) cid header (wired_bytes cid header bytes)) g.wires)
       (by_parts (SoundItems i.outbox) (λ ps x. x.1.1) (sound_event i.outbox (limits i opening).distinct s.both e (arrival_read i (limits i opening).distinct n r cid header is h) g.good.reached))
       (by_parts (AreItemsFit i.outbox) (λ ps x. x.1) items)
       (record { closed = g.together.closed; homes = g.together.homes; cuts = g.together.cuts; over = g.served.over; handed = g.placed.handed })
       (λ c k. k) (λ c k. k) (let few = as_few parts.lead in omega (arith, few, same, sends, sent, early)) g.told g.marked ready leaves
+      (event_items i.outbox.session s.both.event IsWired s.both.trace e (wired s.both.event (exp_of i.outbox.session s.both.trace) cid header (wired_bytes cid header bytes)) g.wires)

@@ -1,5 +1,5 @@
 -- Each item of an event by which a header arrives: the box holds together before it, and a reply goes out on a connection that takes it.
-use Rattle.std.proofs.Common.{◌≤◌, ◌≡◌, ℕ, ◌+◌, ◌-◌, ◌^◌, ◌<◌, ◌==◌, ◌&&◌, ◌||◌, not, nat_lt, Bool, true, false, List, [], ◌∷◌, ◌++◌, map, filter_map, length, count_by, Option, Some, None, refl, ap, sym, subst, ◌∙◌, ◌⊎◌, ⊎_elim, arith, eq-eqb, cond}
+use Rattle.std.proofs.Common.{◌≤◌, ◌≡◌, ℕ, ◌+◌, ◌-◌, ◌^◌, ◌<◌, ◌==◌, ◌&&◌, ◌||◌, not, nat_lt, Bool, true, false, List, [], ◌∷◌, ◌++◌, map, filter_map, length, count_by, Option, Some, None, refl, ap, sym, subst, ◌∙◌, ◌⊎◌, ⊎_elim, arith, eq-eqb}
 use Rattle.std.specs.List.{flat_map, list_any}
 use Rattle.std.proofs.lemmas.Bool.{false≢true}
 use Rattle.std.proofs.lemmas.List.Folds.{list_any-append}
@@ -9,12 +9,12 @@ use Rattle.iscsi_history.specs.declared.effect.Effect.{Effect}
 use Rattle.iscsi_history.specs.declared.effect.Effect.TheVariants.{Enable}
 use Rattle.iscsi_history.specs.rules.Run.{effects_of_item, effects_of_mark, newly_enabled}
 use Rattle.iscsi_history.specs.rules.Settings.{Setting, is_known}
-use Rattle.iscsi_history.specs.rules.Trace.{Admits, Arrival, ClosesConn, ClosesSession, Command, Delivers, Empties, Enters, Executes, Ignores, Leaves, Mark, Sends, Trace, Voids, Waits, after_items, entered, enters, first_of, has, is_among, is_closed, leaves_ticket, held, shown}
+use Rattle.iscsi_history.specs.rules.Trace.{Admits, Arrival, ClosesConn, ClosesSession, Command, Delivers, Empties, Enters, Executes, Ignores, Leaves, Mark, Sends, Trace, Voids, Waits, after_items, entered, enters, first_of, has, is_among, is_closed, leaves_ticket}
 use Rattle.iscsi_history.proofs.BoolLemmas.{and_parts, not_true, or_first, or_none, or_second}
 use Rattle.iscsi_history.proofs.CloseLemmas.{Sound, is_at}
 use Rattle.iscsi_history.proofs.CloseRuns.{Sounds}
-use Rattle.iscsi_history.proofs.ElementLemmas.{in-filter, In}
-use Rattle.iscsi_history.proofs.Forms.{AfterWaiting, AtArrival, AtTurn, Completed, Each, Executed, Form, HasForm, HaveForms, Ignored, IsFormed, Postponed, Received, Rejected, Start, marks_done, marks_of_form, start_mark, Deeds, begun, if_some}
+use Rattle.iscsi_history.proofs.ElementLemmas.{in-filter}
+use Rattle.iscsi_history.proofs.Forms.{AfterWaiting, AtArrival, AtTurn, Completed, Each, Executed, Form, HasForm, HaveForms, Ignored, IsFormed, Postponed, Received, Rejected, Start, marks_done, marks_of_form, start_mark}
 use Rattle.iscsi_history.proofs.LifeLemmas.{beyond_entered}
 use Rattle.iscsi_history.proofs.ListLemmas.{fewer_counted, list_any-map}
 use Rattle.iscsi_history.proofs.NumberingLemmas.{to_list}
@@ -31,10 +31,11 @@ use Rattle.iscsi_outbox_law.proofs.SoundRuns.{SoundItems}
 use Rattle.iscsi_ffi_rules.specs.rules.Calls.{Interface}
 use Rattle.iscsi_ffi_rules.specs.rules.Sides.{Side}
 use Rattle.iscsi_ffi_rules.proofs.Leavings.{has_ticket, none_with}
-use Rattle.iscsi_ffi_law.specs.Arrived.{AreLeavingFit, AreStepsFit, IsFreshCommand, side_behind, IsOnWire, emptying}
+use Rattle.iscsi_ffi_law.specs.Arrived.{AreLeavingFit, AreStepsFit, IsFreshCommand, side_behind}
 use Rattle.iscsi_ffi_law.specs.Sides.{AreItemsFit}
 use Rattle.iscsi_ffi_law.proofs.FitArrivals.{AllAre, IsItemOf, Items, OfForm}
 use Rattle.iscsi_ffi_law.proofs.FitClosed.{AsIn, closed_item}
+use Rattle.iscsi_ffi_law.proofs.FitEmptied.{emptied_fit}
 use Rattle.iscsi_ffi_law.proofs.FitFacts.{takes_there}
 use Rattle.iscsi_ffi_law.proofs.FitFollows.{StaysCut, cut_close}
 use Rattle.iscsi_ffi_law.proofs.FitJoined.{IsOver, JoinsOn, SameLost, has_joined, joined_moved, joins_close, lost_close, over_same}
@@ -46,12 +47,9 @@ use Rattle.iscsi_outbox_law.proofs.PairLemmas.{each-weaken}
 use Rattle.iscsi_ffi_law.proofs.FitParting.{closed_on}
 use Rattle.iscsi_ffi_law.proofs.FitPlaces.{AreHanded, handed_more, still_handed}
 use Rattle.iscsi_ffi_law.proofs.FitReady.{AreStepsReady}
-use Rattle.iscsi_ffi_law.proofs.FitSides.{Stays, stays_close}
-use Rattle.iscsi_ffi_law.proofs.Members.{any_counted, any_in, each_in, in_any, in_each}
 use Rattle.iscsi_ffi_law.proofs.FitReceived.{IsWired}
-use Rattle.iscsi_ffi_law.proofs.Slots.{held_in}
-use Rattle.iscsi_ffi_rules.specs.rules.Needs.{admitted_by}
-use Rattle.std.proofs.lemmas.List.{append-nil}
+use Rattle.iscsi_ffi_law.proofs.FitSides.{Stays, stays_close}
+use Rattle.iscsi_ffi_law.proofs.Members.{any_counted, any_in, each_in, in_any}
 
 -- ---- the reply of an item
 
@@ -116,47 +114,6 @@ reply_conn o now t C all (Executed start a d) formed q conn reply is = by_reply 
     by_reply : (x : Option Reply) → first_of (replies_on (connection_of a.request) x) ≡ Some (conn, reply) → C conn
     by_reply None e = absurd cc
     by_reply (Some r) e = subst C (same_conn (connection_of a.request) conn r reply e) q
-
--- ---- what is taken out
-
-emptied_by_item : (start : Start) (a : Arrival) (d : Deeds) → filter_map emptying (start_mark start a ∷ marks_done a d) ≡ d.emptied
-emptied_by_item start a d = by_start start
-  where
-    closed : (z : Option ℕ) (w : Bool) → filter_map emptying (if_some ClosesConn z ++ cond w (ClosesSession ∷ []) []) ≡ []
-    closed (Some conn) true = refl
-    closed (Some conn) false = refl
-    closed None true = refl
-    closed None false = refl
-
-    replied : (y : Option Reply) (z : Option ℕ) (w : Bool) → filter_map emptying (if_some (Sends (connection_of a.request)) y ++ (if_some ClosesConn z ++ cond w (ClosesSession ∷ []) [])) ≡ []
-    replied (Some reply) z w = closed z w
-    replied None z w = closed z w
-
-    ends : (x : Option Command) (y : Option Reply) (z : Option ℕ) (w : Bool) → filter_map emptying (if_some Enters x ++ (if_some (Sends (connection_of a.request)) y ++ (if_some ClosesConn z ++ cond w (ClosesSession ∷ []) []))) ≡ []
-    ends (Some c) y z w = replied y z w
-    ends None y z w = replied y z w
-
-    emptied : (hs : List Arrival) (ms : List Mark) → filter_map emptying ms ≡ [] → filter_map emptying (map Empties hs ++ ms) ≡ hs
-    emptied [] ms none = none
-    emptied (b ∷ hs) ms none = ap (λ xs. b ∷ xs) (emptied hs ms none)
-
-    leaving_past : (cs : List Command) (ms : List Mark) → filter_map emptying (map Leaves cs ++ ms) ≡ filter_map emptying ms
-    leaving_past [] ms = refl
-    leaving_past (c ∷ cs) ms = leaving_past cs ms
-
-    all : filter_map emptying (map Leaves d.leaving ++ (map Empties d.emptied ++ (if_some Enters d.entering ++ (if_some (Sends (connection_of a.request)) d.reply ++ (if_some ClosesConn d.closing ++ cond d.ending (ClosesSession ∷ []) []))))) ≡ d.emptied
-    all =
-        leaving_past d.leaving (map Empties d.emptied ++ (if_some Enters d.entering ++ (if_some (Sends (connection_of a.request)) d.reply ++ (if_some ClosesConn d.closing ++ cond d.ending (ClosesSession ∷ []) []))))
-        ∙ emptied d.emptied (if_some Enters d.entering ++ (if_some (Sends (connection_of a.request)) d.reply ++ (if_some ClosesConn d.closing ++ cond d.ending (ClosesSession ∷ []) []))) (ends d.entering d.reply d.closing d.ending)
-
-    done : (x : Option ℕ) → filter_map emptying (if_some Voids x ++ (map Leaves d.leaving ++ (map Empties d.emptied ++ (if_some Enters d.entering ++ (if_some (Sends (connection_of a.request)) d.reply ++ (if_some ClosesConn d.closing ++ cond d.ending (ClosesSession ∷ []) [])))))) ≡ d.emptied
-    done (Some n) = all
-    done None = all
-
-    by_start : (x : Start) → filter_map emptying (start_mark x a ∷ marks_done a d) ≡ d.emptied
-    by_start AtTurn = done d.void
-    by_start AtArrival = done d.void
-    by_start AfterWaiting = done d.void
 
 -- ---- a command that enters
 
@@ -232,27 +189,6 @@ module _ (i : Interface) where
       by_entering None e h = absurd cc
       by_entering (Some d) e h = let same : d ≡ c = cc in ap (λ (y : Command). y.ticket) (sym same) ∙ h.next
 
-  -- what is taken out was received, and the wire shows its number
-  on_wire : (now : ℕ) (t : Trace) (item : List Mark) → HasForm i.outbox.session now t item → AllAre IsWired t → EachOf IsOnWire (filter_map emptying item)
-  on_wire now t item f wires = subst (λ ms. EachOf IsOnWire (filter_map emptying ms)) (sym f.is) (by_form f.form f.formed)
-    where
-      -- it is held, so it was received
-      one_on_wire : (start : Start) (a b : Arrival) → held (begun start a t) b.number ≡ Some b → IsOnWire b
-      one_on_wire start a b is = (each_in IsWired (shown admitted_by t) b (by_start start (held_in (begun start a t) b.number b is)) wires.admitted).same
-        where
-          by_start : (x : Start) → In b (shown admitted_by (begun x a t)) → In b (shown admitted_by t)
-          by_start AtTurn there = subst (In b) (append-nil (shown admitted_by t)) there
-          by_start AtArrival there = subst (In b) (append-nil (shown admitted_by t)) there
-          by_start AfterWaiting there = subst (In b) (append-nil (shown admitted_by t)) there
-
-      by_form : (form : Form) → IsFormed i.outbox.session now t form → EachOf IsOnWire (filter_map emptying (marks_of_form form))
-      by_form (Ignored why) formed = tt
-      by_form (Rejected a) formed = tt
-      by_form (Received a) formed = tt
-      by_form (Postponed a) formed = tt
-      by_form (Completed c status) formed = tt
-      by_form (Executed start a d) formed = subst (EachOf IsOnWire) (sym (emptied_by_item start a d)) (in_each IsOnWire d.emptied (λ b there. one_on_wire start a b (formed.1.empties b there)))
-
   -- `C`: a connection joined, or was closed before the event
   module _ (now : ℕ) (joined closed : ℕ → Bool) where
     abbrev pub C : ℕ → Type 0
@@ -274,12 +210,12 @@ module _ (i : Interface) where
         opened true e at = refl
         opened false e at = absurd (false≢true (sym (sound.on_open conn e) ∙ at))
 
-    pub steps_fit : (items : List (List Mark)) (r : Side) (next : ℕ) → HaveForms i.outbox.session next (after_items items r.both.trace) → Sounds i.outbox.session (after_items items r.both.trace) → Items i.outbox.session now Q r.both.trace items → Items i.outbox.session now IsWired r.both.trace items
+    pub steps_fit : (items : List (List Mark)) (r : Side) (next : ℕ) → HaveForms i.outbox.session next (after_items items r.both.trace) → Sounds i.outbox.session (after_items items r.both.trace) → Items i.outbox.session now Q r.both.trace items
         → SoundItems i.outbox r.both.box (effects_each i.outbox.session r.both.trace items) → AreItemsFit i.outbox r.both.box (effects_each i.outbox.session r.both.trace items) → Mid r.both.trace r.both.box
         → ((c : ℕ) → joined c ≡ true → has_joined r.both.box.links c ≡ true) → ((c : ℕ) → closed c ≡ true → is_closed c r.both.trace ≡ true)
-        → r.both.box.sent + all_sends (effects_each i.outbox.session r.both.trace items) < 2 ^ 64 - 1 → AreTickets r.both.trace r.told → AreTickets r.both.trace r.marked → AreStepsReady i r items → AreLeavingFit i r items → AreStepsFit i r items
-    steps_fit [] r next forms sounds of wires sound fits mid joins closes sent told marked ready leaves = sound
-    steps_fit (item ∷ items) r next forms sounds of wires sound fits mid joins closes sent told marked ready leaves =
+        → r.both.box.sent + all_sends (effects_each i.outbox.session r.both.trace items) < 2 ^ 64 - 1 → AreTickets r.both.trace r.told → AreTickets r.both.trace r.marked → AreStepsReady i r items → AreLeavingFit i r items → Items i.outbox.session now IsWired r.both.trace items → AreStepsFit i r items
+    steps_fit [] r next forms sounds of sound fits mid joins closes sent told marked ready leaves wires = sound
+    steps_fit (item ∷ items) r next forms sounds of sound fits mid joins closes sent told marked ready leaves wires =
         let t : Trace = r.both.trace in
         let b : Box = r.both.box in
         let es : List Effect = effects_of_item i.outbox.session t item in
@@ -300,10 +236,10 @@ module _ (i : Interface) where
             enters = λ c is. fresh r item c below.0 behind.0 below.1 f.0 f.1 mid told marked behind.1 is;
             waited = ready.0.waited;
             leaves = leaves.0;
-            empties = on_wire f.0 t item f.1 wires.0;
+            emptied = emptied_fit i.outbox.session f.0 t item f.1 wires.0;
           },
-          steps_fit items (side_behind i r item) next forms sounds of.2 wires.2 sound.1.1 fits.1 (mid_item f.0 t b item f.1 mid) (λ c k. joined_moved c b.links (after_item i.outbox b es).links (moved_item i.outbox JoinsOn joins_close b es) (joins c k))
-              (λ c k. closed_on c (item ∷ []) t (closes c k)) (omega (arith, sent, more)) (still r.told told) (still r.marked marked) ready.1 leaves.1,
+          steps_fit items (side_behind i r item) next forms sounds of.2 sound.1.1 fits.1 (mid_item f.0 t b item f.1 mid) (λ c k. joined_moved c b.links (after_item i.outbox b es).links (moved_item i.outbox JoinsOn joins_close b es) (joins c k))
+              (λ c k. closed_on c (item ∷ []) t (closes c k)) (omega (arith, sent, more)) (still r.told told) (still r.marked marked) ready.1 leaves.1 wires.2,
         )
       where
         sound_below : (later : List (List Mark)) (u : Trace) → Sounds i.outbox.session (after_items later u) → Sounds i.outbox.session u

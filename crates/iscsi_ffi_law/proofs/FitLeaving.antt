@@ -1,23 +1,20 @@
 -- What is known of a command that leaves by a request: its own request is neither held nor waits, has no reply, and it runs on where it was told.
-use Rattle.std.proofs.Common.{◌≡◌, ℕ, ◌+◌, ◌<◌, ◌≤◌, ◌==◌, ◌&&◌, ◌||◌, not, ⊎_elim, cond, Bool, true, false, List, [], ◌∷◌, ◌++◌, length, count_by, filter_map, find, is_some, map, Option, Some, None, refl, ap, sym, subst, ◌∙◌, arith, eq-eqb, lt-ltb, nat_lt, ne_eqb, filter}
+use Rattle.std.proofs.Common.{◌≡◌, ℕ, ◌+◌, ◌<◌, ◌≤◌, ◌==◌, ◌&&◌, ◌||◌, not, ⊎_elim, cond, Bool, true, false, List, [], ◌∷◌, ◌++◌, length, count_by, filter_map, find, is_some, Option, Some, None, refl, ap, sym, subst, ◌∙◌, arith, eq-eqb, lt-ltb, nat_lt, ne_eqb, filter}
+use Rattle.iscsi_ffi_law.proofs.Opens.{leaving_seen}
 use Rattle.iscsi_history.proofs.ListLemmas.{list_any-map}
 use Rattle.std.specs.List.{list_any}
 use Rattle.std.proofs.lemmas.Bool.{eqb-true, false≢true}
-use Rattle.std.proofs.lemmas.List.{append-nil}
-use Rattle.std.proofs.lemmas.List.Elements.{filter_map-append}
 use Rattle.iscsi_wire.specs.declared.request.Request.{Request}
-use Rattle.iscsi_wire.specs.Fields.{connection_of}
 use Rattle.iscsi_history.specs.declared.effect.Effect.{Effect}
 use Rattle.iscsi_history.specs.promises.Replies.{answered_in, replies_to, reply_sent}
 use Rattle.iscsi_history.specs.rules.Run.{effects_of_item}
 use Rattle.iscsi_history.specs.rules.Settings.{Setting}
 use Rattle.iscsi_history.specs.rules.Trace.{Admits, Arrival, ClosesConn, ClosesSession, Command, Delivers, Empties, Enters, Executes, Ignores, Leaves, Mark, Sends, Trace, Voids, Waits, admitted, after_items, entered, enters, has, held, is_among, is_delivered, is_emptied, leaves_ticket, live, shown, waiting, was_free}
-use Rattle.iscsi_history.proofs.AbortMarks.{none_viewed}
 use Rattle.iscsi_history.proofs.BoolLemmas.{and_parts, not_true, or_false, or_none}
 use Rattle.iscsi_history.proofs.ElementLemmas.{In, filter-in, in-append, in-filter}
-use Rattle.iscsi_history.proofs.Forms.{AfterWaiting, AtArrival, AtTurn, Deeds, Each, Executed, HasForm, HaveForms, IsDone, Start, Starts, if_some, marks_done, start_mark, Ignored, Postponed, Received}
+use Rattle.iscsi_history.proofs.Forms.{AfterWaiting, AtArrival, AtTurn, Deeds, Each, Executed, HasForm, HaveForms, IsDone, Start, Starts, marks_done, start_mark, Ignored, Postponed, Received}
 use Rattle.iscsi_history.proofs.LifeLemmas.{beyond_entered}
-use Rattle.iscsi_history.proofs.NumberingLemmas.{passed, to_list, unseen}
+use Rattle.iscsi_history.proofs.NumberingLemmas.{to_list}
 use Rattle.iscsi_history.proofs.ReplyForms.{comes_of, is_of}
 use Rattle.iscsi_history.proofs.ReplyRuns.{is_below, one_most, standing, standing_item, standing_once}
 use Rattle.iscsi_history.proofs.ReplyTurns.{admits_request, awaited, begins_of, is_owed, owed}
@@ -46,29 +43,10 @@ use Rattle.iscsi_ffi_law.proofs.Turns.{AreDue, Becomes, IsExecuted, IsIgnored, I
 
 -- ---- which commands leave
 
-ended : (b : Bool) → filter_map leaving (cond b (ClosesSession ∷ []) []) ≡ []
-ended true = refl
-ended false = refl
-
-leaving_marks : (cs : List Command) → filter_map leaving (map Leaves cs) ≡ cs
-leaving_marks [] = refl
-leaving_marks (c ∷ cs) = ap (λ ds. c ∷ ds) (leaving_marks cs)
-
-leaving_deeds : (a : Arrival) (d : Deeds) → filter_map leaving (marks_done a d) ≡ d.leaving
-leaving_deeds a d =
-    passed leaving (if_some Voids d.void) _ (unseen leaving Voids d.void (λ n. refl))
-    ∙ filter_map-append leaving (map Leaves d.leaving) _
-    ∙ ap (λ cs. filter_map leaving (map Leaves d.leaving) ++ cs)
-    (passed leaving (map Empties d.emptied) _ (none_viewed leaving Empties d.emptied (λ b. refl))
-    ∙ passed leaving (if_some Enters d.entering) _ (unseen leaving Enters d.entering (λ c. refl))
-    ∙ passed leaving (if_some (Sends (connection_of a.request)) d.reply) _ (unseen leaving (Sends (connection_of a.request)) d.reply (λ reply. refl))
-    ∙ passed leaving (if_some ClosesConn d.closing) _ (unseen leaving ClosesConn d.closing (λ conn. refl)) ∙ ended d.ending)
-    ∙ append-nil (filter_map leaving (map Leaves d.leaving)) ∙ leaving_marks d.leaving
-
 leaving_done : (s : Start) (a : Arrival) (d : Deeds) → filter_map leaving (start_mark s a ∷ marks_done a d) ≡ d.leaving
-leaving_done AtTurn a d = leaving_deeds a d
-leaving_done AtArrival a d = leaving_deeds a d
-leaving_done AfterWaiting a d = leaving_deeds a d
+leaving_done AtTurn a d = leaving_seen a d
+leaving_done AtArrival a d = leaving_seen a d
+leaving_done AfterWaiting a d = leaving_seen a d
 
 -- ---- a request that nothing stands of
 
@@ -353,7 +331,7 @@ module _ (i : Interface) where
     arrival_fit a here before items (IsIgnored why is) = subst Fits (sym is) (then_due (Ignores why ∷ []) [] (record { form = Ignored why; is = refl; formed = tt }) (λ none. refl) tt (λ sound item_sound mid. tt))
     arrival_fit a here before items (IsRejected is) = subst Fits (sym is) (λ forms fits mid. (tt, tt))
     arrival_fit a here before items (IsReceived rest numbered new is due) = subst Fits (sym is) (then_due (Admits a ∷ []) rest (record { form = Received a; is = refl; formed = (here, new) }) (λ none. refl) due (λ sound item_sound mid. tt))
-    arrival_fit a here before items (IsExecuted d rest at_once done alone is due) =
+    arrival_fit a here before items (IsExecuted d rest at_once done opens is due) =
         subst Fits (sym is)
         (then_due (Executes a ∷ marks_done a d) rest (record { form = Executed AtArrival a d; is = refl; formed = (here, done) }) (executed_told AtArrival a (marks_done a d)) due
         (λ sound item_sound mid. all_fit r AtArrival a d r.both.event before here done later mid sound item_sound))

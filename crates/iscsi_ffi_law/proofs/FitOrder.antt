@@ -71,7 +71,7 @@ module _ (o : Setting) where
       by_first items same (IsIgnored why is) = subst (λ its. EachOf P (waiting (after_items its t))) (sym is) h
       by_first items same (IsRejected is) = subst (λ its. EachOf P (waiting (after_items its t))) (sym is) h
       by_first items same (IsReceived rest later new is due) = subst (λ its. EachOf P (waiting (after_items its t))) (sym is) (dues_each P ((Admits a ∷ []) ∷ t) rest due h)
-      by_first items same (IsExecuted d rest now done alone is due) =
+      by_first items same (IsExecuted d rest now done opens is due) =
           subst (λ its. EachOf P (waiting (after_items its t))) (sym is)
           (dues_each P ((Executes a ∷ marks_done a d) ∷ t) rest due (fewer_each o t AtArrival a (marks_done a d) (record { deeds = d; is = refl; done = done }) P h))
       by_first items same (IsPostponed rest now few is due) =
@@ -167,7 +167,7 @@ module _ (o : Setting) where
       by_first items same (IsRejected is) = subst (EachOn (IsWaited now) t) (sym is) ((λ b first. absurd cc), tt)
       by_first items same (IsReceived rest later new is due) =
           subst (EachOn (IsWaited now) t) (sym is) ((λ b first. absurd cc), waited_items now (exp_of o t) ((Admits a ∷ []) ∷ t) rest window due (behind_in_order o t a (Admits a ∷ []) rest (same ∙ is)) each)
-      by_first items same (IsExecuted d rest by done alone is due) =
+      by_first items same (IsExecuted d rest by done opens is due) =
           subst (EachOn (IsWaited now) t) (sym is) (
             (λ b first waits. absurd (never b (let z : a ≡ b = cc in z) waits)),
             waited_items now (exp_of o t) ((Executes a ∷ marks_done a d) ∷ t) rest window due (behind_in_order o t a (Executes a ∷ marks_done a d) rest (same ∙ is))

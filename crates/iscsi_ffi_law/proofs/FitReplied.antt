@@ -152,7 +152,7 @@ module _ (o : Setting) (now : ℕ) where
   arrival_replied t a answers here forms h items (IsReceived rest numbered new is due) =
       subst (λ xs. AreReplied (now + 1) (after_items xs t) (answers ++ flat_map (answers_in now) xs)) (sym is)
       (first_replied (Admits a ∷ []) rest t answers (record { form = Received a; is = refl; formed = (here, new) }) (λ none. refl) due h)
-  arrival_replied t a answers here forms h items (IsExecuted d rest at_once done alone is due) =
+  arrival_replied t a answers here forms h items (IsExecuted d rest at_once done opens is due) =
       subst (λ xs. AreReplied (now + 1) (after_items xs t) (answers ++ flat_map (answers_in now) xs)) (sym is)
       (first_replied (Executes a ∷ marks_done a d) rest t answers (record { form = Executed AtArrival a d; is = refl; formed = (here, done) }) (executed_told AtArrival a (marks_done a d)) due h)
   arrival_replied t a answers here forms h items (IsPostponed rest at_once few is due) =

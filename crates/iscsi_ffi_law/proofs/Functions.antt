@@ -126,6 +126,13 @@ module _ (cids : List ℕ) (names : List Name) (notes : List Note) (v : WaitingF
       let less = without_counted (cmd_sn a.request) (λ (f : WaitingFunction). f.request == q) (of_conn p v.waiting) both.f both.found in
       omega (arith, put, less)
 
+  -- one waits less
+  pub less_left : count_lists (λ (f : WaitingFunction). true) left.waiting + 1 ≡ count_lists (λ (f : WaitingFunction). true) v.waiting
+  less_left =
+      let put = lists_set (λ (f : WaitingFunction). true) v.waiting p (without_number (cmd_sn a.request) (of_conn p v.waiting)) (omega (arith, within, long)) in
+      let less = without_counted (cmd_sn a.request) (λ (f : WaitingFunction). true) (of_conn p v.waiting) both.f both.found in
+      omega (arith, put, less)
+
   pub long_left : length left.waiting ≡ length v.waiting
   long_left = length-set v.waiting p (without_number (cmd_sn a.request) (of_conn p v.waiting))
 

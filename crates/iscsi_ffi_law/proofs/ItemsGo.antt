@@ -1,13 +1,18 @@
 -- The items of an event that are due, one after the other.
-use Rattle.std.proofs.Common.{◌≡◌, ℕ, ◌+◌, ◌<◌, ◌≤◌, ◌==◌, ◌&&◌, ⊎_elim, cond, Bool, true, false, List, [], ◌∷◌, ◌++◌, length, map, count_by, filter_map, Option, Some, None, refl, ap, sym, subst, ◌∙◌, arith, length-append}
-use Rattle.std.specs.List.{flat_map, list_all}
+use Rattle.std.proofs.Common.{◌≡◌, ℕ, ◌+◌, ◌<◌, ◌≤◌, ◌==◌, ◌&&◌, cond, inl, Bool, true, false, List, [], ◌∷◌, ◌++◌, length, map, count_by, Option, Some, None, refl, ap, sym, subst, ◌∙◌, arith, length-append}
+use Rattle.iscsi_ffi_law.proofs.Members.{in_each}
+use Rattle.iscsi_ffi_law.proofs.TailParts.{goes_parted}
+use Rattle.iscsi_ffi_law.proofs.Parting.{emptied_parted, empties_parted, leaves_parted, parted_item}
+use Rattle.iscsi_ffi_law.proofs.KeptCounts.{held_or_waiting}
+use Rattle.std.specs.List.{filter_map, flat_map, list_all}
 use Rattle.std.proofs.lemmas.Bool.{false≢true}
 use Rattle.std.proofs.lemmas.List.{append-nil, append_assoc}
 use Rattle.iscsi_wire.specs.declared.reply.Reply.{Reply}
-use Rattle.iscsi_wire.specs.Fields.{connection_of}
+use Rattle.iscsi_wire.specs.Fields.{cmd_sn, connection_of}
+use Rattle.iscsi_wire.specs.Serial.{wire}
 use Rattle.iscsi_history.specs.rules.Run.{effects_of, effects_of_item}
-use Rattle.iscsi_history.specs.rules.Settings.{are_distinct}
-use Rattle.iscsi_history.specs.rules.Trace.{Arrival, ClosesConn, ClosesSession, Command as RulesCommand, Empties, Enters, Leaves, Mark, Sends, Trace, Voids, entered, enters, held, live}
+use Rattle.iscsi_history.specs.rules.Settings.{are_distinct, is_known}
+use Rattle.iscsi_history.specs.rules.Trace.{Arrival, ClosesConn, ClosesSession, Command as RulesCommand, Empties, Enters, Leaves, Mark, Sends, Trace, Voids, entered, held, live}
 use Rattle.iscsi_history.proofs.BoolLemmas.{and_parts}
 use Rattle.iscsi_history.proofs.ElementLemmas.{In}
 use Rattle.iscsi_history.proofs.Forms.{AfterWaiting, AtArrival, AtTurn, Deeds, Each, EntersAs, IsDone, Start, if_some, marks_done, start_mark}
@@ -15,35 +20,36 @@ use Rattle.iscsi_outbox_rules.proofs.ClosedParts.{EachOn, effects_each}
 use Rattle.iscsi_outbox_law.specs.Pairs.{EachOf}
 use Rattle.iscsi_outbox_law.proofs.PairLemmas.{each-append}
 use Rattle.iscsi_outbox_law.specs.Sound.{IsSound}
-use Rattle.iscsi_outbox_steps.specs.State.{State as OutboxState}
+use Rattle.iscsi_outbox_steps.specs.State.{State as OutboxState, limits_of}
 use Rattle.iscsi_outbox_steps.specs.Steps.{after_items as steps_after_items}
-use Rattle.iscsi_ffi_commands.specs.Commands.{is_going}
+use Rattle.iscsi_ffi_commands.specs.Commands.{is_going, is_live}
 use Rattle.iscsi_ffi_rules.specs.declared.action.Action.{Action}
 use Rattle.iscsi_ffi_rules.specs.rules.Calls.{Interface}
-use Rattle.iscsi_ffi_rules.specs.rules.Happening.{stops_in}
+use Rattle.iscsi_ffi_rules.specs.rules.Happening.{leaving, stops_in}
 use Rattle.iscsi_ffi_rules.specs.rules.Sides.{Side}
 use Rattle.iscsi_ffi_steps.specs.State.{State}
 use Rattle.iscsi_ffi_steps.specs.Walk.{on_effects}
-use Rattle.iscsi_ffi_law.specs.Arrived.{AreStepsFit, IsOnWire, IsStepFit, effects_by, emptying, is_plain, side_behind, starts_late}
+use Rattle.iscsi_ffi_law.specs.Arrived.{AreStepsFit, IsStepFit, effects_by, emptying, is_plain_item, side_behind, starts_late}
 use Rattle.iscsi_ffi_law.specs.Names.{Name, Note}
-use Rattle.iscsi_ffi_law.proofs.Alone.{IsAlone}
 use Rattle.iscsi_ffi_law.proofs.Between.{IsBetween, IsHeaded, turn_headed}
-use Rattle.iscsi_ffi_law.proofs.Leaving.{emptying_left, left_item}
-use Rattle.iscsi_ffi_law.proofs.LeavingHead.{IsPastHead, headed_left}
+use Rattle.iscsi_ffi_law.proofs.Leaving.{left_item}
+use Rattle.iscsi_ffi_law.proofs.LeavingHead.{headed_left}
+use Rattle.iscsi_ffi_law.proofs.Opens.{IsBare, IsEmptying, Opens, OpensIf, emptied_seen, is_bare, IsParting, leaving_seen}
 use Rattle.iscsi_ffi_law.proofs.Plain.{leaves_none, one_enters, plain_item}
-use Rattle.iscsi_ffi_law.proofs.Stepping.{GoesOn, IsCalm, ItemGoes, SameLinks, all_calm_on, count_kept, links_then, links_unmoved, plain_goes}
+use Rattle.iscsi_ffi_law.proofs.Stepping.{GoesOn, IsCalm, ItemGoes, SameLinks, all_calm_on, links_then, links_unmoved, plain_goes}
+use Rattle.iscsi_ffi_law.proofs.TailEmpties.{emptied_answering, emptied_item}
 use Rattle.iscsi_ffi_law.proofs.TailEnters.{goes_entered}
 use Rattle.iscsi_ffi_law.proofs.TailLeaves.{goes_left, goes_left_over}
 use Rattle.iscsi_ffi_law.proofs.TailOver.{goes_over}
 use Rattle.iscsi_ffi_law.proofs.TailSends.{executed_answering, goes_sent}
 use Rattle.iscsi_ffi_law.proofs.Turns.{IsDue, IsDueBy}
 use Rattle.iscsi_ffi_law.proofs.Waited.{waited_headed}
-use Rattle.iscsi_ffi_law.proofs.Walking.{is_led, walk_at, IsOutboxOf}
+use Rattle.iscsi_ffi_law.proofs.Walking.{is_led, walk_at}
 
--- ---- what a request does by which nothing is closed
+-- ---- what a request does by which nothing is closed, and no held request is taken out
 
 abbrev Plain : List Mark → Type 0
-Plain ms = list_all is_plain ms ≡ true
+Plain ms = list_all is_bare ms ≡ true
 
 none_closed : (x : Option ℕ) (b : Bool) → Plain (if_some ClosesConn x ++ cond b (ClosesSession ∷ []) []) → if_some ClosesConn x ++ cond b (ClosesSession ∷ []) [] ≡ []
 none_closed (Some conn) b h = absurd (false≢true h)
@@ -58,9 +64,9 @@ entered_plain : (e : Option RulesCommand) (zs ys : List Mark) → (Plain zs → 
 entered_plain None zs ys same h = same h
 entered_plain (Some c) zs ys same h = ap (λ ms. Enters c ∷ ms) (same h)
 
-emptied_plain : (as' : List Arrival) (zs ys : List Mark) → (Plain zs → zs ≡ ys) → Plain (map Empties as' ++ zs) → map Empties as' ++ zs ≡ map Empties as' ++ ys
+emptied_plain : (as' : List Arrival) (zs ys : List Mark) → (Plain zs → zs ≡ ys) → Plain (map Empties as' ++ zs) → map Empties as' ++ zs ≡ ys
 emptied_plain [] zs ys same h = same h
-emptied_plain (a ∷ as') zs ys same h = ap (λ ms. Empties a ∷ ms) (emptied_plain as' zs ys same h)
+emptied_plain (a ∷ as') zs ys same h = absurd (false≢true h)
 
 left_plain : (cs : List RulesCommand) (zs ys : List Mark) → (Plain zs → zs ≡ ys) → Plain (map Leaves cs ++ zs) → map Leaves cs ++ zs ≡ map Leaves cs ++ ys
 left_plain [] zs ys same h = same h
@@ -71,57 +77,17 @@ voided_plain None zs ys same h = same h
 voided_plain (Some n) zs ys same h = ap (λ ms. Voids n ∷ ms) (same h)
 
 -- what is left of its marks
-abbrev pub open_marks : Arrival → Option ℕ → List RulesCommand → List Arrival → Option RulesCommand → Option Reply → List Mark
-open_marks a void cs hs entering reply = if_some Voids void ++ (map Leaves cs ++ (map Empties hs ++ (if_some Enters entering ++ if_some (Sends (connection_of a.request)) reply)))
+abbrev pub open_marks : Arrival → Option ℕ → List RulesCommand → Option RulesCommand → Option Reply → List Mark
+open_marks a void cs entering reply = if_some Voids void ++ (map Leaves cs ++ (if_some Enters entering ++ if_some (Sends (connection_of a.request)) reply))
 
-pub deeds_plain : (a : Arrival) (d : Deeds) → Plain (marks_done a d) → marks_done a d ≡ open_marks a d.void d.leaving d.emptied d.entering d.reply
+pub deeds_plain : (a : Arrival) (d : Deeds) → Plain (marks_done a d) → marks_done a d ≡ open_marks a d.void d.leaving d.entering d.reply
 deeds_plain a d h =
     let ends : List Mark = if_some ClosesConn d.closing ++ cond d.ending (ClosesSession ∷ []) [] in
-    let last : List Mark = if_some Enters d.entering ++ if_some (Sends (connection_of a.request)) d.reply in
-    let all : List Mark = if_some Enters d.entering ++ (if_some (Sends (connection_of a.request)) d.reply ++ ends) in
-    voided_plain d.void (map Leaves d.leaving ++ (map Empties d.emptied ++ all)) (map Leaves d.leaving ++ (map Empties d.emptied ++ last))
-    (left_plain d.leaving (map Empties d.emptied ++ all) (map Empties d.emptied ++ last)
-    (emptied_plain d.emptied all last
+    voided_plain d.void (map Leaves d.leaving ++ (map Empties d.emptied ++ (if_some Enters d.entering ++ (if_some (Sends (connection_of a.request)) d.reply ++ ends)))) (map Leaves d.leaving ++ (if_some Enters d.entering ++ if_some (Sends (connection_of a.request)) d.reply))
+    (left_plain d.leaving (map Empties d.emptied ++ (if_some Enters d.entering ++ (if_some (Sends (connection_of a.request)) d.reply ++ ends))) (if_some Enters d.entering ++ if_some (Sends (connection_of a.request)) d.reply)
+    (emptied_plain d.emptied (if_some Enters d.entering ++ (if_some (Sends (connection_of a.request)) d.reply ++ ends)) (if_some Enters d.entering ++ if_some (Sends (connection_of a.request)) d.reply)
     (entered_plain d.entering (if_some (Sends (connection_of a.request)) d.reply ++ ends) (if_some (Sends (connection_of a.request)) d.reply)
     (replied_plain (connection_of a.request) d.reply ends (none_closed d.closing d.ending))))) h
-
--- what is taken out by it
-emptied_by : (a : Arrival) (void : Option ℕ) (cs : List RulesCommand) (hs : List Arrival) (entering : Option RulesCommand) (reply : Option Reply) → filter_map emptying (open_marks a void cs hs entering reply) ≡ hs
-emptied_by a void cs hs entering reply = by_void void
-  where
-    by_last : (e : Option RulesCommand) (y : Option Reply) → filter_map emptying (if_some Enters e ++ if_some (Sends (connection_of a.request)) y) ≡ []
-    by_last None None = refl
-    by_last None (Some x) = refl
-    by_last (Some c) None = refl
-    by_last (Some c) (Some x) = refl
-
-    by_emptied : (bs : List Arrival) → filter_map emptying (map Empties bs ++ (if_some Enters entering ++ if_some (Sends (connection_of a.request)) reply)) ≡ bs
-    by_emptied [] = by_last entering reply
-    by_emptied (b ∷ bs) = ap (λ xs. b ∷ xs) (by_emptied bs)
-
-    by_leaving : (ds : List RulesCommand) → filter_map emptying (map Leaves ds ++ (map Empties hs ++ (if_some Enters entering ++ if_some (Sends (connection_of a.request)) reply))) ≡ hs
-    by_leaving [] = by_emptied hs
-    by_leaving (c ∷ ds) = by_leaving ds
-
-    by_void : (y : Option ℕ) → filter_map emptying (open_marks a y cs hs entering reply) ≡ hs
-    by_void None = by_leaving cs
-    by_void (Some n) = by_leaving cs
-
--- .. and what enters
-entered_by_it : (a : Arrival) (void : Option ℕ) (cs : List RulesCommand) (hs : List Arrival) (c : RulesCommand) (reply : Option Reply) → filter_map enters (open_marks a void cs hs (Some c) reply) ≡ [] → ⊥
-entered_by_it a void cs hs c reply = by_void void
-  where
-    by_emptied : (bs : List Arrival) → filter_map enters (map Empties bs ++ (Enters c ∷ if_some (Sends (connection_of a.request)) reply)) ≡ [] → ⊥
-    by_emptied [] none = let no : ⊥ = cc in no
-    by_emptied (b ∷ bs) none = by_emptied bs none
-
-    by_leaving : (ds : List RulesCommand) → filter_map enters (map Leaves ds ++ (map Empties hs ++ (Enters c ∷ if_some (Sends (connection_of a.request)) reply))) ≡ [] → ⊥
-    by_leaving [] none = by_emptied hs none
-    by_leaving (d ∷ ds) none = by_leaving ds none
-
-    by_void : (y : Option ℕ) → filter_map enters (open_marks a y cs hs (Some c) reply) ≡ [] → ⊥
-    by_void None none = by_leaving cs none
-    by_void (Some n) none = by_leaving cs none
 
 -- ---- several items
 
@@ -136,12 +102,12 @@ pub record AllGo (i : Interface) (names : List Name) (notes : List Note) (s : St
   pub between : IsBetween i names notes state (side_after i r items) None ended
   pub outbox : state.outbox ≡ steps_after_items (effects_each i.outbox.session r.both.trace items) s.outbox
   pub room : state.room ≡ s.room
-  -- what has ended was live or held, or waited, but for a request of each item; what was told to stop was told to start
-  pub few : length ended + count_kept state ≤ length xs + count_kept s + length items
+  -- what has ended was live, held or waited, but for a request of each item; what was told to stop was told to start
+  pub few : length ended + count_by is_live state.commands.items + held_or_waiting state.held state.functions ≤ length xs + count_by is_live s.commands.items + held_or_waiting s.held s.functions + length items
   pub stops : length (flat_map (stops_in r) items) + count_by is_going state.commands.items ≤ count_by is_going s.commands.items
   pub links : SameLinks r.both.box (side_after i r items).both.box
   pub calm : EachOf (IsCalm (side_after i r items).both.box) (effects_of i.outbox.session r.both.trace items)
-  pub walk : (o : OutboxState) → IsOutboxOf i o → (acts : List Action) (first : Bool) → (first && starts_late r.both.event items) ≡ false → length acts + length (flat_map (stops_in r) items) ≤ s.room
+  pub walk : (o : OutboxState) → o.limits ≡ limits_of i.outbox → (acts : List Action) (first : Bool) → (first && starts_late r.both.event items) ≡ false → length acts + length (flat_map (stops_in r) items) ≤ s.room
       → on_effects first (effects_of i.outbox.session r.both.trace items) (walk_at o s acts xs own r.both.box.sent) ≡ walk_at o state (acts ++ flat_map (stops_in r) items) ended None (side_after i r items).both.box.sent
 
 -- one, and these
@@ -202,69 +168,92 @@ module _ (i : Interface) (names : List Name) (notes : List Note) (distinct : are
     silent = k.silent;
   }
 
-  -- commands leave by it, or requests are taken out
-  leaving_goes : (s : State) (r : Side) (own : Option ℕ) (xs : List (Option ℕ)) (k : IsBetween i names notes s r own xs) (start : Start) (a : Arrival) (void : Option ℕ) (cs : List RulesCommand) (hs : List Arrival) (reply : Option Reply)
-      → IsStepFit i r (left_item start a void cs hs reply) → IsSound i.outbox (side_behind i r (left_item start a void cs hs reply)).both.box → IsHeaded i names notes s r own xs (plain_item start a void None reply) start a
-      → ((b : Arrival) → In b hs → held ((start_mark start a ∷ []) ∷ r.both.trace) b.number ≡ Some b) → ((p : RulesCommand → Bool) → count_by p cs ≤ count_by p (live r.both.trace)) → ItemGoes i names notes s r own xs (left_item start a void cs hs reply)
-  leaving_goes s r own xs k start a void cs hs reply fit sound h are each = by_reply reply fit sound
-      (headed_left i names notes s r own xs k start a void cs hs reply h are (subst (EachOf IsOnWire) (emptying_left start a void cs hs reply) fit.empties))
-    where
-      by_reply : (y : Option Reply) → IsStepFit i r (left_item start a void cs hs y) → IsSound i.outbox (side_behind i r (left_item start a void cs hs y)).both.box → IsPastHead i names notes s r own xs (left_item start a void cs hs y) start a hs → ItemGoes i names notes s r own xs (left_item start a void cs hs y)
-      by_reply None fit' sound' h' = goes_left_over i names notes s r own xs k start a void cs hs fit' distinct sound' h' each
-      by_reply (Some x) fit' sound' h' = goes_left i names notes s r own xs k start a void cs hs x fit' distinct sound' h' each
+  -- commands leave by it
+  leaving_goes : (s : State) (r : Side) (own : Option ℕ) (xs : List (Option ℕ)) (k : IsBetween i names notes s r own xs) (start : Start) (a : Arrival) (void : Option ℕ) (cs : List RulesCommand) (reply : Option Reply)
+      → IsStepFit i r (left_item start a void cs reply) → IsSound i.outbox (side_behind i r (left_item start a void cs reply)).both.box → IsHeaded i names notes s r own xs (plain_item start a void None reply) start a
+      → ((p : RulesCommand → Bool) → count_by p cs ≤ count_by p (live r.both.trace)) → ItemGoes i names notes s r own xs (left_item start a void cs reply)
+  leaving_goes s r own xs k start a void cs None fit sound h each = goes_left_over i names notes s r own xs k start a void cs fit distinct sound (headed_left i names notes s r own xs start a void cs None h) each
+  leaving_goes s r own xs k start a void cs (Some reply) fit sound h each = goes_left i names notes s r own xs k start a void cs reply fit distinct sound (headed_left i names notes s r own xs start a void cs (Some reply) h) each
 
-  pub executed_goes : (s : State) (r : Side) (own : Option ℕ) (xs : List (Option ℕ)) (k : IsBetween i names notes s r own xs) (start : Start) (a : Arrival) (d : Deeds) → list_all is_plain (marks_done a d) ≡ true → IsDone i.outbox.session r.both.trace start a d → IsAlone (marks_done a d)
-      → IsStepFit i r (start_mark start a ∷ marks_done a d) → IsSound i.outbox (side_behind i r (start_mark start a ∷ marks_done a d)).both.box → IsHeaded i names notes s r own xs (plain_item start a d.void d.entering d.reply) start a
-      → ItemGoes i names notes s r own xs (start_mark start a ∷ marks_done a d)
-  executed_goes s r own xs k start a d plain done alone fit sound h = by_entering d.entering refl
+  -- a held request is taken out by it
+  emptying_goes : (s : State) (r : Side) (own : Option ℕ) (xs : List (Option ℕ)) (k : IsBetween i names notes s r own xs) (start : Start) (a b : Arrival) (conn : ℕ) (reply : Reply)
+      → IsStepFit i r (emptied_item start a b conn reply) → IsSound i.outbox (side_behind i r (emptied_item start a b conn reply)).both.box → IsHeaded i names notes s r own xs (plain_item start a None None None) start a
+      → held (plain_item start a None None None ∷ r.both.trace) b.number ≡ Some b → ItemGoes i names notes s r own xs (emptied_item start a b conn reply)
+  emptying_goes s r own xs k start a b conn reply fit sound h is =
+      plain_goes i names notes s r own xs (emptied_item start a b conn reply) (none_leaves start)
+      (goes_sent i names notes s r own xs k (emptied_item start a b conn reply) (Some (a.request)) conn a.event reply fit distinct sound (emptied_answering i names notes s r own xs k start a b conn reply h is (wired start fit.emptied)))
     where
-      marks_are : start_mark start a ∷ marks_done a d ≡ start_mark start a ∷ open_marks a d.void d.leaving d.emptied d.entering d.reply
+      none_leaves : (x : Start) → filter_map leaving (emptied_item x a b conn reply) ≡ []
+      none_leaves AtTurn = refl
+      none_leaves AtArrival = refl
+      none_leaves AfterWaiting = refl
+
+      wired : (x : Start) → EachOf (λ (y : Arrival). wire y.number ≡ cmd_sn y.request) (filter_map emptying (emptied_item x a b conn reply)) → wire b.number ≡ cmd_sn b.request
+      wired AtTurn each = each.0
+      wired AtArrival each = each.0
+      wired AfterWaiting each = each.0
+
+  pub executed_goes : (s : State) (r : Side) (own : Option ℕ) (xs : List (Option ℕ)) (k : IsBetween i names notes s r own xs) (start : Start) (a : Arrival) (d : Deeds) → Opens a (marks_done a d) → IsDone i.outbox.session r.both.trace start a d
+      → IsStepFit i r (start_mark start a ∷ marks_done a d) → IsSound i.outbox (side_behind i r (start_mark start a ∷ marks_done a d)).both.box
+      → ((void : Option ℕ) (entering : Option RulesCommand) (reply : Option Reply) → IsHeaded i names notes s r own xs (plain_item start a void entering reply) start a)
+      → ItemGoes i names notes s r own xs (start_mark start a ∷ marks_done a d)
+  executed_goes s r own xs k start a d (IsEmptying b conn reply is) done fit sound h =
+      let same : start_mark start a ∷ marks_done a d ≡ emptied_item start a b conn reply = ap (λ ms. start_mark start a ∷ ms) is in
+      let there : In b d.emptied = subst (In b) (ap (filter_map emptying) (sym is) ∙ emptied_seen a d) (inl refl) in
+      subst (ItemGoes i names notes s r own xs) (sym same)
+      (emptying_goes s r own xs k start a b conn reply (subst (IsStepFit i r) same fit) (subst (λ item. IsSound i.outbox (side_behind i r item).both.box) same sound) (h None None None) (done.empties b there))
+  executed_goes s r own xs k start a d (IsParting cs bs reply is apart) done fit sound h =
+      let same : start_mark start a ∷ marks_done a d ≡ parted_item start a cs bs reply true false = ap (λ ms. start_mark start a ∷ ms) is in
+      let these : d.leaving ≡ cs = sym (leaving_seen a d) ∙ ap (filter_map leaving) is ∙ leaves_parted a cs bs reply true false in
+      let those : d.emptied ≡ bs = sym (emptied_seen a d) ∙ ap (filter_map emptying) is ∙ empties_parted a cs bs reply true false in
+      let fit' : IsStepFit i r (parted_item start a cs bs reply true false) = subst (IsStepFit i r) same fit in
+      subst (ItemGoes i names notes s r own xs) (sym same)
+      (goes_parted i names notes s r own xs k start a cs bs reply fit' distinct (subst (λ item. IsSound i.outbox (side_behind i r item).both.box) same sound) (h None None None) (λ p. subst (λ ds. count_by p ds ≤ count_by p (live r.both.trace)) these (done.leaves p))
+      (in_each (λ (b : Arrival). held (plain_item start a None None None ∷ r.both.trace) b.number ≡ Some b) bs (λ b there. done.empties b (subst (In b) (sym those) there))) apart
+      (subst (EachOf (λ (b : Arrival). wire b.number ≡ cmd_sn b.request)) (emptied_parted start a cs bs reply true false) fit'.emptied) (known_now start fit'))
+    where
+      known_now : (x : Start) → IsStepFit i r (parted_item x a cs bs reply true false) → is_known (connection_of a.request) i.outbox.session.conns ≡ true
+      known_now AtTurn f = f.fit.item_sound.known a.request refl
+      known_now AtArrival f = f.fit.item_sound.known a.request refl
+      known_now AfterWaiting f = f.fit.item_sound.known a.request refl
+  executed_goes s r own xs k start a d (IsBare plain) done fit sound head = by_leaving d.leaving refl d.entering refl
+    where
+      h : IsHeaded i names notes s r own xs (plain_item start a d.void d.entering d.reply) start a
+      h = head d.void d.entering d.reply
+
+      marks_are : start_mark start a ∷ marks_done a d ≡ start_mark start a ∷ open_marks a d.void d.leaving d.entering d.reply
       marks_are = ap (λ ms. start_mark start a ∷ ms) (deeds_plain a d plain)
 
-      -- nothing leaves, and nothing is taken out
-      by_none : d.leaving ≡ [] → d.emptied ≡ [] → ItemGoes i names notes s r own xs (start_mark start a ∷ marks_done a d)
-      by_none none unheld =
-          let same : start_mark start a ∷ marks_done a d ≡ plain_item start a d.void d.entering d.reply
-          = marks_are ∙ ap (λ cs. start_mark start a ∷ open_marks a d.void cs d.emptied d.entering d.reply) none ∙ ap (λ hs. start_mark start a ∷ open_marks a d.void [] hs d.entering d.reply) unheld in
+      by_leaving : (cs : List RulesCommand) → d.leaving ≡ cs → (e : Option RulesCommand) → d.entering ≡ e → ItemGoes i names notes s r own xs (start_mark start a ∷ marks_done a d)
+      by_leaving [] none e is =
+          let same : start_mark start a ∷ marks_done a d ≡ plain_item start a d.void d.entering d.reply = marks_are ∙ ap (λ cs. start_mark start a ∷ open_marks a d.void cs d.entering d.reply) none in
           subst (ItemGoes i names notes s r own xs) (sym same)
           (plain_goes i names notes s r own xs (plain_item start a d.void d.entering d.reply) (leaves_none start a d.void d.entering d.reply)
           (tail_goes s r own xs k start a d.void d.entering d.reply (subst (IsStepFit i r) same fit) (subst (λ item. IsSound i.outbox (side_behind i r item).both.box) same sound) h (entering_now r r.both.trace a d d.entering refl done.enters)))
-
-      by_left : d.entering ≡ None → ItemGoes i names notes s r own xs (start_mark start a ∷ marks_done a d)
-      by_left is =
-          let same : start_mark start a ∷ marks_done a d ≡ left_item start a d.void d.leaving d.emptied d.reply = marks_are ∙ ap (λ x. start_mark start a ∷ open_marks a d.void d.leaving d.emptied x d.reply) is in
+      by_leaving (c ∷ cs) some None is =
+          let same : start_mark start a ∷ marks_done a d ≡ left_item start a d.void d.leaving d.reply = marks_are ∙ ap (λ x. start_mark start a ∷ open_marks a d.void d.leaving x d.reply) is in
           subst (ItemGoes i names notes s r own xs) (sym same)
-          (leaving_goes s r own xs k start a d.void d.leaving d.emptied d.reply (subst (IsStepFit i r) same fit) (subst (λ item. IsSound i.outbox (side_behind i r item).both.box) same sound)
-          (subst (λ x. IsHeaded i names notes s r own xs (plain_item start a d.void x d.reply) start a) is h) done.empties done.leaves)
-
-      by_lists : (cs : List RulesCommand) → d.leaving ≡ cs → (hs : List Arrival) → d.emptied ≡ hs → d.entering ≡ None → ItemGoes i names notes s r own xs (start_mark start a ∷ marks_done a d)
-      by_lists [] none [] unheld is = by_none none unheld
-      by_lists [] none (b ∷ hs) some is = by_left is
-      by_lists (c ∷ cs) some hs any is = by_left is
-
-      by_entering : (e : Option RulesCommand) → d.entering ≡ e → ItemGoes i names notes s r own xs (start_mark start a ∷ marks_done a d)
-      by_entering None is = by_lists d.leaving refl d.emptied refl is
-      by_entering (Some e) is =
-          let enters_as : EntersAs i.outbox.session r.both.trace a d e = subst (Each (EntersAs i.outbox.session r.both.trace a d)) is done.enters in
-          by_none enters_as.stays (⊎_elim
-          (λ none. absurd (entered_by_it a d.void d.leaving d.emptied e d.reply (sym (ap (filter_map enters) (deeds_plain a d plain ∙ ap (λ x. open_marks a d.void d.leaving d.emptied x d.reply) is)) ∙ none)))
-          (λ none. sym (emptied_by a d.void d.leaving d.emptied d.entering d.reply) ∙ sym (ap (filter_map emptying) (deeds_plain a d plain)) ∙ none) alone)
+          (leaving_goes s r own xs k start a d.void d.leaving d.reply (subst (IsStepFit i r) same fit) (subst (λ item. IsSound i.outbox (side_behind i r item).both.box) same sound)
+          (subst (λ x. IsHeaded i names notes s r own xs (plain_item start a d.void x d.reply) start a) is h) done.leaves)
+      by_leaving (c ∷ cs) some (Some e) is =
+          let enters : EntersAs i.outbox.session r.both.trace a d e = subst (Each (EntersAs i.outbox.session r.both.trace a d)) is done.enters in
+          absurd (let none : d.leaving ≡ [] = enters.stays in let no : ⊥ = cc in no)
 
   -- one that is due
-  pub due_goes : (s : State) (r : Side) (xs : List (Option ℕ)) (k : IsBetween i names notes s r None xs) (item : List Mark) → IsDue i.outbox.session r.both.trace item → list_all is_plain item ≡ true → IsStepFit i r item → IsSound i.outbox (side_behind i r item).both.box
+  pub due_goes : (s : State) (r : Side) (xs : List (Option ℕ)) (k : IsBetween i names notes s r None xs) (item : List Mark) → IsDue i.outbox.session r.both.trace item → is_plain_item item ≡ true → IsStepFit i r item → IsSound i.outbox (side_behind i r item).both.box
       → ItemGoes i names notes s r None xs item
   due_goes s r xs k item due plain fit sound =
       subst (ItemGoes i names notes s r None xs) (sym due.is)
-      (by_start due.start due.due due.done due.alone (subst (λ ms. list_all is_plain ms ≡ true) due.is plain) (subst (IsStepFit i r) due.is fit) (subst (λ ms. IsSound i.outbox (side_behind i r ms).both.box) due.is sound))
+      (by_start due.start due.due due.done due.opens (subst (λ ms. is_plain_item ms ≡ true) due.is plain) (subst (IsStepFit i r) due.is fit) (subst (λ ms. IsSound i.outbox (side_behind i r ms).both.box) due.is sound))
     where
-      by_start : (start : Start) → IsDueBy r.both.trace start due.a → IsDone i.outbox.session r.both.trace start due.a due.deeds → IsAlone (marks_done due.a due.deeds) → list_all is_plain (start_mark start due.a ∷ marks_done due.a due.deeds) ≡ true → IsStepFit i r (start_mark start due.a ∷ marks_done due.a due.deeds)
+      by_start : (start : Start) → IsDueBy r.both.trace start due.a → IsDone i.outbox.session r.both.trace start due.a due.deeds → OpensIf due.a (marks_done due.a due.deeds) → is_plain_item (start_mark start due.a ∷ marks_done due.a due.deeds) ≡ true → IsStepFit i r (start_mark start due.a ∷ marks_done due.a due.deeds)
           → IsSound i.outbox (side_behind i r (start_mark start due.a ∷ marks_done due.a due.deeds)).both.box → ItemGoes i names notes s r None xs (start_mark start due.a ∷ marks_done due.a due.deeds)
-      by_start AtTurn is done alone plain' fit' sound' = executed_goes s r None xs k AtTurn due.a due.deeds plain' done alone fit' sound' (turn_headed i names notes s r xs k due.a is due.deeds.void due.deeds.entering due.deeds.reply)
-      by_start AtArrival is done alone plain' fit' sound' = absurd is
-      by_start AfterWaiting is done alone plain' fit' sound' =
+      by_start AtTurn is done opens plain' fit' sound' = executed_goes s r None xs k AtTurn due.a due.deeds (opens plain') done fit' sound' (turn_headed i names notes s r xs k due.a is)
+      by_start AtArrival is done opens plain' fit' sound' = absurd is
+      by_start AfterWaiting is done opens plain' fit' sound' =
           let w = fit'.waited due.a refl is in
-          executed_goes s r None xs k AfterWaiting due.a due.deeds plain' done alone fit' sound'
-          (waited_headed i names notes s r xs k distinct due.a w.0 w.1 (fit'.fit.item_sound.known due.a.request refl) due.deeds.void due.deeds.entering due.deeds.reply)
+          executed_goes s r None xs k AfterWaiting due.a due.deeds (opens plain') done fit' sound'
+          (waited_headed i names notes s r xs k distinct due.a w.0 w.1 (fit'.fit.item_sound.known due.a.request refl))
 
   -- ---- all of them
 
@@ -281,10 +270,10 @@ module _ (i : Interface) (names : List Name) (notes : List Note) (distinct : are
   pub none_more : (s : State) (r : Side) (xs : List (Option ℕ)) → IsBetween i names notes s r None xs → AllGo i names notes s r None xs []
   none_more s r xs k = record { state = s; ended = xs; between = k; outbox = refl; room = refl; few = omega arith; stops = omega arith; links = links_unmoved r.both.box r.both.box refl; calm = tt; walk = λ o limits acts first late room. ap (λ as'. walk_at o s as' xs None r.both.box.sent) (sym (append-nil acts)) }
 
-  pub all_due : (items : List (List Mark)) (s : State) (r : Side) (xs : List (Option ℕ)) → IsBetween i names notes s r None xs → EachOn (IsDue i.outbox.session) r.both.trace items → list_all (list_all is_plain) items ≡ true → AreStepsFit i r items
+  pub all_due : (items : List (List Mark)) (s : State) (r : Side) (xs : List (Option ℕ)) → IsBetween i names notes s r None xs → EachOn (IsDue i.outbox.session) r.both.trace items → list_all is_plain_item items ≡ true → AreStepsFit i r items
       → AllGo i names notes s r None xs items
   all_due [] s r xs k due plain fit = none_more s r xs k
   all_due (item ∷ items) s r xs k due plain fit =
-      let parts = and_parts (list_all is_plain item) (list_all (list_all is_plain) items) plain in
+      let parts = and_parts (is_plain_item item) (list_all is_plain_item items) plain in
       let g : ItemGoes i names notes s r None xs item = due_goes s r xs k item due.0 parts.0 fit.0 (first_sound i (side_behind i r item) items fit.1) in
       goes_then i names notes s r None xs item items g (all_due items g.state (side_behind i r item) g.ended g.between due.1 parts.1 fit.1) (led_due (item ∷ r.both.trace) items due.1)

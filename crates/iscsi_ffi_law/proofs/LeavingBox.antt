@@ -1,14 +1,13 @@
 -- Commands leave in the outbox, by a request that executes: what waits of them is dropped, and then a reply is sent, and others are enabled.
-use Rattle.std.proofs.Common.{◌≡◌, ℕ, ◌==◌, ◌&&◌, ◌||◌, cond, Bool, true, false, List, [], ◌∷◌, ◌++◌, filter_map, Option, Some, None, option_map, refl, ap, sym, ◌∙◌}
+use Rattle.std.proofs.Common.{◌≡◌, ℕ, ◌==◌, ◌&&◌, ◌||◌, cond, Bool, true, false, List, [], ◌∷◌, ◌++◌, filter_map, Option, Some, None, option_map, refl, ap, sym, ◌∙◌, map}
 use Rattle.std.specs.List.{cons_option, flat_map, list_any}
 use Rattle.std.proofs.lemmas.Bool.{eqb-true, false≢true}
 use Rattle.std.proofs.lemmas.List.{append-nil}
 use Rattle.iscsi_wire.specs.declared.reply.Reply.{Reply}
 use Rattle.iscsi_wire.specs.declared.request.Request.{Request}
 use Rattle.iscsi_wire.specs.Fields.{connection_of}
-use Rattle.iscsi_wire.specs.Serial.{wire}
 use Rattle.iscsi_history.specs.declared.effect.Effect.{Effect}
-use Rattle.iscsi_history.specs.declared.effect.Effect.TheVariants.{Deliver, Empty, Immediate, Leave, Void}
+use Rattle.iscsi_history.specs.declared.effect.Effect.TheVariants.{Deliver, Immediate, Leave, Void}
 use Rattle.iscsi_history.specs.rules.Trace.{Arrival, Command, first_of}
 use Rattle.iscsi_history.proofs.Forms.{AfterWaiting, AtArrival, AtTurn, Start}
 use Rattle.iscsi_history.proofs.ListLemmas.{list_any-map}
@@ -19,7 +18,7 @@ use Rattle.iscsi_outbox_rules.specs.rules.Items.{after_item, close, conns_closed
 use Rattle.iscsi_outbox_rules.specs.rules.Words.{contains, is_running_phase}
 use Rattle.iscsi_ffi_law.proofs.DonePhases.{running_enabled, runs_at, turned, turned_runs}
 use Rattle.iscsi_ffi_law.proofs.DoneShape.{enabled_tickets, enables, gives_none, shows_none, tickets_of}
-use Rattle.iscsi_ffi_law.proofs.Leaving.{empty_effects, leave_effects, left_effects}
+use Rattle.iscsi_ffi_law.proofs.Leaving.{leave_effects, left_effects}
 use Rattle.iscsi_ffi_law.proofs.Plain.{send_effects, start_effect, void_effects}
 use Rattle.iscsi_ffi_law.proofs.Quiet.{settled_tasks}
 use Rattle.iscsi_ffi_law.proofs.QuietBox.{sent_tasks}
@@ -46,21 +45,13 @@ module _ {A : Type 0} (f : Effect → Option A) (deliver : (r : Request) → f (
   past_head AtArrival q void rest = ap (λ x. cons_option x (filter_map f (void_effects void ++ rest))) (immediate q) ∙ past_void void rest
   past_head AfterWaiting q void rest = ap (λ x. cons_option x (filter_map f (void_effects void ++ rest))) (immediate q) ∙ past_void void rest
 
-  module _ (leaves : (k u : ℕ) → f (Leave k u) ≡ None) (empties : (n : ℕ) → f (Empty n) ≡ None) where
-    past_empties : (hs : List Arrival) (rest : List Effect) → filter_map f (empty_effects hs ++ rest) ≡ filter_map f rest
-    past_empties [] rest = refl
-    past_empties (b ∷ hs) rest = ap (λ x. cons_option x (filter_map f (empty_effects hs ++ rest))) (empties (wire b.number)) ∙ past_empties hs rest
-
+  module _ (leaves : (k u : ℕ) → f (Leave k u) ≡ None) where
     past_leaves : (cs : List Command) (rest : List Effect) → filter_map f (leave_effects cs ++ rest) ≡ filter_map f rest
     past_leaves [] rest = refl
     past_leaves (c ∷ cs) rest = ap (λ x. cons_option x (filter_map f (leave_effects cs ++ rest))) (leaves c.ticket c.unit) ∙ past_leaves cs rest
 
-    pub past_both : (start : Start) (q : Request) (void : Option ℕ) (cs : List Command) (hs : List Arrival) (rest : List Effect) → filter_map f (start_effect start q ∷ (void_effects void ++ (leave_effects cs ++ (empty_effects hs ++ rest)))) ≡ filter_map f rest
-    past_both start q void cs hs rest = past_head start q void (leave_effects cs ++ (empty_effects hs ++ rest)) ∙ past_leaves cs (empty_effects hs ++ rest) ∙ past_empties hs rest
-
-empties_shown : (hs : List Arrival) (rest : List Effect) → tickets_left (empty_effects hs ++ rest) ≡ tickets_left rest
-empties_shown [] rest = refl
-empties_shown (b ∷ hs) rest = empties_shown hs rest
+    pub past_both : (start : Start) (q : Request) (void : Option ℕ) (cs : List Command) (rest : List Effect) → filter_map f (start_effect start q ∷ (void_effects void ++ (leave_effects cs ++ rest))) ≡ filter_map f rest
+    past_both start q void cs rest = past_head start q void (leave_effects cs ++ rest) ∙ past_leaves cs rest
 
 leaves_shown : (cs : List Command) (rest : List Effect) → tickets_left (leave_effects cs ++ rest) ≡ tickets_of cs ++ tickets_left rest
 leaves_shown [] rest = refl
@@ -77,10 +68,6 @@ none_closed links AfterWaiting q (Some n) rest = refl
 none_closed_by : (links : List Link) (cs : List Command) (rest : List Effect) → flat_map (conns_closed links) (leave_effects cs ++ rest) ≡ flat_map (conns_closed links) rest
 none_closed_by links [] rest = refl
 none_closed_by links (c ∷ cs) rest = none_closed_by links cs rest
-
-none_closed_out : (links : List Link) (hs : List Arrival) (rest : List Effect) → flat_map (conns_closed links) (empty_effects hs ++ rest) ≡ flat_map (conns_closed links) rest
-none_closed_out links [] rest = refl
-none_closed_out links (b ∷ hs) rest = none_closed_out links hs rest
 
 executes_it : (start : Start) (q : Request) (rest : List Effect) → executing (start_effect start q ∷ rest) ≡ Some q
 executes_it AtTurn q rest = refl
@@ -108,18 +95,32 @@ module _ (conn sn : ℕ) (ns : List Command) where
   sent_last None = ap first_of (shows_none reply_sent ns (λ ticket unit. refl))
   sent_last (Some reply) = refl
 
-pub leaving_part : (sn : ℕ) (start : Start) (a : Arrival) (void : Option ℕ) (cs : List Command) (hs : List Arrival) (reply : Option Reply) (ns : List Command)
-    → IsLeavingPart (left_effects sn start a void cs hs reply ns) a.request cs ns (option_map (λ (x : Reply). (connection_of a.request, x)) reply)
-leaving_part sn start a void cs hs reply ns = record {
-  enabled = past_both ticket_enabled (λ r. refl) (λ r. refl) (λ n. refl) (λ k u. refl) (λ n. refl) start a.request void cs hs (send_effects (connection_of a.request) sn reply ++ enables ns) ∙ enabled_last (connection_of a.request) sn ns reply;
-  left = past_head ticket_left (λ r. refl) (λ r. refl) (λ n. refl) start a.request void (leave_effects cs ++ (empty_effects hs ++ (send_effects (connection_of a.request) sn reply ++ enables ns)))
-      ∙ leaves_shown cs (empty_effects hs ++ (send_effects (connection_of a.request) sn reply ++ enables ns)) ∙ ap (λ ks. tickets_of cs ++ ks) (empties_shown hs (send_effects (connection_of a.request) sn reply ++ enables ns) ∙ left_last (connection_of a.request) sn ns reply) ∙ append-nil (tickets_of cs);
-  entering = past_both (task_entered a.request) (λ r. refl) (λ r. refl) (λ n. refl) (λ k u. refl) (λ n. refl) start a.request void cs hs (send_effects (connection_of a.request) sn reply ++ enables ns) ∙ entering_last (connection_of a.request) sn ns a.request reply;
-  closing = λ links. none_closed links start a.request void (leave_effects cs ++ (empty_effects hs ++ (send_effects (connection_of a.request) sn reply ++ enables ns)))
-      ∙ none_closed_by links cs (empty_effects hs ++ (send_effects (connection_of a.request) sn reply ++ enables ns)) ∙ none_closed_out links hs (send_effects (connection_of a.request) sn reply ++ enables ns) ∙ closed_last (connection_of a.request) sn ns links reply;
-  executes = executes_it start a.request (void_effects void ++ (leave_effects cs ++ (empty_effects hs ++ (send_effects (connection_of a.request) sn reply ++ enables ns))));
-  sends = ap first_of (past_both reply_sent (λ r. refl) (λ r. refl) (λ n. refl) (λ k u. refl) (λ n. refl) start a.request void cs hs (send_effects (connection_of a.request) sn reply ++ enables ns)) ∙ sent_last (connection_of a.request) sn ns reply;
+pub leaving_part : (sn : ℕ) (start : Start) (a : Arrival) (void : Option ℕ) (cs : List Command) (reply : Option Reply) (ns : List Command)
+    → IsLeavingPart (left_effects sn start a void cs reply ns) a.request cs ns (option_map (λ (x : Reply). (connection_of a.request, x)) reply)
+leaving_part sn start a void cs reply ns = record {
+  enabled = past_both ticket_enabled (λ r. refl) (λ r. refl) (λ n. refl) (λ k u. refl) start a.request void cs (send_effects (connection_of a.request) sn reply ++ enables ns) ∙ enabled_last (connection_of a.request) sn ns reply;
+  left = past_head ticket_left (λ r. refl) (λ r. refl) (λ n. refl) start a.request void (leave_effects cs ++ (send_effects (connection_of a.request) sn reply ++ enables ns))
+      ∙ leaves_shown cs (send_effects (connection_of a.request) sn reply ++ enables ns) ∙ ap (λ ks. tickets_of cs ++ ks) (left_last (connection_of a.request) sn ns reply) ∙ append-nil (tickets_of cs);
+  entering = past_both (task_entered a.request) (λ r. refl) (λ r. refl) (λ n. refl) (λ k u. refl) start a.request void cs (send_effects (connection_of a.request) sn reply ++ enables ns) ∙ entering_last (connection_of a.request) sn ns a.request reply;
+  closing = λ links. none_closed links start a.request void (leave_effects cs ++ (send_effects (connection_of a.request) sn reply ++ enables ns))
+      ∙ none_closed_by links cs (send_effects (connection_of a.request) sn reply ++ enables ns) ∙ closed_last (connection_of a.request) sn ns links reply;
+  executes = executes_it start a.request (void_effects void ++ (leave_effects cs ++ (send_effects (connection_of a.request) sn reply ++ enables ns)));
+  sends = ap first_of (past_both reply_sent (λ r. refl) (λ r. refl) (λ n. refl) (λ k u. refl) start a.request void cs (send_effects (connection_of a.request) sn reply ++ enables ns)) ∙ sent_last (connection_of a.request) sn ns reply;
 }
+
+-- all but those that are taken out run as before
+module _ (bs : List Task) (cs : List Command) (n : ℕ) (other : contains (tickets_of cs) n ≡ false) where
+  one_same : (t : Task) (v w : Bool) → (t.ticket == n) ≡ v → contains (tickets_of cs) t.ticket ≡ w → runs_at n (cond (contains (tickets_of cs) t.ticket) (record t { phase = phase_taken_out t.phase }) t) ≡ runs_at n t
+  one_same t v false is apart = ap (λ x. runs_at n (cond x (record t { phase = phase_taken_out t.phase }) t)) apart
+  one_same t true true is among = absurd (false≢true (sym other ∙ ap (contains (tickets_of cs)) (sym (eqb-true t.ticket n is)) ∙ among))
+  one_same t false true is among = ap (λ x. runs_at n (cond x (record t { phase = phase_taken_out t.phase }) t)) among ∙ ap (λ x. x && is_running_phase (phase_taken_out t.phase)) is ∙ sym (ap (λ x. x && is_running_phase t.phase) is)
+
+  all_same : (ts : List Task) → list_any (λ (t : Task). runs_at n (turned phase_taken_out (tickets_of cs) t)) ts ≡ list_any (runs_at n) ts
+  all_same [] = refl
+  all_same (t ∷ ts) = ap (λ v. v || list_any (λ (u : Task). runs_at n (turned phase_taken_out (tickets_of cs) u)) ts) (one_same t (t.ticket == n) (contains (tickets_of cs) t.ticket) refl refl) ∙ ap (λ v. runs_at n t || v) (all_same ts)
+
+  pub taken_runs : list_any (runs_at n) (map (turned phase_taken_out (tickets_of cs)) bs) ≡ list_any (runs_at n) bs
+  taken_runs = list_any-map (runs_at n) (turned phase_taken_out (tickets_of cs)) bs ∙ all_same bs
 
 -- ---- the box
 
@@ -154,16 +155,7 @@ module _ (o : Opening) (b : Box) (q : Request) (cs ns : List Command) (y : Optio
       ∙ ap (list_any (runs_at n)) (settled_tasks o [] sent_box.undue sent_box)
       ∙ turned_runs phase_enabled (tickets_of ns) n (send o (Some q) [] [] [] y (left_box b q cs)).tasks running_enabled
       ∙ ap (list_any (runs_at n)) (sent_tasks o (Some q) y (left_box b q cs))
-      ∙ list_any-map (runs_at n) (turned phase_taken_out (tickets_of cs)) b.tasks ∙ all_same b.tasks
+      ∙ taken_runs b.tasks cs n other
     where
       sent_box : Box
       sent_box = in_phase phase_enabled (tickets_of ns) (send o (Some q) [] [] [] y (left_box b q cs))
-
-      one_same : (t : Task) (v w : Bool) → (t.ticket == n) ≡ v → contains (tickets_of cs) t.ticket ≡ w → runs_at n (cond (contains (tickets_of cs) t.ticket) (record t { phase = phase_taken_out t.phase }) t) ≡ runs_at n t
-      one_same t v false is apart = ap (λ x. runs_at n (cond x (record t { phase = phase_taken_out t.phase }) t)) apart
-      one_same t true true is among = absurd (false≢true (sym other ∙ ap (contains (tickets_of cs)) (sym (eqb-true t.ticket n is)) ∙ among))
-      one_same t false true is among = ap (λ x. runs_at n (cond x (record t { phase = phase_taken_out t.phase }) t)) among ∙ ap (λ x. x && is_running_phase (phase_taken_out t.phase)) is ∙ sym (ap (λ x. x && is_running_phase t.phase) is)
-
-      all_same : (ts : List Task) → list_any (λ (t : Task). runs_at n (turned phase_taken_out (tickets_of cs) t)) ts ≡ list_any (runs_at n) ts
-      all_same [] = refl
-      all_same (t ∷ ts) = ap (λ v. v || list_any (λ (u : Task). runs_at n (turned phase_taken_out (tickets_of cs) u)) ts) (one_same t (t.ticket == n) (contains (tickets_of cs) t.ticket) refl refl) ∙ ap (λ v. runs_at n t || v) (all_same ts)

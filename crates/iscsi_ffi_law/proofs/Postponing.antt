@@ -1,7 +1,8 @@
 -- A function waits: it keeps its place behind those that wait on its connection.
-use Rattle.std.proofs.Common.{◌≡◌, ℕ, zero, suc, ◌+◌, ◌*◌, ◌<◌, ◌≤◌, ◌==◌, ◌||◌, ⊎_elim, cond, Bool, true, false, List, [], ◌∷◌, ◌++◌, length, count_by, filter, get_or, Some, None, nat_lt, refl, ap, sym, subst, ◌∙◌, arith, ne_eqb, eq-eqb, lt-ltb, length-set, length-append}
+use Rattle.std.proofs.Common.{◌≡◌, ℕ, zero, suc, ◌+◌, ◌*◌, ◌<◌, ◌≤◌, ◌==◌, ◌||◌, ⊎_elim, cond, Bool, true, false, List, [], ◌∷◌, ◌++◌, length, count_by, filter, get_or, Some, None, nat_lt, refl, ap, sym, subst, ◌∙◌, arith, ne_eqb, eq-eqb, lt-ltb, length-set}
+use Rattle.iscsi_history.proofs.ListLemmas.{count_by-push}
 use Rattle.std.specs.List.{list_any, position}
-use Rattle.std.proofs.lemmas.Bool.{cases_eq, cases_lt, eqb-true}
+use Rattle.std.proofs.lemmas.Bool.{cases_eq, eqb-true}
 use Rattle.std.proofs.lemmas.List.{append-nil, get_or-set_other, get_or-set_same}
 use Rattle.std.proofs.lemmas.List.Elements.{filter-append}
 use Rattle.std.proofs.lemmas.List.Folds.{list_any-append}
@@ -39,9 +40,10 @@ use Rattle.iscsi_ffi_law.specs.Stands.{AreRequests}
 use Rattle.iscsi_ffi_law.specs.Uses.{count_functions, count_lists}
 use Rattle.iscsi_ffi_law.proofs.Between.{IsBetween, held_same}
 use Rattle.iscsi_ffi_law.proofs.DoneShape.{enables}
+use Rattle.iscsi_ffi_law.proofs.KeptCounts.{few_on, long_filter}
 use Rattle.iscsi_ffi_law.proofs.Kept.{count_nothing}
 use Rattle.iscsi_ffi_law.proofs.Lists.{lists_set}
-use Rattle.iscsi_ffi_law.proofs.Members.{Passing, counted_in, each_in, in_counted, in_each}
+use Rattle.iscsi_ffi_law.proofs.Members.{each_in, in_counted, in_each}
 use Rattle.iscsi_ffi_law.proofs.Moved.{IsMoved, requests_moved}
 use Rattle.iscsi_ffi_law.proofs.NameLemmas.{Named, found_named, place_event}
 use Rattle.iscsi_ffi_law.proofs.QuietBox.{quiet_item}
@@ -53,7 +55,6 @@ use Rattle.iscsi_ffi_law.proofs.Slots.{slots_same}
 use Rattle.iscsi_ffi_law.proofs.Stepping.{GoesOn, IsCalm, last_then, links_unmoved, runs_then, stands_then}
 use Rattle.iscsi_ffi_law.proofs.Waited.{IsCid, cid_known}
 use Rattle.iscsi_ffi_law.proofs.Walking.{walk_at}
-use Rattle.iscsi_ffi_law.proofs.FitSizes.{count_set}
 
 -- ---- one waits more
 
@@ -64,6 +65,13 @@ module _ (cids : List ℕ) (names : List Name) (v : WaitingFunctions) (ws : List
 
   abbrev pub more : WaitingFunctions
   more = pushed p (record { number = cmd_sn a.request; request = place }) v
+
+  -- one waits more
+  pub one_more : count_lists (λ (g : WaitingFunction). true) more.waiting ≡ count_lists (λ (g : WaitingFunction). true) v.waiting + 1
+  one_more =
+      let put = lists_set (λ (g : WaitingFunction). true) v.waiting p (of_conn p v.waiting ++ f ∷ []) (omega (arith, within, long)) in
+      let longer = count_by-push (λ (g : WaitingFunction). true) (of_conn p v.waiting) f in
+      omega (arith, put, longer)
 
   pub count_more : (q : ℕ) → count_lists (λ (g : WaitingFunction). g.request == q) more.waiting ≡ count_lists (λ (g : WaitingFunction). g.request == q) v.waiting + one (place == q)
   count_more q =
@@ -115,34 +123,6 @@ one_less : {A : Type 0} (lists : List (List A)) (p : ℕ) → p < length lists �
 one_less [] p within less few = absurd (omega (arith, within))
 one_less (xs ∷ lists) zero within less few = let rest = all_few lists (λ q short. few (suc q) (omega (arith, short))) in omega (arith, less, rest)
 one_less (xs ∷ lists) (suc p) within less few = let here = few 0 (omega arith) in let rest = one_less lists p (omega (arith, within)) less (λ q short. few (suc q) (omega (arith, short))) in omega (arith, here, rest)
-
-long_filter : (test : Arrival → Bool) (ws : List Arrival) → length (filter test ws) ≡ count_by test ws
-long_filter test [] = refl
-long_filter test (b ∷ ws) = by_test (long_filter test ws) (test b) refl
-  where
-    by_test : length (filter test ws) ≡ count_by test ws → (u : Bool) → test b ≡ u → length (cond u (b ∷ filter test ws) (filter test ws)) ≡ count_by test (b ∷ ws)
-    by_test rest true is = let here : one (test b) ≡ 1 = ap one is in let all = count-cons test b ws in omega (arith, rest, here, all)
-    by_test rest false is = let here : one (test b) ≡ 0 = ap one is in let all = count-cons test b ws in omega (arith, rest, here, all)
-
--- each connection has no more than these, if each one that has any
-few_on : (ws : List Arrival) → EachOf (λ (b : Arrival). count_by (λ (c : Arrival). connection_of c.request == connection_of b.request) ws ≤ MOST_WAITING) ws → (cid : ℕ) → count_by (λ (c : Arrival). connection_of c.request == cid) ws ≤ 4
-few_on ws each cid = ⊎_elim
-    (λ some.
-    let x : Passing (λ (c : Arrival). connection_of c.request == cid) ws = counted_in (λ (c : Arrival). connection_of c.request == cid) ws (omega (arith, some)) in
-    subst (λ m. count_by (λ (c : Arrival). connection_of c.request == m) ws ≤ 4) (eqb-true (connection_of x.x.request) cid x.passes) (each_in (λ (b : Arrival). count_by (λ (c : Arrival). connection_of c.request == connection_of b.request) ws ≤ MOST_WAITING) ws x.x x.there each))
-    (λ none. omega (arith, none)) (cases_lt 0 (count_by (λ (c : Arrival). connection_of c.request == cid) ws))
-
--- so no more than four of each wait
-pub few_functions : (cids : List ℕ) (names : List Name) (v : WaitingFunctions) (ws : List Arrival) → AreFunctions cids names v ws → length v.waiting ≡ length cids → EachOf (λ (b : Arrival). count_by (λ (c : Arrival). connection_of c.request == connection_of b.request) ws ≤ MOST_WAITING) ws
-    → count_all v.waiting ≤ 4 * length cids
-few_functions cids names v ws h long each =
-    let all = all_few v.waiting (λ q short.
-    let inside : q < length cids = omega (arith, short, long) in
-    let same = pairs-length (IsFunctionAt names) (of_conn q v.waiting) (filter (λ (b : Arrival). connection_of b.request == get_or cids q 0) ws) (h.each q inside) in
-    let counted = long_filter (λ (b : Arrival). connection_of b.request == get_or cids q 0) ws in
-    let few = few_on ws each (get_or cids q 0) in
-    omega (arith, same, counted, few)) in
-    omega (arith, all, long)
 
 or_none : (u : Bool) → (u || false) ≡ u
 or_none true = refl
@@ -311,12 +291,12 @@ module _ (i : Interface) (names : List Name) (notes : List Note) (distinct : are
     };
     outbox = refl;
     room = refl;
-    few = (let more = count_set s.functions.waiting at.0 (of_conn at.0 s.functions.waiting ++ record { number = cmd_sn a.request; request = place } ∷ []) in let long = length-append (of_conn at.0 s.functions.waiting) (record { number = cmd_sn a.request; request = place } ∷ []) in record { lives = omega (arith, more, long); going = omega arith });
+    few = record { lives = (let more = one_more (cids i) names s.functions (waiting r.both.trace) k.functions k.sizes.functions a at.0 at.1.1.within at.1.1.at at.1.1.apart place its_name none_waits in omega (arith, more)); going = omega arith };
     links = links_unmoved r.both.box (after_item i.outbox r.both.box (effects_by i r item)) box_same;
     calm = subst (EachOf (IsCalm (side_behind i r item).both.box)) (sym effects_are) (tt, tt);
     walk = λ o limits acts first late rest led.
         ap (λ es. on_effects first (es ++ rest) (walk_at o s acts [] (Some place) r.both.box.sent)) effects_are
-        ∙ ap (λ z. on_effects false rest (wait_on (a.request) z (Some place) (end_item (walk_at o s acts [] (Some place) r.both.box.sent)))) (ap (λ (l : Limits). position (λ (c : ℕ). c == connection_of a.request) l.cids) (limits.limits ∙ sym k.outbox.sizes.limits) ∙ at.1.0)
+        ∙ ap (λ z. on_effects false rest (wait_on (a.request) z (Some place) (end_item (walk_at o s acts [] (Some place) r.both.box.sent)))) (ap (λ (l : Limits). position (λ (c : ℕ). c == connection_of a.request) l.cids) (limits ∙ sym k.outbox.sizes.limits) ∙ at.1.0)
         ∙ ap (λ v. on_effects false rest (cond v (walk_at o (record s { functions = functions' }) acts [] None r.both.box.sent) (end_item (walk_at o s acts [] (Some place) r.both.box.sent)))) has_room
         ∙ ap (λ (b : Box). on_effects false rest (walk_at o state' acts [] None b.sent)) (sym box_same);
   }

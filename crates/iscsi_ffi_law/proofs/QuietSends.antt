@@ -25,7 +25,7 @@ use Rattle.iscsi_ffi_law.proofs.ReplyQueues.{all_awaited, all_replied, same_got}
 use Rattle.iscsi_ffi_law.proofs.ReplyRequests.{IsReplied}
 
 module _ (i : Interface) (names : List Name) (s : State) (r : Side) (many_answers : length r.answers ≡ r.both.box.sent)
-    (all_before : AllQueued names r.both.trace r.answers (λ q. of_conn q s.replies.waiting) (λ q. length (of_conn q s.noted.handed)) r.both.box.links r.both.box.undue) (enabled conns closes : List ℕ) (event p place conn : ℕ) (within : p < length r.both.box.links)
+    (all_before : AllQueued names r.both.trace r.answers (λ q. of_conn q s.replies.waiting) (λ q. length (of_conn q s.noted.handed)) r.both.box.links r.both.box.undue) (enabled : List ℕ) (event p place conn : ℕ) (within : p < length r.both.box.links)
     (at : (link_in r.both.box.links p).conn ≡ conn) (takes : takes_more (link_in r.both.box.links p) ≡ true) (taking : list_any (is_taking conn) r.both.box.links ≡ true) (long : length s.replies.waiting ≡ length r.both.box.links) (named : place_named names event ≡ Some place) where
   abbrev waiting : WaitingReply
   waiting = record { log_place = r.both.box.sent; request = place }
@@ -81,7 +81,7 @@ module _ (i : Interface) (names : List Name) (s : State) (r : Side) (many_answer
     }
 
   -- .. or waits until it is due
-  module _ (request : Request) (reply : Reply) (about : Aim) where
+  module _ (request : Request) (reply : Reply) (conns closes : List ℕ) (about : Aim) where
     abbrev later : Answer
     later = answer i.outbox r.both.box request conns closes conn (outgoing r.both.box (Some request) [] reply) about
 
@@ -98,12 +98,13 @@ module _ (i : Interface) (names : List Name) (s : State) (r : Side) (many_answer
     waits_later : IsReplied names s r event p place (settle i.outbox (in_phase phase_enabled enabled awaited))
     waits_later = record { all = settled_later.all; long = settled_later.long; same = settled_later.same; sent = settled_sent i.outbox [] (r.both.box.undue ++ later ∷ []) (in_phase phase_enabled enabled awaited) }
 
-  pub sends_reply : (x : Option Request) (reply : Reply) → IsReplied names s r event p place (settle i.outbox (in_phase phase_enabled enabled (send i.outbox x [] conns closes (Some (conn, reply)) r.both.box)))
-  sends_reply None reply = enters_queue None reply refl
-  sends_reply (Some request) reply = by_aim (aim i.outbox (Some request) reply)
+  -- `conns`: those that its item closes; `closes`: those of them that weren't closed before
+  pub sends_reply : (x : Option Request) (reply : Reply) (conns closes : List ℕ) → IsReplied names s r event p place (settle i.outbox (in_phase phase_enabled enabled (send i.outbox x [] conns closes (Some (conn, reply)) r.both.box)))
+  sends_reply None reply conns closes = enters_queue None reply refl
+  sends_reply (Some request) reply conns closes = by_aim (aim i.outbox (Some request) reply)
     where
       by_aim : (z : Option Aim) → IsReplied names s r event p place (settle i.outbox (in_phase phase_enabled enabled (let b' = send_as i.outbox (Some request) z conns closes conn (outgoing r.both.box (Some request) [] reply) r.both.box in record b' { sent = b'.sent + 1 })))
       by_aim None = enters_queue (Some request) reply refl
       by_aim (Some about) =
-          subst (λ v. IsReplied names s r event p place (settle i.outbox (in_phase phase_enabled enabled (let b' = cond v (record r.both.box { undue = r.both.box.undue ++ later request reply about ∷ [] }) r.both.box in record b' { sent = b'.sent + 1 })))) (sym taking)
-          (waits_later request reply about)
+          subst (λ v. IsReplied names s r event p place (settle i.outbox (in_phase phase_enabled enabled (let b' = cond v (record r.both.box { undue = r.both.box.undue ++ later request reply conns closes about ∷ [] }) r.both.box in record b' { sent = b'.sent + 1 })))) (sym taking)
+          (waits_later request reply conns closes about)

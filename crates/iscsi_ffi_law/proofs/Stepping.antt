@@ -1,5 +1,6 @@
 -- From between two items of an event to between the next two: the outbox, and what is asked of all that is kept.
-use Rattle.std.proofs.Common.{◌≡◌, ℕ, ◌+◌, ◌<◌, ◌≤◌, ◌==◌, ◌&&◌, Bool, true, false, List, [], ◌++◌, length, count_by, Option, None, is_some, refl, ap, sym, subst, ◌∙◌, arith}
+use Rattle.std.proofs.Common.{◌≡◌, ℕ, ◌+◌, ◌<◌, ◌≤◌, ◌==◌, ◌&&◌, Bool, true, false, List, [], ◌++◌, length, count_by, Option, None, refl, ap, sym, subst, ◌∙◌, arith}
+use Rattle.iscsi_ffi_law.proofs.KeptCounts.{held_or_waiting}
 use Rattle.std.specs.List.{filter_map, list_any, position}
 use Rattle.std.proofs.lemmas.List.{append-nil}
 use Rattle.iscsi_history.specs.declared.effect.Effect.{Effect}
@@ -20,7 +21,7 @@ use Rattle.iscsi_outbox_law.specs.Sound.{IsSound}
 use Rattle.iscsi_outbox_law.specs.Stands.{Stands as OutboxStands}
 use Rattle.iscsi_outbox_law.proofs.TakesItem.{item_stands}
 use Rattle.iscsi_outbox_law.proofs.TurningCount.{item_last, newest_item}
-use Rattle.iscsi_outbox_steps.specs.State.{Limits, State as OutboxState, place_of}
+use Rattle.iscsi_outbox_steps.specs.State.{Limits, State as OutboxState, limits_of, place_of}
 use Rattle.iscsi_outbox_steps.specs.Steps.{after_item as steps_after_item, is_running_ticket}
 use Rattle.iscsi_ffi_commands.specs.Commands.{is_going, is_live}
 use Rattle.iscsi_ffi_rules.specs.declared.action.Action.{Action}
@@ -34,13 +35,12 @@ use Rattle.iscsi_ffi_law.specs.Names.{Name, Note}
 use Rattle.iscsi_ffi_law.proofs.Between.{IsBetween}
 use Rattle.iscsi_ffi_law.proofs.Moved.{run_same}
 use Rattle.iscsi_ffi_law.proofs.QuietItems.{stops_none}
-use Rattle.iscsi_ffi_law.proofs.Walking.{is_led, walk_at, IsOutboxOf}
-use Rattle.iscsi_requests.specs.Conns.{count_all}
+use Rattle.iscsi_ffi_law.proofs.Walking.{is_led, walk_at}
 
--- a reply goes out on a connection that takes it, and nothing is closed
+-- a reply goes out on a connection that takes it, and none is closed but one that takes more still, as one is on which its Logout came
 abbrev pub IsCalm : Box → Effect → Type 0
 IsCalm b (Send cid sn reply) = list_any (λ (l : Link). l.conn == cid && takes_more l) b.links ≡ true
-IsCalm b (CloseConn cid) = ⊥
+IsCalm b (CloseConn cid) = list_any (λ (l : Link). l.conn == cid && takes_more l) b.links ≡ true
 IsCalm b CloseSession = ⊥
 IsCalm b _ = Unit {0}
 
@@ -61,13 +61,16 @@ links_then b c d h k = record {
       record { conn = y.conn ∙ x.conn; takes = y.takes ∙ x.takes; left = y.left ∙ x.left };
 }
 
-calm_on : (b c : Box) → SameLinks b c → (e : Effect) → IsCalm b e → IsCalm c e
-calm_on b c h (Send cid sn reply) k =
+pub taken_on : (b c : Box) → SameLinks b c → (cid : ℕ) → list_any (λ (l : Link). l.conn == cid && takes_more l) b.links ≡ true → list_any (λ (l : Link). l.conn == cid && takes_more l) c.links ≡ true
+taken_on b c h cid k =
     let at : PassingAt (λ (l : Link). l.conn == cid && takes_more l) b.links (new_link 0) = any_at (λ (l : Link). l.conn == cid && takes_more l) b.links (new_link 0) k in
     let within : at.place < length c.links = (let l = h.long in let w = at.within in omega (arith, l, w)) in
     let same : SameOut (link_in b.links at.place) (link_in c.links at.place) = h.same at.place at.within in
     at_any (λ (l : Link). l.conn == cid && takes_more l) c.links at.place (new_link 0) within (ap (λ n. n == cid && takes_more (link_in c.links at.place)) same.conn ∙ ap (λ v. (link_in b.links at.place).conn == cid && v) same.takes ∙ at.passes)
-calm_on b c h (CloseConn cid) k = k
+
+calm_on : (b c : Box) → SameLinks b c → (e : Effect) → IsCalm b e → IsCalm c e
+calm_on b c h (Send cid sn reply) k = taken_on b c h cid k
+calm_on b c h (CloseConn cid) k = taken_on b c h cid k
 calm_on b c h CloseSession k = k
 calm_on b c h (Deliver r) k = tt
 calm_on b c h (Immediate r) k = tt
@@ -82,13 +85,9 @@ calm_on b c h (Ignore why) k = tt
 pub all_calm_on : (b c : Box) → SameLinks b c → (es : List Effect) → EachOf (IsCalm b) es → EachOf (IsCalm c) es
 all_calm_on b c h es = each-weaken (IsCalm b) (IsCalm c) es (calm_on b c h)
 
--- so many commands are live, requests held, or functions waiting
-abbrev pub count_kept : State → ℕ
-count_kept s = count_by is_live s.commands.items + (count_by is_some s.held.places + count_all s.functions.waiting)
-
--- what has ended was live or held, or waited, but for one request; what was told to stop was told to start
+-- what has ended was live, held or waited, but for one request; what was told to stop was told to start
 pub record AreFewer (xs ended : List (Option ℕ)) (stops : ℕ) (before after : State) : Type 0 where
-  pub lives : length ended + count_kept after ≤ length xs + count_kept before + 1
+  pub lives : length ended + count_by is_live after.commands.items + held_or_waiting after.held after.functions ≤ length xs + count_by is_live before.commands.items + held_or_waiting before.held before.functions + 1
   pub going : stops + count_by is_going after.commands.items ≤ count_by is_going before.commands.items
 
 -- what an item comes to by which no command leaves: the walk goes on, and the same holds behind it
@@ -101,7 +100,7 @@ pub record GoesOn (i : Interface) (names : List Name) (notes : List Note) (s : S
   pub few : AreFewer xs ended 0 s state
   pub links : SameLinks r.both.box (side_behind i r item).both.box
   pub calm : EachOf (IsCalm (side_behind i r item).both.box) (effects_by i r item)
-  pub walk : (o : OutboxState) → IsOutboxOf i o → (acts : List Action) (first : Bool) → (first && is_late r.both.event item) ≡ false → (rest : List Effect) → is_led rest ≡ true
+  pub walk : (o : OutboxState) → o.limits ≡ limits_of i.outbox → (acts : List Action) (first : Bool) → (first && is_late r.both.event item) ≡ false → (rest : List Effect) → is_led rest ≡ true
       → on_effects first (effects_by i r item ++ rest) (walk_at o s acts xs own r.both.box.sent) ≡ on_effects false rest (walk_at o state acts ended None (side_behind i r item).both.box.sent)
 
 -- .. and any item: with what it tells to stop
@@ -114,7 +113,7 @@ pub record ItemGoes (i : Interface) (names : List Name) (notes : List Note) (s :
   pub few : AreFewer xs ended (length (stops_in r item)) s state
   pub links : SameLinks r.both.box (side_behind i r item).both.box
   pub calm : EachOf (IsCalm (side_behind i r item).both.box) (effects_by i r item)
-  pub walk : (o : OutboxState) → IsOutboxOf i o → (acts : List Action) (first : Bool) → (first && is_late r.both.event item) ≡ false → length acts + length (stops_in r item) ≤ s.room → (rest : List Effect) → is_led rest ≡ true
+  pub walk : (o : OutboxState) → o.limits ≡ limits_of i.outbox → (acts : List Action) (first : Bool) → (first && is_late r.both.event item) ≡ false → length acts + length (stops_in r item) ≤ s.room → (rest : List Effect) → is_led rest ≡ true
       → on_effects first (effects_by i r item ++ rest) (walk_at o s acts xs own r.both.box.sent) ≡ on_effects false rest (walk_at o state (acts ++ stops_in r item) ended None (side_behind i r item).both.box.sent)
 
 pub plain_goes : (i : Interface) (names : List Name) (notes : List Note) (s : State) (r : Side) (own : Option ℕ) (xs : List (Option ℕ)) (item : List Mark) → filter_map leaving item ≡ [] → GoesOn i names notes s r own xs item → ItemGoes i names notes s r own xs item
@@ -153,5 +152,5 @@ module _ (i : Interface) (names : List Name) (notes : List Note) (s : State) (r 
   runs_then same = run_same i s r (steps_after_item (effects_by i r item) s.outbox) (after_item i.outbox r.both.box (effects_by i r item)) k.outbox fit.fit.sound stands_then sound distinct same
 
   -- a connection has the same place in the outbox that the event found
-  pub places_same : (o : OutboxState) → IsOutboxOf i o → (cid : ℕ) → place_of o cid ≡ place_of s.outbox cid
-  places_same o limits cid = ap (λ (l : Limits). position (λ (c : ℕ). c == cid) l.cids) (limits.limits ∙ sym k.outbox.sizes.limits)
+  pub places_same : (o : OutboxState) → o.limits ≡ limits_of i.outbox → (cid : ℕ) → place_of o cid ≡ place_of s.outbox cid
+  places_same o limits cid = ap (λ (l : Limits). position (λ (c : ℕ). c == cid) l.cids) (limits ∙ sym k.outbox.sizes.limits)

@@ -23,7 +23,7 @@ use Rattle.iscsi_outbox_law.specs.Pairs.{EachOf}
 use Rattle.iscsi_outbox_law.specs.Sound.{HasHome, IsSound, entries_of, entry_of}
 use Rattle.iscsi_outbox_law.proofs.PairLemmas.{each-weaken}
 use Rattle.iscsi_outbox_law.proofs.Stops.{stops_answered}
-use Rattle.iscsi_outbox_steps.specs.State.{State as OutboxState}
+use Rattle.iscsi_outbox_steps.specs.State.{State as OutboxState, limits_of}
 use Rattle.iscsi_outbox_steps.specs.Steps.{after_item as steps_after_item, is_running_ticket}
 use Rattle.iscsi_requests.specs.Conns.{of_conn}
 use Rattle.iscsi_ffi_commands.specs.declared.command.Command.{Command}
@@ -55,7 +55,7 @@ use Rattle.iscsi_ffi_law.proofs.Releasing.{ending}
 use Rattle.iscsi_ffi_law.proofs.Stepping.{GoesOn, IsCalm, SameLinks, last_then, runs_then, stands_then}
 use Rattle.iscsi_ffi_law.proofs.TailOver.{calm_plain, voids_past}
 use Rattle.iscsi_ffi_law.proofs.TailSends.{over_still}
-use Rattle.iscsi_ffi_law.proofs.Walking.{enables_past, enters_walk, is_led, led_end, walk_at, walk_in, IsOutboxOf}
+use Rattle.iscsi_ffi_law.proofs.Walking.{enables_past, enters_walk, is_led, led_end, walk_at, walk_in}
 
 five : (u v w x y : Bool) → u ≡ true → v ≡ true → w ≡ true → x ≡ true → y ≡ true → (u && v && w && x && y) ≡ true
 five u v w x y e f g h k = ap (λ z. z && v && w && x && y) e ∙ ap (λ z. true && z && w && x && y) f ∙ ap (λ z. true && true && z && x && y) g ∙ ap (λ z. true && true && true && z && y) h ∙ ap (λ z. true && true && true && true && z) k
@@ -234,7 +234,7 @@ module _ (i : Interface) (names : List Name) (notes : List Note) (s : State) (r 
       (lt-ltb c.unit s.commands.units (let units = k.counts.units in omega (arith, unit, units)))
       (le-test 1 h.place (let low = placed.low in omega (arith, low, place_is))) (le-test h.place s.commands.room (let high = placed.high in omega (arith, high, place_is))) (ap not none_of_it)
 
-  walk : (o : OutboxState) → IsOutboxOf i o → (acts : List Action) (first : Bool) → (first && is_late r.both.event item) ≡ false → (rest : List Effect) → is_led rest ≡ true
+  walk : (o : OutboxState) → o.limits ≡ limits_of i.outbox → (acts : List Action) (first : Bool) → (first && is_late r.both.event item) ≡ false → (rest : List Effect) → is_led rest ≡ true
       → on_effects first (effects_by i r item ++ rest) (walk_at o s acts xs own r.both.box.sent) ≡ on_effects false rest (walk_at o state' acts xs None (side_behind i r item).both.box.sent)
   walk o limits acts first late rest led =
       ap (λ es'. on_effects first (es' ++ rest) (walk_at o s acts xs own r.both.box.sent)) effects_are
@@ -265,7 +265,7 @@ module _ (i : Interface) (names : List Name) (notes : List Note) (s : State) (r 
     few =
         let lives = sum_by-append (λ (x : Command). cond (is_live x) 1 0) s.commands.items (command ∷ []) in
         let going = sum_by-append (λ (x : Command). cond (is_going x) 1 0) s.commands.items (command ∷ []) in
-        record { lives = omega (arith, lives, count-cons is_live command []); going = omega (arith, going, count-cons is_going command []) };
+        record { lives = (let fewer = h.fewer in omega (arith, lives, fewer, count-cons is_live command [])); going = omega (arith, going, count-cons is_going command []) };
     links = subst (SameLinks r.both.box) (sym box_is) (record { long = settled.long; same = settled.same });
     calm = subst (EachOf (IsCalm (side_behind i r item).both.box)) (sym effects_are) (calm_plain i r item start a void (Some c) None ns (λ reply is. absurd (let no : ⊥ = cc in no)));
     walk = λ o limits acts first late rest led. walk o limits acts first late rest led;

@@ -7,7 +7,7 @@ use Rattle.iscsi_wire.specs.declared.reply.Reply.{Reply}
 use Rattle.iscsi_wire.specs.Fields.{connection_of}
 use Rattle.iscsi_wire.specs.Serial.{wire}
 use Rattle.iscsi_history.specs.declared.effect.Effect.{Effect}
-use Rattle.iscsi_history.specs.declared.effect.Effect.TheVariants.{Empty, Enable, Leave, Send, Void}
+use Rattle.iscsi_history.specs.declared.effect.Effect.TheVariants.{Enable, Leave, Send, Void}
 use Rattle.iscsi_history.specs.rules.Settings.{are_distinct}
 use Rattle.iscsi_history.specs.rules.Trace.{Arrival, Command as RulesCommand, Mark, first_of, live}
 use Rattle.iscsi_history.proofs.CountLemmas.{one}
@@ -22,7 +22,7 @@ use Rattle.iscsi_outbox_law.specs.Commands.{link_in}
 use Rattle.iscsi_outbox_law.specs.Pairs.{EachOf}
 use Rattle.iscsi_outbox_law.specs.Sound.{IsSound}
 use Rattle.iscsi_outbox_law.proofs.PairLemmas.{each-map}
-use Rattle.iscsi_outbox_steps.specs.State.{State as OutboxState}
+use Rattle.iscsi_outbox_steps.specs.State.{State as OutboxState, limits_of}
 use Rattle.iscsi_outbox_steps.specs.Steps.{after_item as steps_after_item}
 use Rattle.iscsi_requests.specs.Conns.{of_conn}
 use Rattle.iscsi_requests.specs.Replies.{pushed}
@@ -38,15 +38,14 @@ use Rattle.iscsi_ffi_law.specs.Names.{Name, Note}
 use Rattle.iscsi_ffi_law.specs.Parts.{IsBefore}
 use Rattle.iscsi_ffi_law.specs.Stands.{AreRequests}
 use Rattle.iscsi_ffi_law.specs.Uses.{count_lists, is_place}
-use Rattle.iscsi_ffi_law.proofs.Between.{IsBetween, pending_as}
+use Rattle.iscsi_ffi_law.proofs.Between.{IsBetween, IsHeaded, pending_as}
 use Rattle.iscsi_ffi_law.proofs.Core.{endings_more}
 use Rattle.iscsi_ffi_law.proofs.DoneRoom.{may_wait_more}
 use Rattle.iscsi_ffi_law.proofs.DoneShape.{enables, tickets_of}
 use Rattle.iscsi_ffi_law.proofs.Finish.{as_many_links}
-use Rattle.iscsi_ffi_law.proofs.Leaving.{answers_left, empty_effects, leave_effects, left_effects, left_item}
+use Rattle.iscsi_ffi_law.proofs.Leaving.{answers_left, leave_effects, left_effects, left_item}
 use Rattle.iscsi_ffi_law.proofs.LeavingBox.{left_box}
 use Rattle.iscsi_ffi_law.proofs.LeavingCommands.{ended_by, entered_left, gone_by}
-use Rattle.iscsi_ffi_law.proofs.LeavingHead.{IsPastHead}
 use Rattle.iscsi_ffi_law.proofs.LeavingItem.{box_is, effects_are, few2, leaves_past, ns, over2, part, queued2, r2, requests2, s1', s2, sn, those}
 use Rattle.iscsi_ffi_law.proofs.Members.{PassingAt}
 use Rattle.iscsi_ffi_law.proofs.Moved.{IsMoved, requests_moved}
@@ -59,13 +58,13 @@ use Rattle.iscsi_ffi_law.proofs.Releasing.{ending}
 use Rattle.iscsi_ffi_law.proofs.ReplyPlace.{conn_is as reply_conn, place_is as reply_place, takes_it as reply_takes, there as reply_there}
 use Rattle.iscsi_ffi_law.proofs.ReplyRequests.{IsReplied, requests_replied}
 use Rattle.iscsi_ffi_law.proofs.Stepping.{IsCalm, ItemGoes, SameLinks, all_calm_on, last_then, places_same, stands_then}
-use Rattle.iscsi_ffi_law.proofs.Walking.{enables_past, ends_with_it, is_led, led_end, sends_walk, walk_at, walk_in, IsOutboxOf}
+use Rattle.iscsi_ffi_law.proofs.Walking.{enables_past, ends_with_it, is_led, led_end, sends_walk, walk_at, walk_in}
 
 -- ---- its effects
 
-each_left : (P : Effect → Type 0) (sn : ℕ) (start : Start) (a : Arrival) (void : Option ℕ) (cs : List RulesCommand) (hs : List Arrival) (reply : Option Reply) (ns : List RulesCommand) → P (start_effect start a.request) → ((n : ℕ) → P (Void n)) → ((n u : ℕ) → P (Leave n u)) → ((n : ℕ) → P (Empty n))
-    → ((x : Reply) → reply ≡ Some x → P (Send (connection_of a.request) sn x)) → ((n u : ℕ) → P (Enable n u)) → EachOf P (left_effects sn start a void cs hs reply ns)
-each_left P sn start a void cs hs reply ns first voids leaves empties sends enabled = (first, by_void void)
+each_left : (P : Effect → Type 0) (sn : ℕ) (start : Start) (a : Arrival) (void : Option ℕ) (cs : List RulesCommand) (reply : Option Reply) (ns : List RulesCommand) → P (start_effect start a.request) → ((n : ℕ) → P (Void n)) → ((n u : ℕ) → P (Leave n u))
+    → ((x : Reply) → reply ≡ Some x → P (Send (connection_of a.request) sn x)) → ((n u : ℕ) → P (Enable n u)) → EachOf P (left_effects sn start a void cs reply ns)
+each_left P sn start a void cs reply ns first voids leaves sends enabled = (first, by_void void)
   where
     all_enabled : (ds : List RulesCommand) → EachOf P (enables ds)
     all_enabled [] = tt
@@ -75,20 +74,16 @@ each_left P sn start a void cs hs reply ns first voids leaves empties sends enab
     by_reply None is = all_enabled ns
     by_reply (Some x) is = (sends x is, all_enabled ns)
 
-    all_emptied : (bs : List Arrival) → EachOf P (empty_effects bs ++ (send_effects (connection_of a.request) sn reply ++ enables ns))
-    all_emptied [] = by_reply reply refl
-    all_emptied (b ∷ bs) = (empties (wire b.number), all_emptied bs)
-
-    all_leave : (ds : List RulesCommand) → EachOf P (leave_effects ds ++ (empty_effects hs ++ (send_effects (connection_of a.request) sn reply ++ enables ns)))
-    all_leave [] = all_emptied hs
+    all_leave : (ds : List RulesCommand) → EachOf P (leave_effects ds ++ (send_effects (connection_of a.request) sn reply ++ enables ns))
+    all_leave [] = by_reply reply refl
     all_leave (d ∷ ds) = (leaves d.ticket d.unit, all_leave ds)
 
-    by_void : (y : Option ℕ) → EachOf P (void_effects y ++ (leave_effects cs ++ (empty_effects hs ++ (send_effects (connection_of a.request) sn reply ++ enables ns))))
+    by_void : (y : Option ℕ) → EachOf P (void_effects y ++ (leave_effects cs ++ (send_effects (connection_of a.request) sn reply ++ enables ns)))
     by_void None = all_leave cs
     by_void (Some n) = (voids (wire n), all_leave cs)
 
-calm_left : (i : Interface) (b : Box) (sn : ℕ) (start : Start) (a : Arrival) (void : Option ℕ) (cs : List RulesCommand) (hs : List Arrival) (reply : Option Reply) (ns : List RulesCommand) → ((x : Reply) → reply ≡ Some x → list_any (λ (l : Link). l.conn == connection_of a.request && takes_more l) b.links ≡ true) → EachOf (IsCalm b) (left_effects sn start a void cs hs reply ns)
-calm_left i b sn start a void cs hs reply ns takes = each_left (IsCalm b) sn start a void cs hs reply ns (first start) (λ n. tt) (λ n u. tt) (λ n. tt) takes (λ n u. tt)
+calm_left : (i : Interface) (b : Box) (sn : ℕ) (start : Start) (a : Arrival) (void : Option ℕ) (cs : List RulesCommand) (reply : Option Reply) (ns : List RulesCommand) → ((x : Reply) → reply ≡ Some x → list_any (λ (l : Link). l.conn == connection_of a.request && takes_more l) b.links ≡ true) → EachOf (IsCalm b) (left_effects sn start a void cs reply ns)
+calm_left i b sn start a void cs reply ns takes = each_left (IsCalm b) sn start a void cs reply ns (first start) (λ n. tt) (λ n u. tt) takes (λ n u. tt)
   where
     first : (x : Start) → IsCalm b (start_effect x a.request)
     first AtTurn = tt
@@ -96,16 +91,16 @@ calm_left i b sn start a void cs hs reply ns takes = each_left (IsCalm b) sn sta
     first AfterWaiting = tt
 
 -- what waits of commands is dropped: each connection goes out as before
-links_dropped : (tickets : List ℕ) (links : List Link) (q : ℕ) → q < length links → SameOut (link_in links q) (link_in (map (without (contains tickets)) links) q)
+pub links_dropped : (tickets : List ℕ) (links : List Link) (q : ℕ) → q < length links → SameOut (link_in links q) (link_in (map (without (contains tickets)) links) q)
 links_dropped tickets links q within = subst (SameOut (link_in links q)) (sym (link_map (without (contains tickets)) links q within)) (record { conn = refl; takes = refl; left = refl })
 
 -- ---- it is answered
 
-module _ (i : Interface) (names : List Name) (notes : List Note) (s : State) (r : Side) (own : Option ℕ) (xs : List (Option ℕ)) (k : IsBetween i names notes s r own xs) (start : Start) (a : Arrival) (void : Option ℕ) (cs : List RulesCommand) (hs : List Arrival) (reply : Reply)
-    (fit : IsStepFit i r (left_item start a void cs hs (Some reply))) (distinct : are_distinct i.outbox.session.conns ≡ true) (sound : IsSound i.outbox (side_behind i r (left_item start a void cs hs (Some reply))).both.box)
-    (h : IsPastHead i names notes s r own xs (left_item start a void cs hs (Some reply)) start a hs) (each : (p : RulesCommand → Bool) → count_by p cs ≤ count_by p (live r.both.trace)) where
+module _ (i : Interface) (names : List Name) (notes : List Note) (s : State) (r : Side) (own : Option ℕ) (xs : List (Option ℕ)) (k : IsBetween i names notes s r own xs) (start : Start) (a : Arrival) (void : Option ℕ) (cs : List RulesCommand) (reply : Reply)
+    (fit : IsStepFit i r (left_item start a void cs (Some reply))) (distinct : are_distinct i.outbox.session.conns ≡ true) (sound : IsSound i.outbox (side_behind i r (left_item start a void cs (Some reply))).both.box)
+    (h : IsHeaded i names notes s r own xs (left_item start a void cs (Some reply)) start a) (each : (p : RulesCommand → Bool) → count_by p cs ≤ count_by p (live r.both.trace)) where
   abbrev item : List Mark
-  item = left_item start a void cs hs (Some reply)
+  item = left_item start a void cs (Some reply)
 
   abbrev cid : ℕ
   cid = connection_of a.request
@@ -114,10 +109,10 @@ module _ (i : Interface) (names : List Name) (notes : List Note) (s : State) (r 
   tickets = tickets_of cs
 
   abbrev enabled : List RulesCommand
-  enabled = ns i names notes s r own xs k start a void cs hs (Some reply) fit distinct sound h each
+  enabled = ns i names notes s r own xs k start a void cs (Some reply) fit distinct sound h each
 
   abbrev number : ℕ
-  number = sn i names notes s r own xs k start a void cs hs (Some reply) fit distinct sound h each
+  number = sn i names notes s r own xs k start a void cs (Some reply) fit distinct sound h each
 
   abbrev outbox_then : OutboxState
   outbox_then = steps_after_item (effects_by i r item) s.outbox
@@ -126,13 +121,13 @@ module _ (i : Interface) (names : List Name) (notes : List Note) (s : State) (r 
   box_then = after_item i.outbox r.both.box (effects_by i r item)
 
   abbrev sL : State
-  sL = s2 i names notes s r own xs k start a void cs hs (Some reply) fit distinct sound h each
+  sL = s2 i names notes s r own xs k start a void cs (Some reply) fit distinct sound h each
 
   abbrev rL : Side
-  rL = r2 i names notes s r own xs k start a void cs hs (Some reply) fit distinct sound h each
+  rL = r2 i names notes s r own xs k start a void cs (Some reply) fit distinct sound h each
 
   abbrev sends : IsSendFit i.outbox r.both.box cid
-  sends = fit.sends cid reply (ap (λ (fs : List Effect). first_of (filter_map reply_sent fs)) (effects_are i names notes s r own xs k start a void cs hs (Some reply) fit distinct sound h each) ∙ (part i names notes s r own xs k start a void cs hs (Some reply) fit distinct sound h each).sends)
+  sends = fit.sends cid reply (ap (λ (fs : List Effect). first_of (filter_map reply_sent fs)) (effects_are i names notes s r own xs k start a void cs (Some reply) fit distinct sound h each) ∙ (part i names notes s r own xs k start a void cs (Some reply) fit distinct sound h each).sends)
 
   abbrev there : PassingAt (λ (l : Link). l.conn == connection_of a.request && takes_more l) r.both.box.links (new_link 0)
   there = reply_there i.outbox s.outbox r.both.box k.outbox distinct cid sends.takes
@@ -150,10 +145,10 @@ module _ (i : Interface) (names : List Name) (notes : List Note) (s : State) (r 
   long = k.sizes.replies ∙ sym (as_many_links i s r k.outbox) ∙ sym many
 
   replied : IsReplied names sL rL a.event there.place h.place box_then
-  replied = subst (IsReplied names sL rL a.event there.place h.place) (sym (box_is i names notes s r own xs k start a void cs hs (Some reply) fit distinct sound h each))
-      (sends_reply i names sL rL k.requests.answers (queued2 i names notes s r own xs k start a void cs hs (Some reply) fit distinct sound h each) (tickets_of enabled) [] [] a.event there.place h.place cid within
+  replied = subst (IsReplied names sL rL a.event there.place h.place) (sym (box_is i names notes s r own xs k start a void cs (Some reply) fit distinct sound h each))
+      (sends_reply i names sL rL k.requests.answers (queued2 i names notes s r own xs k start a void cs (Some reply) fit distinct sound h each) (tickets_of enabled) a.event there.place h.place cid within
       (same_there.conn ∙ reply_conn i.outbox s.outbox r.both.box k.outbox distinct cid sends.takes) (same_there.takes ∙ reply_takes i.outbox s.outbox r.both.box k.outbox distinct cid sends.takes)
-      (any_map (is_taking cid) (without (contains tickets)) r.both.box.links (λ l. refl) ∙ sends.takes) long h.named (Some (a.request)) reply)
+      (any_map (is_taking cid) (without (contains tickets)) r.both.box.links (λ l. refl) ∙ sends.takes) long h.named (Some (a.request)) reply [] [])
 
   handed : EachOf (λ (l : Link). EachOf (λ (x : Handed). IsBefore r.both.box.sent x.out.sent) l.handed) rL.both.box.links
   handed = each-map (λ (l : Link). EachOf (λ (x : Handed). IsBefore r.both.box.sent x.out.sent) l.handed) (λ (l : Link). EachOf (λ (x : Handed). IsBefore r.both.box.sent x.out.sent) l.handed) (without (contains tickets)) r.both.box.links (λ l x. x) sends.handed
@@ -167,12 +162,12 @@ module _ (i : Interface) (names : List Name) (notes : List Note) (s : State) (r 
     replies = pushed there.place (record { log_place = r.both.box.sent; request = h.place }) s.replies;
   }
 
-  requests3 : AreRequests names notes (λ q. ending None q + endings ((xs ++ ended_by names r cs) ++ h.taken) q) (λ q. []) state' (side_behind i r item)
-  requests3 = subst (λ as'. AreRequests names notes (λ q. ending None q + endings ((xs ++ ended_by names r cs) ++ h.taken) q) (λ q. []) state' (record (side_behind i r item) { answers = r.answers ++ as' })) (sym (answers_left r.both.event start a void cs hs (Some reply)))
-      (requests_replied names notes (λ q. one (h.place == q) + endings ((xs ++ ended_by names r cs) ++ h.taken) q) (λ q. ending None q + endings ((xs ++ ended_by names r cs) ++ h.taken) q) (λ q. []) sL rL (requests2 i names notes s r own xs k start a void cs hs (Some reply) fit distinct sound h each) a.event there.place h.place
+  requests3 : AreRequests names notes (λ q. ending None q + endings (xs ++ ended_by names r cs) q) (λ q. []) state' (side_behind i r item)
+  requests3 = subst (λ as'. AreRequests names notes (λ q. ending None q + endings (xs ++ ended_by names r cs) q) (λ q. []) state' (record (side_behind i r item) { answers = r.answers ++ as' })) (sym (answers_left r.both.event start a void cs (Some reply)))
+      (requests_replied names notes (λ q. one (h.place == q) + endings (xs ++ ended_by names r cs) q) (λ q. ending None q + endings (xs ++ ended_by names r cs) q) (λ q. []) sL rL (requests2 i names notes s r own xs k start a void cs (Some reply) fit distinct sound h each) a.event there.place h.place
       (λ q. omega arith) within long h.named handed outbox_then box_then (λ ticket. refl) replied)
 
-  between : IsBetween i names notes state' (side_behind i r item) None ((xs ++ ended_by names r cs) ++ h.taken)
+  between : IsBetween i names notes state' (side_behind i r item) None (xs ++ ended_by names r cs)
   between = record {
     requests = requests3;
     slots = h.slots;
@@ -194,14 +189,14 @@ module _ (i : Interface) (names : List Name) (notes : List Note) (s : State) (r 
     counts = record {
       units = k.counts.units;
       last =
-          let same = ap length (entered_left r.both.trace item cs (those i names notes s r own xs k start a void cs hs (Some reply) fit distinct sound h each).none_enters (those i names notes s r own xs k start a void cs hs (Some reply) fit distinct sound h each).left_by) in
+          let same = ap length (entered_left r.both.trace item cs (those i names notes s r own xs k start a void cs (Some reply) fit distinct sound h each).none_enters (those i names notes s r own xs k start a void cs (Some reply) fit distinct sound h each).left_by) in
           let below = k.counts.last in
           omega (arith, same, below);
       tracked = last_then i names notes s r own xs k item fit distinct sound;
     };
     withheld = k.withheld;
     distinct = h.distinct;
-    over = over2 i names notes s r own xs k start a void cs hs (Some reply) fit distinct sound h each;
+    over = over2 i names notes s r own xs k start a void cs (Some reply) fit distinct sound h each;
     own_named = λ q none. absurd (let no : ⊥ = cc in no);
     own_unheld = λ q none. absurd (let no : ⊥ = cc in no);
     own_first = λ q none. absurd (let no : ⊥ = cc in no);
@@ -219,74 +214,74 @@ module _ (i : Interface) (names : List Name) (notes : List Note) (s : State) (r 
         record { conn = x.conn ∙ y.conn; takes = x.takes ∙ y.takes; left = x.left ∙ y.left };
   }
 
-  walk : (o : OutboxState) → IsOutboxOf i o → (acts : List Action) (first : Bool) → (first && is_late r.both.event item) ≡ false → length acts + length (stops_in r item) ≤ s.room → (rest : List Effect) → is_led rest ≡ true
-      → on_effects first (effects_by i r item ++ rest) (walk_at o s acts xs own r.both.box.sent) ≡ on_effects false rest (walk_at o state' (acts ++ stops_in r item) ((xs ++ ended_by names r cs) ++ h.taken) None (side_behind i r item).both.box.sent)
+  walk : (o : OutboxState) → o.limits ≡ limits_of i.outbox → (acts : List Action) (first : Bool) → (first && is_late r.both.event item) ≡ false → length acts + length (stops_in r item) ≤ s.room → (rest : List Effect) → is_led rest ≡ true
+      → on_effects first (effects_by i r item ++ rest) (walk_at o s acts xs own r.both.box.sent) ≡ on_effects false rest (walk_at o state' (acts ++ stops_in r item) (xs ++ ended_by names r cs) None (side_behind i r item).both.box.sent)
   walk o limits acts first late room rest led =
-      leaves_past i names notes s r own xs k start a void cs hs (Some reply) fit distinct sound h each o limits acts first late room rest
+      leaves_past i names notes s r own xs k start a void cs (Some reply) fit distinct sound h each o limits acts first late room rest
       ∙ ap (on_effects false (enables enabled ++ rest))
-      (sends_walk o sG (acts ++ stops_in r item) ((xs ++ ended_by names r cs) ++ h.taken) cid number there.place h.place reply (Some (h.place)) None (Some (h.by)) r.both.box.sent
+      (sends_walk o sG (acts ++ stops_in r item) (xs ++ ended_by names r cs) cid number there.place h.place reply (Some (h.place)) None (Some (h.by)) r.both.box.sent
       (places_same i names notes s r own xs k item fit distinct sound o limits cid ∙ reply_place i.outbox s.outbox r.both.box k.outbox distinct cid sends.takes) refl may_one (let lt = sends.sent in omega (arith, lt)))
       ∙ enables_past enabled rest after_send
       ∙ led_end rest led after_send
-      ∙ ap (λ n. on_effects false rest (walk_at o state' (acts ++ stops_in r item) ((xs ++ ended_by names r cs) ++ h.taken) None n)) (sym replied.sent)
+      ∙ ap (λ n. on_effects false rest (walk_at o state' (acts ++ stops_in r item) (xs ++ ended_by names r cs) None n)) (sym replied.sent)
     where
       sG : State
       sG = record s { held = h.held; functions = h.functions; commands = record s.commands { items = map (gone_by cs) s.commands.items } }
 
       after_send : Walk
-      after_send = walk_in o (record sG { replies = pushed there.place (record { log_place = r.both.box.sent; request = h.place }) s.replies }) (acts ++ stops_in r item) ((xs ++ ended_by names r cs) ++ h.taken) None None (Some (h.by)) (r.both.box.sent + 1)
+      after_send = walk_in o (record sG { replies = pushed there.place (record { log_place = r.both.box.sent; request = h.place }) s.replies }) (acts ++ stops_in r item) (xs ++ ended_by names r cs) None None (Some (h.by)) (r.both.box.sent + 1)
 
-  pub goes_left : ItemGoes i names notes s r own xs (left_item start a void cs hs (Some reply))
+  pub goes_left : ItemGoes i names notes s r own xs (left_item start a void cs (Some reply))
   goes_left = record {
     state = state';
-    ended = (xs ++ ended_by names r cs) ++ h.taken;
+    ended = xs ++ ended_by names r cs;
     between = between;
     outbox = refl;
     room = refl;
-    few = (let few = few2 i names notes s r own xs k start a void cs hs (Some reply) fit distinct sound h each in let lives = few.0 in record { lives = omega (arith, lives); going = few.1 });
+    few = (let few = few2 i names notes s r own xs k start a void cs (Some reply) fit distinct sound h each in let lives = few.0 in let fewer = h.fewer in record { lives = omega (arith, lives, fewer); going = few.1 });
     links = same_links;
-    calm = subst (EachOf (IsCalm (side_behind i r item).both.box)) (sym (effects_are i names notes s r own xs k start a void cs hs (Some reply) fit distinct sound h each))
-        (calm_left i (side_behind i r item).both.box number start a void cs hs (Some reply) enabled (λ x is. (all_calm_on r.both.box (side_behind i r item).both.box same_links (Send cid number reply ∷ []) (sends.takes, tt)).0));
+    calm = subst (EachOf (IsCalm (side_behind i r item).both.box)) (sym (effects_are i names notes s r own xs k start a void cs (Some reply) fit distinct sound h each))
+        (calm_left i (side_behind i r item).both.box number start a void cs (Some reply) enabled (λ x is. (all_calm_on r.both.box (side_behind i r item).both.box same_links (Send cid number reply ∷ []) (sends.takes, tt)).0));
     walk = λ o limits acts first late room rest led. walk o limits acts first late room rest led;
   }
 
 -- ---- it isn't
 
-module _ (i : Interface) (names : List Name) (notes : List Note) (s : State) (r : Side) (own : Option ℕ) (xs : List (Option ℕ)) (k : IsBetween i names notes s r own xs) (start : Start) (a : Arrival) (void : Option ℕ) (cs : List RulesCommand) (hs : List Arrival)
-    (fit : IsStepFit i r (left_item start a void cs hs None)) (distinct : are_distinct i.outbox.session.conns ≡ true) (sound : IsSound i.outbox (side_behind i r (left_item start a void cs hs None)).both.box)
-    (h : IsPastHead i names notes s r own xs (left_item start a void cs hs None) start a hs) (each : (p : RulesCommand → Bool) → count_by p cs ≤ count_by p (live r.both.trace)) where
+module _ (i : Interface) (names : List Name) (notes : List Note) (s : State) (r : Side) (own : Option ℕ) (xs : List (Option ℕ)) (k : IsBetween i names notes s r own xs) (start : Start) (a : Arrival) (void : Option ℕ) (cs : List RulesCommand)
+    (fit : IsStepFit i r (left_item start a void cs None)) (distinct : are_distinct i.outbox.session.conns ≡ true) (sound : IsSound i.outbox (side_behind i r (left_item start a void cs None)).both.box)
+    (h : IsHeaded i names notes s r own xs (left_item start a void cs None) start a) (each : (p : RulesCommand → Bool) → count_by p cs ≤ count_by p (live r.both.trace)) where
   abbrev silent_item : List Mark
-  silent_item = left_item start a void cs hs None
+  silent_item = left_item start a void cs None
 
   abbrev silent_tickets : List ℕ
   silent_tickets = tickets_of cs
 
   abbrev news : List RulesCommand
-  news = ns i names notes s r own xs k start a void cs hs None fit distinct sound h each
+  news = ns i names notes s r own xs k start a void cs None fit distinct sound h each
 
   abbrev box_behind : Box
   box_behind = after_item i.outbox r.both.box (effects_by i r silent_item)
 
   abbrev s_left : State
-  s_left = s2 i names notes s r own xs k start a void cs hs None fit distinct sound h each
+  s_left = s2 i names notes s r own xs k start a void cs None fit distinct sound h each
 
   abbrev r_left : Side
-  r_left = r2 i names notes s r own xs k start a void cs hs None fit distinct sound h each
+  r_left = r2 i names notes s r own xs k start a void cs None fit distinct sound h each
 
   abbrev gone : Box
   gone = left_box r.both.box a.request cs
 
   abbrev ended_all : List (Option ℕ)
-  ended_all = ((xs ++ ended_by names r cs) ++ h.taken) ++ Some (h.place) ∷ []
+  ended_all = (xs ++ ended_by names r cs) ++ Some (h.place) ∷ []
 
   many_links : length (map (without (contains silent_tickets)) r.both.box.links) ≡ length r.both.box.links
   many_links = length-map r.both.box.links (without (contains silent_tickets))
 
   settled : SettledTo names (silent_item ∷ r.both.trace) r.answers (λ q. of_conn q s.replies.waiting) (λ q. length (of_conn q s.noted.handed)) gone.links (settle i.outbox (in_phase phase_enabled (tickets_of news) gone))
-  settled = settled_to names (silent_item ∷ r.both.trace) r.answers (λ q. of_conn q s.replies.waiting) (λ q. length (of_conn q s.noted.handed)) i.outbox (in_phase phase_enabled (tickets_of news) gone) (queued2 i names notes s r own xs k start a void cs hs None fit distinct sound h each)
+  settled = settled_to names (silent_item ∷ r.both.trace) r.answers (λ q. of_conn q s.replies.waiting) (λ q. length (of_conn q s.noted.handed)) i.outbox (in_phase phase_enabled (tickets_of news) gone) (queued2 i names notes s r own xs k start a void cs None fit distinct sound h each)
 
   moved : IsMoved names s_left r_left box_behind
-  moved = subst (IsMoved names s_left r_left) (sym (box_is i names notes s r own xs k start a void cs hs None fit distinct sound h each)) (record {
+  moved = subst (IsMoved names s_left r_left) (sym (box_is i names notes s r own xs k start a void cs None fit distinct sound h each)) (record {
     long = settled.long;
     sent = settled_sent i.outbox [] r.both.box.undue (in_phase phase_enabled (tickets_of news) gone);
     queued = settled.all.queued;
@@ -298,23 +293,23 @@ module _ (i : Interface) (names : List Name) (notes : List Note) (s : State) (r 
   abbrev state_over : State
   state_over = record s { held = h.held; functions = h.functions; commands = record s.commands { items = map (gone_by cs) s.commands.items }; outbox = steps_after_item (effects_by i r silent_item) s.outbox }
 
-  requests_over : AreRequests names notes (λ q. ending None q + endings (((xs ++ ended_by names r cs) ++ h.taken) ++ Some (h.place) ∷ []) q) (λ q. []) state_over (side_behind i r silent_item)
-  requests_over = subst (λ as'. AreRequests names notes (λ q. ending None q + endings (((xs ++ ended_by names r cs) ++ h.taken) ++ Some (h.place) ∷ []) q) (λ q. []) state_over (record (side_behind i r silent_item) { answers = as' }))
-      (sym (append-nil r.answers) ∙ ap (λ as'. r.answers ++ as') (sym (answers_left r.both.event start a void cs hs None)))
-      (pending_as names notes (λ q. one (h.place == q) + endings ((xs ++ ended_by names r cs) ++ h.taken) q) (λ q. ending None q + endings (((xs ++ ended_by names r cs) ++ h.taken) ++ Some (h.place) ∷ []) q) (λ q. []) state_over (record (side_behind i r silent_item) { answers = r.answers })
-      (λ q. let all = endings_more ((xs ++ ended_by names r cs) ++ h.taken) (Some (h.place)) q in omega (arith, all))
-      (requests_moved names notes (λ q. one (h.place == q) + endings ((xs ++ ended_by names r cs) ++ h.taken) q) (λ q. []) s_left r_left (requests2 i names notes s r own xs k start a void cs hs None fit distinct sound h each) (steps_after_item (effects_by i r silent_item) s.outbox) box_behind (λ ticket. refl) moved))
+  requests_over : AreRequests names notes (λ q. ending None q + endings ((xs ++ ended_by names r cs) ++ Some (h.place) ∷ []) q) (λ q. []) state_over (side_behind i r silent_item)
+  requests_over = subst (λ as'. AreRequests names notes (λ q. ending None q + endings ((xs ++ ended_by names r cs) ++ Some (h.place) ∷ []) q) (λ q. []) state_over (record (side_behind i r silent_item) { answers = as' }))
+      (sym (append-nil r.answers) ∙ ap (λ as'. r.answers ++ as') (sym (answers_left r.both.event start a void cs None)))
+      (pending_as names notes (λ q. one (h.place == q) + endings (xs ++ ended_by names r cs) q) (λ q. ending None q + endings ((xs ++ ended_by names r cs) ++ Some (h.place) ∷ []) q) (λ q. []) state_over (record (side_behind i r silent_item) { answers = r.answers })
+      (λ q. let all = endings_more (xs ++ ended_by names r cs) (Some (h.place)) q in omega (arith, all))
+      (requests_moved names notes (λ q. one (h.place == q) + endings (xs ++ ended_by names r cs) q) (λ q. []) s_left r_left (requests2 i names notes s r own xs k start a void cs None fit distinct sound h each) (steps_after_item (effects_by i r silent_item) s.outbox) box_behind (λ ticket. refl) moved))
 
-  over_all : (q : ℕ) → 1 ≤ endings (((xs ++ ended_by names r cs) ++ h.taken) ++ Some (h.place) ∷ []) q → count_by (is_place q) h.held.places + count_lists (λ (f : WaitingFunction). f.request == q) h.functions.waiting ≡ 0
+  over_all : (q : ℕ) → 1 ≤ endings ((xs ++ ended_by names r cs) ++ Some (h.place) ∷ []) q → count_by (is_place q) h.held.places + count_lists (λ (f : WaitingFunction). f.request == q) h.functions.waiting ≡ 0
   over_all q some = by_test (h.place == q) refl
     where
       by_test : (v : Bool) → (h.place == q) ≡ v → count_by (is_place q) h.held.places + count_lists (λ (f : WaitingFunction). f.request == q) h.functions.waiting ≡ 0
       by_test true is = subst (λ p. count_by (is_place p) h.held.places + count_lists (λ (f : WaitingFunction). f.request == p) h.functions.waiting ≡ 0) (eqb-true h.place q is) h.over
       by_test false is =
           let none : one (h.place == q) ≡ 0 = ap one is in
-          over2 i names notes s r own xs k start a void cs hs None fit distinct sound h each q (let all = endings_more ((xs ++ ended_by names r cs) ++ h.taken) (Some (h.place)) q in omega (arith, some, all, none))
+          over2 i names notes s r own xs k start a void cs None fit distinct sound h each q (let all = endings_more (xs ++ ended_by names r cs) (Some (h.place)) q in omega (arith, some, all, none))
 
-  between_over : IsBetween i names notes state_over (side_behind i r silent_item) None (((xs ++ ended_by names r cs) ++ h.taken) ++ Some (h.place) ∷ [])
+  between_over : IsBetween i names notes state_over (side_behind i r silent_item) None ((xs ++ ended_by names r cs) ++ Some (h.place) ∷ [])
   between_over = record {
     requests = requests_over;
     slots = h.slots;
@@ -336,7 +331,7 @@ module _ (i : Interface) (names : List Name) (notes : List Note) (s : State) (r 
     counts = record {
       units = k.counts.units;
       last =
-          let same = ap length (entered_left r.both.trace silent_item cs (those i names notes s r own xs k start a void cs hs None fit distinct sound h each).none_enters (those i names notes s r own xs k start a void cs hs None fit distinct sound h each).left_by) in
+          let same = ap length (entered_left r.both.trace silent_item cs (those i names notes s r own xs k start a void cs None fit distinct sound h each).none_enters (those i names notes s r own xs k start a void cs None fit distinct sound h each).left_by) in
           let below = k.counts.last in
           omega (arith, same, below);
       tracked = last_then i names notes s r own xs k silent_item fit distinct sound;
@@ -350,7 +345,7 @@ module _ (i : Interface) (names : List Name) (notes : List Note) (s : State) (r 
   }
 
   links_over : SameLinks r.both.box (side_behind i r silent_item).both.box
-  links_over = subst (SameLinks r.both.box) (sym (box_is i names notes s r own xs k start a void cs hs None fit distinct sound h each)) (record {
+  links_over = subst (SameLinks r.both.box) (sym (box_is i names notes s r own xs k start a void cs None fit distinct sound h each)) (record {
     long = settled.long ∙ many_links;
     same = λ q short.
         let x : SameOut (link_in gone.links q) (link_in (settle i.outbox (in_phase phase_enabled (tickets_of news) gone)).links q) = settled.same q (omega (arith, short, many_links)) in
@@ -358,24 +353,24 @@ module _ (i : Interface) (names : List Name) (notes : List Note) (s : State) (r 
         record { conn = x.conn ∙ y.conn; takes = x.takes ∙ y.takes; left = x.left ∙ y.left };
   })
 
-  pub goes_left_over : ItemGoes i names notes s r own xs (left_item start a void cs hs None)
+  pub goes_left_over : ItemGoes i names notes s r own xs (left_item start a void cs None)
   goes_left_over = record {
     state = state_over;
-    ended = ((xs ++ ended_by names r cs) ++ h.taken) ++ Some (h.place) ∷ [];
+    ended = (xs ++ ended_by names r cs) ++ Some (h.place) ∷ [];
     between = between_over;
     outbox = refl;
     room = refl;
-    few = (let few = few2 i names notes s r own xs k start a void cs hs None fit distinct sound h each in let lives = few.0 in let long = length-append ((xs ++ ended_by names r cs) ++ h.taken) (Some (h.place) ∷ []) in record { lives = omega (arith, lives, long); going = few.1 });
+    few = (let few = few2 i names notes s r own xs k start a void cs None fit distinct sound h each in let lives = few.0 in let long = length-append (xs ++ ended_by names r cs) (Some (h.place) ∷ []) in let fewer = h.fewer in record { lives = omega (arith, lives, long, fewer); going = few.1 });
     links = links_over;
-    calm = subst (EachOf (IsCalm (side_behind i r silent_item).both.box)) (sym (effects_are i names notes s r own xs k start a void cs hs None fit distinct sound h each))
-        (calm_left i (side_behind i r silent_item).both.box (sn i names notes s r own xs k start a void cs hs None fit distinct sound h each) start a void cs hs None news (λ x is. absurd (let no : ⊥ = cc in no)));
+    calm = subst (EachOf (IsCalm (side_behind i r silent_item).both.box)) (sym (effects_are i names notes s r own xs k start a void cs None fit distinct sound h each))
+        (calm_left i (side_behind i r silent_item).both.box (sn i names notes s r own xs k start a void cs None fit distinct sound h each) start a void cs None news (λ x is. absurd (let no : ⊥ = cc in no)));
     walk = λ o limits acts first late room rest led.
-        leaves_past i names notes s r own xs k start a void cs hs None fit distinct sound h each o limits acts first late room rest
+        leaves_past i names notes s r own xs k start a void cs None fit distinct sound h each o limits acts first late room rest
         ∙ enables_past news rest (after_leaves o acts)
         ∙ led_end rest led (after_leaves o acts)
-        ∙ ap (on_effects false rest) (ends_with_it o state_over (acts ++ stops_in r silent_item) ((xs ++ ended_by names r cs) ++ h.taken) (Some (h.place)) None (Some (h.by)) r.both.box.sent)
-        ∙ ap (λ n. on_effects false rest (walk_at o state_over (acts ++ stops_in r silent_item) (((xs ++ ended_by names r cs) ++ h.taken) ++ Some (h.place) ∷ []) None n)) (sym moved.sent);
+        ∙ ap (on_effects false rest) (ends_with_it o state_over (acts ++ stops_in r silent_item) (xs ++ ended_by names r cs) (Some (h.place)) None (Some (h.by)) r.both.box.sent)
+        ∙ ap (λ n. on_effects false rest (walk_at o state_over (acts ++ stops_in r silent_item) ((xs ++ ended_by names r cs) ++ Some (h.place) ∷ []) None n)) (sym moved.sent);
   }
     where
       after_leaves : OutboxState → List Action → Walk
-      after_leaves o acts = walk_in o (s1' i names notes s r own xs k start a void cs hs None fit distinct sound h each) (acts ++ stops_in r silent_item) ((xs ++ ended_by names r cs) ++ h.taken) (Some (h.place)) None (Some (h.by)) r.both.box.sent
+      after_leaves o acts = walk_in o (s1' i names notes s r own xs k start a void cs None fit distinct sound h each) (acts ++ stops_in r silent_item) (xs ++ ended_by names r cs) (Some (h.place)) None (Some (h.by)) r.both.box.sent

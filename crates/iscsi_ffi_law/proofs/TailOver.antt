@@ -18,7 +18,7 @@ use Rattle.iscsi_outbox_law.specs.Pairs.{EachOf}
 use Rattle.iscsi_wire.specs.declared.reply.Reply.{Reply}
 use Rattle.std.specs.List.{list_any}
 use Rattle.iscsi_outbox_law.specs.Sound.{IsSound}
-use Rattle.iscsi_outbox_steps.specs.State.{State as OutboxState}
+use Rattle.iscsi_outbox_steps.specs.State.{State as OutboxState, limits_of}
 use Rattle.iscsi_outbox_steps.specs.Steps.{after_item as steps_after_item}
 use Rattle.iscsi_requests.specs.declared.functions.WaitingFunction.{WaitingFunction}
 use Rattle.iscsi_ffi_rules.specs.declared.action.Action.{Action}
@@ -39,7 +39,7 @@ use Rattle.iscsi_ffi_law.proofs.QuietRequests.{entered_on, requests_on}
 use Rattle.iscsi_ffi_law.proofs.Releases.{endings}
 use Rattle.iscsi_ffi_law.proofs.Releasing.{ending}
 use Rattle.iscsi_ffi_law.proofs.Stepping.{GoesOn, IsCalm, last_then, links_unmoved, runs_then, stands_then}
-use Rattle.iscsi_ffi_law.proofs.Walking.{ends_with_it, is_led, led_end, walk_at, walk_in, IsOutboxOf}
+use Rattle.iscsi_ffi_law.proofs.Walking.{ends_with_it, is_led, led_end, walk_at, walk_in}
 
 -- a number that is voided says nothing of requests
 pub voids_past : (void : Option ℕ) (rest : List Effect) (w : Walk) → on_effects false (void_effects void ++ rest) w ≡ on_effects false rest w
@@ -154,7 +154,7 @@ module _ (i : Interface) (names : List Name) (notes : List Note) (s : State) (r 
     own_first = λ p none. absurd (let no : ⊥ = cc in no);
   }
 
-  walk : (o : OutboxState) → IsOutboxOf i o → (acts : List Action) (first : Bool) → (first && is_late r.both.event item) ≡ false → (rest : List Effect) → is_led rest ≡ true
+  walk : (o : OutboxState) → o.limits ≡ limits_of i.outbox → (acts : List Action) (first : Bool) → (first && is_late r.both.event item) ≡ false → (rest : List Effect) → is_led rest ≡ true
       → on_effects first (effects_by i r item ++ rest) (walk_at o s acts xs own r.both.box.sent) ≡ on_effects false rest (walk_at o state' acts (xs ++ Some (h.place) ∷ []) None (side_behind i r item).both.box.sent)
   walk o limits acts first late rest led =
       ap (λ es. on_effects first (es ++ rest) (walk_at o s acts xs own r.both.box.sent)) effects_are

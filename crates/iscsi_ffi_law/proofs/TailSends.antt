@@ -1,5 +1,6 @@
 -- A request executes, and is answered: its use is that of the reply that waits.
-use Rattle.std.proofs.Common.{◌≡◌, ℕ, ◌+◌, ◌≤◌, ◌==◌, ◌&&◌, Bool, true, false, List, [], ◌∷◌, ◌++◌, length, count_by, Option, Some, None, is_some, refl, ap, sym, subst, ◌∙◌, arith, length-set}
+use Rattle.std.proofs.Common.{◌≡◌, ℕ, ◌+◌, ◌≤◌, ◌==◌, ◌&&◌, Bool, true, false, List, [], ◌∷◌, ◌++◌, length, count_by, Option, Some, None, refl, ap, sym, subst, ◌∙◌, arith, length-set}
+use Rattle.iscsi_ffi_law.proofs.KeptCounts.{held_or_waiting}
 use Rattle.std.specs.List.{filter_map, list_any}
 use Rattle.std.proofs.lemmas.List.{append_assoc}
 use Rattle.iscsi_wire.specs.declared.reply.Reply.{Reply}
@@ -20,9 +21,9 @@ use Rattle.iscsi_outbox_rules.specs.rules.Run.{new_link}
 use Rattle.iscsi_outbox_rules.specs.rules.Words.{is_running}
 use Rattle.iscsi_outbox_law.specs.Commands.{link_in}
 use Rattle.iscsi_outbox_law.specs.Sound.{IsSound}
-use Rattle.iscsi_outbox_steps.specs.State.{State as OutboxState, place_of}
+use Rattle.iscsi_outbox_steps.specs.State.{State as OutboxState, limits_of, place_of}
 use Rattle.iscsi_outbox_steps.specs.Steps.{after_item as steps_after_item}
-use Rattle.iscsi_requests.specs.Conns.{of_conn, count_all}
+use Rattle.iscsi_requests.specs.Conns.{of_conn}
 use Rattle.iscsi_requests.specs.Replies.{pushed}
 use Rattle.iscsi_ffi_rules.specs.declared.action.Action.{Action}
 use Rattle.iscsi_ffi_rules.specs.rules.Calls.{Interface}
@@ -63,7 +64,7 @@ use Rattle.iscsi_ffi_law.proofs.ReplyPlace.{conn_is as reply_conn, place_is as r
 use Rattle.iscsi_ffi_law.proofs.ReplyRequests.{IsReplied, requests_replied}
 use Rattle.iscsi_ffi_law.proofs.Stepping.{GoesOn, IsCalm, SameLinks, all_calm_on, last_then, places_same, runs_then, stands_then}
 use Rattle.iscsi_ffi_law.proofs.TailOver.{voids_past}
-use Rattle.iscsi_ffi_law.proofs.Walking.{is_led, led_end, sends_walk, walk_at, walk_in, IsOutboxOf}
+use Rattle.iscsi_ffi_law.proofs.Walking.{is_led, led_end, sends_walk, walk_at, walk_in}
 
 -- uses that have ended in an event are of requests that aren't held, also where the one that executes isn't any more
 pub over_still : (i : Interface) (names : List Name) (notes : List Note) (s : State) (r : Side) (own : Option ℕ) (xs : List (Option ℕ)) (k : IsBetween i names notes s r own xs) (item : List Mark) (start : Start) (a : Arrival) (h : IsHeaded i names notes s r own xs item start a)
@@ -74,11 +75,12 @@ over_still i names notes s r own xs k item start a h p some = by_own own refl
     by_own None is = let nothing : ending own p ≡ 0 = ap (λ z. ending z p) is in let before = k.over p some in omega (arith, h.uses p, nothing, before)
     by_own (Some q) is = absurd (let first : endings xs p ≡ 0 = ap (λ ys. endings ys p) (k.own_first q is) in let no : ⊥ = omega (arith, some, first) in no)
 
--- a request is answered by the item: it has a use that isn't any yet, which comes to be that of its reply
+-- a request is answered by the item: it has a use that isn't any yet, which comes to be that of its reply; `ended`: the uses that have ended behind it
 pub record IsAnswering (i : Interface) (names : List Name) (notes : List Note) (s : State) (r : Side) (own : Option ℕ) (xs : List (Option ℕ)) (item : List Mark) (x : Option Request) (cid event : ℕ) (reply : Reply) : Type 0 where
   pub held : HeldNumbers
   pub functions : WaitingFunctions
   pub place : ℕ
+  pub ended : List (Option ℕ)
   pub sn : ℕ
   pub effects : List Effect
   pub current : Option ℕ
@@ -89,20 +91,20 @@ pub record IsAnswering (i : Interface) (names : List Name) (notes : List Note) (
   pub part : IsQuietPart effects x (Some (cid, reply))
   pub answers : answers_in r.both.event item ≡ event ∷ []
   pub long : length held.places ≡ length s.held.places
-  pub fewer : count_by is_some held.places + count_all functions.waiting ≤ count_by is_some s.held.places + count_all s.functions.waiting
   pub long_functions : length functions.waiting ≡ length s.functions.waiting
   pub functions_are : AreFunctions (cids i) names functions (waiting (item ∷ r.both.trace))
   pub named : place_named names event ≡ Some place
-  pub uses : (p : ℕ) → count_by (is_place p) held.places + count_lists (λ (f : WaitingFunction). f.request == p) functions.waiting + (one (place == p) + endings xs p) ≡ count_held p s + count_functions p s + (ending own p + endings xs p)
+  pub uses : (p : ℕ) → count_by (is_place p) held.places + count_lists (λ (f : WaitingFunction). f.request == p) functions.waiting + (one (place == p) + endings ended p) ≡ count_held p s + count_functions p s + (ending own p + endings xs p)
+  pub few : length ended + held_or_waiting held functions ≤ length xs + held_or_waiting s.held s.functions + 1
   pub requests : EachOf (IsRequest (record s { held = held; functions = functions }) (item ∷ r.both.trace)) names
   pub noted : EachOf (IsNote (record s { held = held; functions = functions }) r.both.box.links) notes
   pub slots : AreHeld (size_for i.outbox.session.window) s.commands.room names held (item ∷ r.both.trace)
   pub distinct : AreDistinct (item ∷ r.both.trace)
-  pub over : (p : ℕ) → 1 ≤ endings xs p → count_by (is_place p) held.places + count_lists (λ (f : WaitingFunction). f.request == p) functions.waiting ≡ 0
+  pub over : (p : ℕ) → 1 ≤ endings ended p → count_by (is_place p) held.places + count_lists (λ (f : WaitingFunction). f.request == p) functions.waiting ≡ 0
   pub calm : (b : Box) → list_any (λ (l : Link). l.conn == cid && takes_more l) b.links ≡ true → EachOf (IsCalm b) effects
   pub of_it : ◌≡◌ {A = Option ℕ} (elim current [ Some q ↦ Some q | None ↦ own_then ]) (Some place)
-  pub walk : (o : OutboxState) → IsOutboxOf i o → (acts : List Action) (first : Bool) → (first && is_late r.both.event item) ≡ false → (rest : List Effect) (sent : ℕ)
-      → on_effects first (effects ++ rest) (walk_at o s acts xs own sent) ≡ on_effects false rest (on_effect false (Send cid sn reply) (walk_in o (record s { held = held; functions = functions }) acts xs current own_then by sent))
+  pub walk : (o : OutboxState) → o.limits ≡ limits_of i.outbox → (acts : List Action) (first : Bool) → (first && is_late r.both.event item) ≡ false → (rest : List Effect) (sent : ℕ)
+      → on_effects first (effects ++ rest) (walk_at o s acts xs own sent) ≡ on_effects false rest (on_effect false (Send cid sn reply) (walk_in o (record s { held = held; functions = functions }) acts ended current own_then by sent))
 
 module _ (i : Interface) (names : List Name) (notes : List Note) (s : State) (r : Side) (own : Option ℕ) (xs : List (Option ℕ)) (k : IsBetween i names notes s r own xs) (item : List Mark) (x : Option Request) (cid event : ℕ) (reply : Reply)
     (fit : IsStepFit i r item) (distinct : are_distinct i.outbox.session.conns ≡ true) (sound : IsSound i.outbox (side_behind i r item).both.box) (h : IsAnswering i names notes s r own xs item x cid event reply) where
@@ -140,14 +142,14 @@ module _ (i : Interface) (names : List Name) (notes : List Note) (s : State) (r 
   r1 = record r { both = record r.both { trace = item ∷ r.both.trace } }
 
   abbrev pending1 : ℕ → ℕ
-  pending1 q = one (h.place == q) + endings xs q
+  pending1 q = one (h.place == q) + endings h.ended q
 
   requests1 : AreRequests names notes pending1 (λ q. []) s1 r1
   requests1 = requests_on names notes (λ q. ending own q + endings xs q) (λ q. []) s r k.requests item h.untouched r.both.event h.held h.functions pending1 (λ q. omega (arith, h.uses q)) h.requests h.noted
 
   replied : IsReplied names s1 r1 event there.place h.place (after_item i.outbox r.both.box (effects_by i r item))
   replied = subst (IsReplied names s1 r1 event there.place h.place) (sym (box_is ∙ ap (settle i.outbox) (sym (none_turned phase_enabled sent_box))))
-      (sends_reply i names s1 r1 requests1.answers (all_queued i names notes pending1 (λ q. []) s1 r1 requests1 k.outbox distinct fit.fit.sound) [] [] [] event there.place h.place cid there.within conn_is takes_it sends.takes long h.named x reply)
+      (sends_reply i names s1 r1 requests1.answers (all_queued i names notes pending1 (λ q. []) s1 r1 requests1 k.outbox distinct fit.fit.sound) [] event there.place h.place cid there.within conn_is takes_it sends.takes long h.named x reply [] [])
 
   runs : (ticket : ℕ) → is_running (after_item i.outbox r.both.box (effects_by i r item)) ticket ≡ is_running r.both.box ticket
   runs ticket =
@@ -157,12 +159,12 @@ module _ (i : Interface) (names : List Name) (notes : List Note) (s : State) (r 
   abbrev state' : State
   state' = record s { held = h.held; functions = h.functions; outbox = steps_after_item (effects_by i r item) s.outbox; replies = pushed there.place (record { log_place = r.both.box.sent; request = h.place }) s.replies }
 
-  requests2 : AreRequests names notes (λ q. ending None q + endings xs q) (λ q. []) state' (side_behind i r item)
-  requests2 = subst (λ as'. AreRequests names notes (λ q. ending None q + endings xs q) (λ q. []) state' (record (side_behind i r item) { answers = r.answers ++ as' })) (sym h.answers)
-      (requests_replied names notes pending1 (λ q. ending None q + endings xs q) (λ q. []) s1 r1 requests1 event there.place h.place (λ q. omega arith) there.within long h.named sends.handed outbox' (after_item i.outbox r.both.box (effects_by i r item))
+  requests2 : AreRequests names notes (λ q. ending None q + endings h.ended q) (λ q. []) state' (side_behind i r item)
+  requests2 = subst (λ as'. AreRequests names notes (λ q. ending None q + endings h.ended q) (λ q. []) state' (record (side_behind i r item) { answers = r.answers ++ as' })) (sym h.answers)
+      (requests_replied names notes pending1 (λ q. ending None q + endings h.ended q) (λ q. []) s1 r1 requests1 event there.place h.place (λ q. omega arith) there.within long h.named sends.handed outbox' (after_item i.outbox r.both.box (effects_by i r item))
       (runs_then i names notes s r own xs k item fit distinct sound runs) replied)
 
-  between : IsBetween i names notes state' (side_behind i r item) None xs
+  between : IsBetween i names notes state' (side_behind i r item) None h.ended
   between = record {
     requests = requests2;
     slots = h.slots;
@@ -195,19 +197,19 @@ module _ (i : Interface) (names : List Name) (notes : List Note) (s : State) (r 
       (record { room = k.sizes.room; functions = h.long_functions ∙ k.sizes.functions; replies = k.sizes.replies; noted = k.sizes.noted; unwritten = k.sizes.unwritten; noted_room = k.sizes.noted_room; unwritten_room = k.sizes.unwritten_room; replies_room = k.sizes.replies_room; slots = (let l = h.long in let some = k.sizes.slots in omega (arith, l, some)); few = k.sizes.few })
       sends.sent sends.replies
 
-  walk : (o : OutboxState) → IsOutboxOf i o → (acts : List Action) (first : Bool) → (first && is_late r.both.event item) ≡ false → (rest : List Effect) → is_led rest ≡ true
-      → on_effects first (effects_by i r item ++ rest) (walk_at o s acts xs own r.both.box.sent) ≡ on_effects false rest (walk_at o state' acts xs None (side_behind i r item).both.box.sent)
+  walk : (o : OutboxState) → o.limits ≡ limits_of i.outbox → (acts : List Action) (first : Bool) → (first && is_late r.both.event item) ≡ false → (rest : List Effect) → is_led rest ≡ true
+      → on_effects first (effects_by i r item ++ rest) (walk_at o s acts xs own r.both.box.sent) ≡ on_effects false rest (walk_at o state' acts h.ended None (side_behind i r item).both.box.sent)
   walk o limits acts first late rest led =
       ap (λ es. on_effects first (es ++ rest) (walk_at o s acts xs own r.both.box.sent)) h.effects_are
       ∙ h.walk o limits acts first late rest r.both.box.sent
       ∙ ap (on_effects false rest)
-      (sends_walk o s1 acts xs cid h.sn there.place h.place reply h.current h.own_then h.by r.both.box.sent (places_same i names notes s r own xs k item fit distinct sound o limits cid ∙ place_is) h.of_it may
+      (sends_walk o s1 acts h.ended cid h.sn there.place h.place reply h.current h.own_then h.by r.both.box.sent (places_same i names notes s r own xs k item fit distinct sound o limits cid ∙ place_is) h.of_it may
       (let lt = sends.sent in omega (arith, lt)))
       ∙ led_end rest led after_send
-      ∙ ap (λ n. on_effects false rest (walk_at o state' acts xs None n)) (sym replied.sent)
+      ∙ ap (λ n. on_effects false rest (walk_at o state' acts h.ended None n)) (sym replied.sent)
     where
       after_send : Walk
-      after_send = walk_in o (record s1 { replies = pushed there.place (record { log_place = r.both.box.sent; request = h.place }) s.replies }) acts xs None None h.by (r.both.box.sent + 1)
+      after_send = walk_in o (record s1 { replies = pushed there.place (record { log_place = r.both.box.sent; request = h.place }) s.replies }) acts h.ended None None h.by (r.both.box.sent + 1)
 
   same_links : SameLinks r.both.box (side_behind i r item).both.box
   same_links = record { long = replied.long; same = replied.same }
@@ -215,11 +217,11 @@ module _ (i : Interface) (names : List Name) (notes : List Note) (s : State) (r 
   pub goes_sent : GoesOn i names notes s r own xs item
   goes_sent = record {
     state = state';
-    ended = xs;
+    ended = h.ended;
     between = between;
     outbox = refl;
     room = refl;
-    few = (let fewer = h.fewer in record { lives = omega (arith, fewer); going = omega arith });
+    few = record { lives = (let few = h.few in omega (arith, few)); going = omega arith };
     links = same_links;
     calm = subst (EachOf (IsCalm (side_behind i r item).both.box)) (sym h.effects_are) (h.calm (side_behind i r item).both.box (all_calm_on r.both.box (side_behind i r item).both.box same_links (Send cid h.sn reply ∷ []) (sends.takes, tt)).0);
     walk = λ o limits acts first late rest led. walk o limits acts first late rest led;
@@ -242,6 +244,7 @@ module _ (i : Interface) (names : List Name) (notes : List Note) (s : State) (r 
     held = h.held;
     functions = h.functions;
     place = h.place;
+    ended = xs;
     sn = number;
     effects = plain_effects number start a void None (Some reply) [];
     current = Some (h.place);
@@ -253,11 +256,11 @@ module _ (i : Interface) (names : List Name) (notes : List Note) (s : State) (r 
     part = quiet_plain number start a void (Some reply);
     answers = answers_plain r.both.event start a void None (Some reply);
     long = h.long;
-    fewer = h.fewer;
     long_functions = h.long_functions;
     functions_are = h.functions_are;
     named = h.named;
     uses = h.uses;
+    few = (let fewer = h.fewer in omega (arith, fewer));
     requests = h.requests;
     noted = h.noted;
     slots = h.slots;
@@ -288,6 +291,7 @@ module _ (i : Interface) (names : List Name) (notes : List Note) (s : State) (r 
     held = s.held;
     functions = s.functions;
     place = place;
+    ended = xs;
     sn = stat_sn_of i.outbox.session r.both.trace cid;
     effects = Send cid (stat_sn_of i.outbox.session r.both.trace cid) reply ∷ [];
     current = None;
@@ -298,11 +302,11 @@ module _ (i : Interface) (names : List Name) (notes : List Note) (s : State) (r 
     part = record { enables = refl; left = refl; entries = refl; entering = λ x. refl; closing = λ links. refl; executes = refl; sends = refl };
     answers = refl;
     long = refl;
-    fewer = omega arith;
     long_functions = refl;
     functions_are = k.functions;
     named = k.own_named place refl;
     uses = λ p. omega arith;
+    few = omega arith;
     requests = each-weaken (IsRequest s r.both.trace) (IsRequest s (rejection ∷ r.both.trace)) names (λ n e. record { held = is_held_on r.both.trace rejection v n.event ∙ e.held; waiting = e.waiting }) k.requests.named;
     noted = k.requests.noted_apart;
     slots = slots_same (size_for i.outbox.session.window) s.commands.room names s.held r.both.trace (rejection ∷ r.both.trace) (held_same r.both.trace rejection v) k.slots;

@@ -1,5 +1,5 @@
 -- The items of an event by which a request arrives: what the first one is, and that those behind it are due by it.
-use Rattle.std.proofs.Common.{◌≡◌, ℕ, zero, suc, ◌+◌, ◌-◌, ◌<◌, ◌==◌, ◌&&◌, ◌||◌, ⊎_elim, not, cond, Bool, true, false, List, [], ◌∷◌, ◌++◌, filter, Option, Some, None, refl, ap, sym, subst, ◌∙◌, nat_lt, nat_le}
+use Rattle.std.proofs.Common.{◌≡◌, ℕ, zero, suc, ◌+◌, ◌-◌, ◌<◌, ◌==◌, ◌&&◌, ◌||◌, ⊎_elim, not, cond, Bool, true, false, List, [], ◌∷◌, ◌++◌, filter, Option, Some, None, refl, ap, subst, sym, ◌∙◌, nat_lt, nat_le}
 use Rattle.std.proofs.lemmas.Bool.{cases_lt, false≢true, le-leb}
 use Rattle.iscsi_wire.specs.declared.reply.Reply.{Reply}
 use Rattle.iscsi_wire.specs.declared.reply.Reply.TheVariants.{Reject, Task}
@@ -13,12 +13,12 @@ use Rattle.iscsi_history.specs.rules.Execution.{exp_of, ignored, max_of, rejecte
 use Rattle.iscsi_history.specs.rules.Items.{agenda, at_number, execution, function_item, functions, functions_at, immediate_item, is_waiting, item_of, turn_at, waiting_item}
 use Rattle.iscsi_history.specs.rules.Management.{MOST_WAITING, may_wait, refusal_of_function, waiting_on}
 use Rattle.iscsi_history.specs.rules.Settings.{Setting}
-use Rattle.iscsi_history.specs.rules.Trace.{Admits, Arrival, Executes, Ignores, Mark, Trace, Waits, after_items, held, is_closed, is_received, waiting}
+use Rattle.iscsi_history.specs.rules.Trace.{Admits, Arrival, Delivers, Executes, Ignores, Mark, Trace, Waits, after_items, held, is_closed, is_received, waiting}
 use Rattle.iscsi_history.proofs.FormItems.{Does, does_after, does_function, does_reply}
 use Rattle.iscsi_history.proofs.Forms.{AfterWaiting, AtArrival, AtTurn, Deeds, IsDone, Start, marks_done, start_mark}
 use Rattle.iscsi_history.proofs.HeldLemmas.{held-number}
 use Rattle.iscsi_outbox_rules.proofs.ClosedParts.{EachOn}
-use Rattle.iscsi_ffi_law.proofs.Alone.{IsAlone, alone_after, alone_function, alone_reply}
+use Rattle.iscsi_ffi_law.proofs.Opens.{OpensIf, opens_after, opens_function, opens_reply}
 
 -- why an item is due that isn't the first one
 abbrev pub IsDueBy : Trace → Start → Arrival → Type 0
@@ -33,7 +33,7 @@ pub record IsDue (o : Setting) (t : Trace) (item : List Mark) : Type 0 where
   pub is : item ≡ start_mark start a ∷ marks_done a deeds
   pub due : IsDueBy t start a
   pub done : IsDone o t start a deeds
-  pub alone : IsAlone (marks_done a deeds)
+  pub opens : OpensIf a (marks_done a deeds)
 
 module _ (o : Setting) where
   abbrev pub AreDue : Trace → List (List Mark) → Type 0
@@ -43,21 +43,21 @@ module _ (o : Setting) where
   due-append t [] ys h k = k
   due-append t (x ∷ xs) ys h k = (h.0, due-append (x ∷ t) xs ys h.1 k)
 
-  due_by : (t : Trace) (start : Start) (a : Arrival) (ms : List Mark) → IsDueBy t start a → Does o t start a ms → IsAlone ms → IsDue o t (start_mark start a ∷ ms)
-  due_by t start a ms due d alone = record { start = start; a = a; deeds = d.deeds; is = ap (λ xs. start_mark start a ∷ xs) d.is; due = due; done = d.done; alone = subst IsAlone d.is alone }
+  due_by : (t : Trace) (start : Start) (a : Arrival) (ms : List Mark) → IsDueBy t start a → Does o t start a ms → OpensIf a ms → IsDue o t (start_mark start a ∷ ms)
+  due_by t start a ms due d opens = record { start = start; a = a; deeds = d.deeds; is = ap (λ xs. start_mark start a ∷ xs) d.is; due = due; done = d.done; opens = subst (OpensIf a) d.is opens }
 
   functions_due : (as' : List Arrival) (t : Trace) → AreDue t (functions o as' t)
   functions_due [] t = tt
   functions_due (a ∷ as') t =
       elim (is_waiting a t) as (λ b. is_waiting a t ≡ b → AreDue t (let due : List (List Mark) = cond b (function_item o t a ∷ []) [] in due ++ functions o as' (after_items due t))) [
-        | true ↦ λ is. (due_by t AfterWaiting a _ is (does_function o t AfterWaiting a) (alone_function o ((start_mark AfterWaiting a ∷ []) ∷ t) a), functions_due as' (function_item o t a ∷ t))
+        | true ↦ λ is. (due_by t AfterWaiting a _ is (does_function o t AfterWaiting a) (opens_function o ((Executes a ∷ []) ∷ t) a), functions_due as' (function_item o t a ∷ t))
         | false ↦ λ is. functions_due as' t
       ] refl
 
   turn_due : (n : ℕ) (t : Trace) → AreDue t (turn_at o n t)
   turn_due n t =
       elim (held t n) as (λ y. held t n ≡ y → AreDue t (elim y [ Some a ↦ item_of o t a ∷ [] | None ↦ [] ])) [
-        | Some a ↦ λ is. (due_by t AtTurn a _ (ap (held t) (held-number t n a is) ∙ is) (does_after o t AtTurn a) (alone_after o ((start_mark AtTurn a ∷ []) ∷ t) a), tt)
+        | Some a ↦ λ is. (due_by t AtTurn a _ (ap (held t) (held-number t n a is) ∙ is) (does_after o t AtTurn a) (opens_after o ((Delivers a ∷ []) ∷ t) a), tt)
         | None ↦ λ is. tt
       ] refl
 
@@ -75,7 +75,7 @@ module _ (o : Setting) where
     IsIgnored : (why : Why) → items ≡ (Ignores why ∷ []) ∷ [] → Becomes t a items
     IsRejected : items ≡ rejected a ∷ [] → Becomes t a items
     IsReceived : (rest : List (List Mark)) → is_immediate a.request ≡ false → is_received t a.number ≡ false → items ≡ (Admits a ∷ []) ∷ rest → AreDue ((Admits a ∷ []) ∷ t) rest → Becomes t a items
-    IsExecuted : (d : Deeds) (rest : List (List Mark)) → is_immediate a.request ≡ true → IsDone o t AtArrival a d → IsAlone (marks_done a d) → items ≡ (Executes a ∷ marks_done a d) ∷ rest → AreDue ((Executes a ∷ marks_done a d) ∷ t) rest → Becomes t a items
+    IsExecuted : (d : Deeds) (rest : List (List Mark)) → is_immediate a.request ≡ true → IsDone o t AtArrival a d → OpensIf a (marks_done a d) → items ≡ (Executes a ∷ marks_done a d) ∷ rest → AreDue ((Executes a ∷ marks_done a d) ∷ t) rest → Becomes t a items
     IsPostponed : (rest : List (List Mark)) → is_immediate a.request ≡ true → waiting_on (connection_of a.request) t < MOST_WAITING → items ≡ (Waits a ∷ []) ∷ rest → AreDue ((Waits a ∷ []) ∷ t) rest → Becomes t a items
 
   turns : (t : Trace) (item : List Mark) → AreDue (item ∷ t) (agenda o (exp_of o t) (exp_of o (item ∷ t) - exp_of o t) (item ∷ t))
@@ -86,43 +86,43 @@ module _ (o : Setting) where
     deeds : Deeds
     is : item ≡ Executes a ∷ marks_done a deeds
     done : IsDone o t AtArrival a deeds
-    alone : IsAlone (marks_done a deeds)
+    opens : OpensIf a (marks_done a deeds)
 
   data AtOnce (t : Trace) (a : Arrival) (item : List Mark) : Type 0 where
     Now : Starts t a item → AtOnce t a item
     Later : waiting_on (connection_of a.request) t < MOST_WAITING → item ≡ Waits a ∷ [] → AtOnce t a item
 
-  starts : (t : Trace) (a : Arrival) (ms : List Mark) → Does o t AtArrival a ms → IsAlone ms → AtOnce t a (Executes a ∷ ms)
-  starts t a ms d alone = Now (record { deeds = d.deeds; is = ap (λ xs. Executes a ∷ xs) d.is; done = d.done; alone = subst IsAlone d.is alone })
+  starts : (t : Trace) (a : Arrival) (ms : List Mark) → Does o t AtArrival a ms → OpensIf a ms → AtOnce t a (Executes a ∷ ms)
+  starts t a ms d opens = Now (record { deeds = d.deeds; is = ap (λ xs. Executes a ∷ xs) d.is; done = d.done; opens = subst (OpensIf a) d.is opens })
 
   waiting_once : (t : Trace) (a : Arrival) → AtOnce t a (waiting_item o t a)
   waiting_once t a = by_tests (nat_lt (max_of o t + 1) a.number) (nat_lt (exp_of o t) a.number) (nat_le MOST_WAITING (waiting_on (connection_of a.request) t)) refl
     where
       by_tests : (b c d : Bool) → nat_le MOST_WAITING (waiting_on (connection_of a.request) t) ≡ d
           → AtOnce t a (cond b (Executes a ∷ reply_on a (Task (itt a.request) 255)) (cond (not c) (execution o t (Executes a) a) (cond d (Executes a ∷ reply_on a (Reject 6 (header_of a.request))) (Waits a ∷ []))))
-      by_tests true c d is = starts t a _ (does_reply o t AtArrival a (Task (itt a.request) 255) refl) (alone_reply a (Task (itt a.request) 255))
-      by_tests false false d is = starts t a _ (does_after o t AtArrival a) (alone_after o ((start_mark AtArrival a ∷ []) ∷ t) a)
-      by_tests false true true is = starts t a _ (does_reply o t AtArrival a (Reject 6 (header_of a.request)) refl) (alone_reply a (Reject 6 (header_of a.request)))
+      by_tests true c d is = starts t a _ (does_reply o t AtArrival a (Task (itt a.request) 255) refl) (opens_reply a (Task (itt a.request) 255))
+      by_tests false false d is = starts t a _ (does_after o t AtArrival a) (opens_after o ((Executes a ∷ []) ∷ t) a)
+      by_tests false true true is = starts t a _ (does_reply o t AtArrival a (Reject 6 (header_of a.request)) refl) (opens_reply a (Reject 6 (header_of a.request)))
       by_tests false true false is = Later (⊎_elim (λ few. few) (λ many. absurd (false≢true (sym is ∙ le-leb MOST_WAITING (waiting_on (connection_of a.request) t) many))) (cases_lt (waiting_on (connection_of a.request) t) MOST_WAITING)) refl
 
   immediate_once : (t : Trace) (a : Arrival) → AtOnce t a (immediate_item o t a)
   immediate_once t a = by_tests (opcode a.request == 0x02 && may_wait a.request) (refusal_of_function o a.request)
     where
       by_tests : (b : Bool) (x : Option Reply) → AtOnce t a (cond b (elim x [ Some reply ↦ execution o t (Executes a) a | None ↦ waiting_item o t a ]) (execution o t (Executes a) a))
-      by_tests true (Some reply) = starts t a _ (does_after o t AtArrival a) (alone_after o ((start_mark AtArrival a ∷ []) ∷ t) a)
+      by_tests true (Some reply) = starts t a _ (does_after o t AtArrival a) (opens_after o ((Executes a ∷ []) ∷ t) a)
       by_tests true None = waiting_once t a
-      by_tests false x = starts t a _ (does_after o t AtArrival a) (alone_after o ((start_mark AtArrival a ∷ []) ∷ t) a)
+      by_tests false x = starts t a _ (does_after o t AtArrival a) (opens_after o ((Executes a ∷ []) ∷ t) a)
 
   immediate_becomes : (t : Trace) (a : Arrival) → is_immediate a.request ≡ true → Becomes t a (with_turns o t (immediate_item o t a))
   immediate_becomes t a is = by_item (immediate_item o t a) refl (immediate_once t a)
     where
       by_item : (item : List Mark) → immediate_item o t a ≡ item → AtOnce t a item → Becomes t a (with_turns o t item)
       by_item item same (Now s) =
-          elim_is item (Executes a ∷ marks_done a s.deeds) s.is s.done s.alone s.deeds refl
+          elim_is item (Executes a ∷ marks_done a s.deeds) s.is s.done s.deeds refl
         where
-          elim_is : (x y : List Mark) → x ≡ y → IsDone o t AtArrival a s.deeds → IsAlone (marks_done a s.deeds) → (d : Deeds) → y ≡ Executes a ∷ marks_done a s.deeds → Becomes t a (with_turns o t x)
-          elim_is x y xy done alone d yd =
-              IsExecuted s.deeds (agenda o (exp_of o t) (exp_of o ((Executes a ∷ marks_done a s.deeds) ∷ t) - exp_of o t) ((Executes a ∷ marks_done a s.deeds) ∷ t)) is done alone (ap (with_turns o t) (xy ∙ yd)) (turns t (Executes a ∷ marks_done a s.deeds))
+          elim_is : (x y : List Mark) → x ≡ y → IsDone o t AtArrival a s.deeds → (d : Deeds) → y ≡ Executes a ∷ marks_done a s.deeds → Becomes t a (with_turns o t x)
+          elim_is x y xy done d yd =
+              IsExecuted s.deeds (agenda o (exp_of o t) (exp_of o ((Executes a ∷ marks_done a s.deeds) ∷ t) - exp_of o t) ((Executes a ∷ marks_done a s.deeds) ∷ t)) is done s.opens (ap (with_turns o t) (xy ∙ yd)) (turns t (Executes a ∷ marks_done a s.deeds))
       by_item item same (Later few waits) =
           IsPostponed (agenda o (exp_of o t) (exp_of o ((Waits a ∷ []) ∷ t) - exp_of o t) ((Waits a ∷ []) ∷ t)) is few (ap (with_turns o t) waits) (turns t (Waits a ∷ []))
 

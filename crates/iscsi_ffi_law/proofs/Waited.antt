@@ -4,7 +4,7 @@ use Rattle.std.specs.List.{list_any, position}
 use Rattle.std.proofs.lemmas.Bool.{cases_lt, false≢true}
 use Rattle.std.proofs.lemmas.List.{get_or-map, length-map}
 use Rattle.iscsi_wire.specs.declared.reply.Reply.{Reply}
-use Rattle.iscsi_wire.specs.Fields.{connection_of, cmd_sn}
+use Rattle.iscsi_wire.specs.Fields.{connection_of}
 use Rattle.iscsi_history.specs.rules.Settings.{are_distinct, is_known}
 use Rattle.iscsi_history.specs.rules.Trace.{Arrival, Command as RulesCommand, Mark, held, shown, waiting}
 use Rattle.iscsi_history.proofs.CountLemmas.{one}
@@ -17,8 +17,8 @@ use Rattle.iscsi_outbox_law.specs.Commands.{is_under_way, link_in}
 use Rattle.iscsi_outbox_law.proofs.PairLemmas.{each-weaken}
 use Rattle.iscsi_outbox_law.proofs.PlaceLemmas.{IsPlace, conns_of, known_any, one_place}
 use Rattle.iscsi_outbox_law.proofs.Standing.{cids_are, links_apart, stands_nowhere, stands_there}
-use Rattle.iscsi_outbox_steps.specs.State.{Limits, State as OutboxState, place_of}
-use Rattle.iscsi_requests.specs.Functions.{WaitingFunctions, without_number}
+use Rattle.iscsi_outbox_steps.specs.State.{Limits, State as OutboxState, limits_of, place_of}
+use Rattle.iscsi_requests.specs.Functions.{WaitingFunctions}
 use Rattle.iscsi_requests.specs.Numbers.{size_for}
 use Rattle.iscsi_requests.specs.declared.functions.WaitingFunction.{WaitingFunction}
 use Rattle.iscsi_ffi_rules.specs.declared.action.Action.{Action}
@@ -34,16 +34,14 @@ use Rattle.iscsi_ffi_law.specs.Parts.{AreFunctions, IsNote, IsRequest}
 use Rattle.iscsi_ffi_law.specs.Uses.{count_functions, count_held, count_lists}
 use Rattle.iscsi_ffi_law.proofs.Asked.{find_nothing}
 use Rattle.iscsi_ffi_law.proofs.Between.{IsBetween, IsHeaded, distinct_same, held_same}
-use Rattle.iscsi_ffi_law.proofs.Functions.{both, count_left, it_waits, left, left_are, long_left, number_found, waits_left}
+use Rattle.iscsi_ffi_law.proofs.Functions.{both, count_left, it_waits, left, left_are, long_left, number_found, waits_left, less_left}
 use Rattle.iscsi_ffi_law.proofs.Members.{each_in, in_counted, in_each}
 use Rattle.iscsi_ffi_law.proofs.NameLemmas.{Named, found_named, place_event}
 use Rattle.iscsi_ffi_law.proofs.Plain.{plain_item, start_effect, unheld_marks, waits_arrival}
 use Rattle.iscsi_ffi_law.proofs.QuietItems.{IsUnheld, is_held_on}
 use Rattle.iscsi_ffi_law.proofs.Releases.{endings}
 use Rattle.iscsi_ffi_law.proofs.Slots.{slots_same}
-use Rattle.iscsi_ffi_law.proofs.Walking.{walk_at, walk_in, IsOutboxOf}
-use Rattle.iscsi_ffi_law.proofs.FitSizes.{count_set, fewer_numbers}
-use Rattle.iscsi_requests.specs.Conns.{of_conn}
+use Rattle.iscsi_ffi_law.proofs.Walking.{walk_at, walk_in}
 
 -- where a connection stands among the CIDs
 pub record IsCid (i : Interface) (cid p : ℕ) : Type 0 where
@@ -152,11 +150,11 @@ module _ (i : Interface) (names : List Name) (notes : List Note) (s : State) (r 
     functions = rest;
     place = its.request;
     long = refl;
-    fewer = (let put = count_set s.functions.waiting place.0 (without_number (cmd_sn a.request) (of_conn place.0 s.functions.waiting)) in let less = fewer_numbers (cmd_sn a.request) (of_conn place.0 s.functions.waiting) in omega (arith, put, less));
     long_functions = long_left (cids i) names notes s.functions (waiting r.both.trace) k.functions k.sizes.functions once a first place.0 place.1.1.within place.1.1.at place.1.1.apart;
     functions_are = subst (AreFunctions (cids i) names rest) (sym waits) (left_are (cids i) names notes s.functions (waiting r.both.trace) k.functions k.sizes.functions once a first place.0 place.1.1.within place.1.1.at place.1.1.apart);
     named = named;
     uses = λ p. omega (arith, counted p);
+    fewer = (let less = less_left (cids i) names notes s.functions (waiting r.both.trace) k.functions k.sizes.functions once a first place.0 place.1.1.within place.1.1.at place.1.1.apart in omega (arith, less));
     requests = in_each (IsRequest (record s { functions = rest }) (plain_item AfterWaiting a void entering reply ∷ r.both.trace)) names
         (λ n there. let q : IsRequest s r.both.trace n = each_in (IsRequest s r.both.trace) names n there k.requests.named in
         record { held = is_held_on r.both.trace (plain_item AfterWaiting a void entering reply) u n.event ∙ q.held; waiting = still n there q (a.event == n.event) refl });
@@ -171,10 +169,10 @@ module _ (i : Interface) (names : List Name) (notes : List Note) (s : State) (r 
     walk = λ o limits acts early sent late. by_first early late o limits acts sent;
   }
     where
-      by_first : (early : Bool) → (early && not (a.event == r.both.event)) ≡ false → (o : OutboxState) → IsOutboxOf i o → (acts : List Action) (sent : ℕ)
+      by_first : (early : Bool) → (early && not (a.event == r.both.event)) ≡ false → (o : OutboxState) → o.limits ≡ limits_of i.outbox → (acts : List Action) (sent : ℕ)
           → on_effect early (start_effect AfterWaiting a.request) (walk_at o s acts xs None sent) ≡ walk_in o (record s { held = s.held; functions = rest }) acts xs (Some (its.request)) None (Some (reason_by a.request (Some (its.request)))) sent
       by_first true late o limits acts sent = absurd (false≢true (sym late ∙ ap not other))
       by_first false late o limits acts sent =
-          ap (λ z. function_on a.request z (walk_at o s acts xs None sent)) (ap (λ (l : Limits). position (λ (c : ℕ). c == connection_of a.request) l.cids) (limits.limits ∙ sym k.outbox.sizes.limits) ∙ place.1.0)
+          ap (λ z. function_on a.request z (walk_at o s acts xs None sent)) (ap (λ (l : Limits). position (λ (c : ℕ). c == connection_of a.request) l.cids) (limits ∙ sym k.outbox.sizes.limits) ∙ place.1.0)
           ∙ ap (λ z. executes a.request z (walking (in_state (λ t. record t { functions = rest })) (walk_at o s acts xs None sent)))
           (number_found (cids i) names notes s.functions (waiting r.both.trace) k.functions k.sizes.functions once a first place.0 place.1.1.within place.1.1.at place.1.1.apart)

@@ -1,12 +1,12 @@
 -- The walk over the effects of an item, from between two items of an event to between the next two.
-use Rattle.std.proofs.Common.{◌≡◌, ℕ, ◌+◌, ◌%◌, ◌^◌, cond, Bool, true, false, List, [], ◌∷◌, ◌++◌, Option, Some, None, refl, ap, sym, ◌∙◌, length}
+use Rattle.std.proofs.Common.{◌≡◌, ℕ, ◌+◌, ◌%◌, ◌^◌, cond, Bool, true, false, List, [], ◌∷◌, ◌++◌, Option, Some, None, refl, ap, sym, ◌∙◌}
 use Rattle.std.proofs.lemmas.Bool.{false≢true}
 use Rattle.iscsi_wire.specs.declared.reply.Reply.{Reply}
 use Rattle.iscsi_history.specs.declared.effect.Effect.{Effect}
 use Rattle.iscsi_history.specs.declared.effect.Effect.TheVariants.{CloseConn, CloseSession, Deliver, Empty, Enable, Enter, Ignore, Immediate, Leave, Send, Void, Wait}
 use Rattle.iscsi_history.specs.promises.Order.{is_request}
 use Rattle.iscsi_history.specs.rules.Trace.{Command as RulesCommand}
-use Rattle.iscsi_outbox_steps.specs.State.{State as OutboxState, place_of, limits_of}
+use Rattle.iscsi_outbox_steps.specs.State.{State as OutboxState, place_of}
 use Rattle.iscsi_requests.specs.Replies.{pushed}
 use Rattle.iscsi_ffi_commands.specs.declared.command.Command.{Command}
 use Rattle.iscsi_ffi_commands.specs.declared.command.Stage.TheVariants.{Entered}
@@ -19,17 +19,10 @@ use Rattle.iscsi_ffi_steps.specs.Walk.{Doing, Walk, end_item, in_state, may_wait
 use Rattle.iscsi_ffi_law.proofs.Core.{Core, all_core, core_more, entered_all, may_all, one_released}
 use Rattle.iscsi_ffi_law.proofs.DoneShape.{enables}
 use Rattle.iscsi_ffi_law.proofs.Releases.{endings}
-use Rattle.iscsi_ffi_rules.specs.rules.Calls.{Interface}
-use Rattle.iscsi_ffi_rules.specs.rules.Run.{cids}
 
 -- what is kept with these uses ended
 abbrev pub core_at : State → List (Option ℕ) → Core
 core_at s xs = all_core s.room xs (record { cookies = s.cookies; commands = s.commands; forgets = [] })
-
--- an outbox of this interface
-pub record IsOutboxOf (i : Interface) (o : OutboxState) : Type 0 where
-  pub limits : o.limits ≡ limits_of i.outbox
-  pub links : length o.links ≡ length (cids i)
 
 -- a walk in an item, over the outbox that the event found; `xs`: the uses that ended so far
 abbrev pub walk_in : OutboxState → State → List Action → List (Option ℕ) → (current own : Option ℕ) → Option StopReason → ℕ → Walk

@@ -1,5 +1,6 @@
 -- What is premised of a request that is taken: of the rules' side alone.
 use Rattle.std.specs.Prelude.{◌≡◌, ◌<◌, ◌≤◌, ◌+◌, ◌-◌, ◌^◌, ◌==◌, ◌&&◌, ◌||◌, not, ℕ, Bool, true, false, count_by, length, Option, Some, None, List, [], ◌∷◌, ◌++◌}
+use Rattle.iscsi_history.specs.promises.Replies.{executed_in}
 use Rattle.std.specs.List.{filter_map, find, list_all, list_any}
 use Rattle.iscsi_wire.specs.declared.reply.Reply.{Reply}
 use Rattle.iscsi_wire.specs.Fields.{cmd_sn, connection_of, request_of}
@@ -91,14 +92,9 @@ pub record IsLeavingFit (i : Interface) (r : Side) (item : List Mark) (d : Comma
   pub unanswered : contains r.answers d.arrival.event ≡ false
   pub runs : is_running (after_item i.outbox r.both.box (effects_by i r item)) d.ticket ≡ contains r.told d.ticket
 
--- a request that is held is taken out
 abbrev pub emptying : Mark → Option Arrival
 emptying (Empties a) = Some a
 emptying _ = None
-
--- the wire shows its number as its CmdSN
-abbrev pub IsOnWire : Arrival → Type 0
-IsOnWire a = wire a.number ≡ cmd_sn a.request
 
 -- so it is before each item, with the trace and the box that the items before it left
 pub record IsStepFit (i : Interface) (r : Side) (item : List Mark) : Type 0 where
@@ -107,7 +103,8 @@ pub record IsStepFit (i : Interface) (r : Side) (item : List Mark) : Type 0 wher
   pub enters : (c : Command) → filter_map enters item ≡ c ∷ [] → IsFreshCommand r c
   pub waited : (a : Arrival) → first_of item ≡ Some (Executes a) → list_any (λ (b : Arrival). b.event == a.event) (waiting r.both.trace) ≡ true → ((a.event == r.both.event) ≡ false) × is_first_waiting r.both.trace a
   pub leaves : EachOf (IsLeavingFit i r item) (filter_map leaving item)
-  pub empties : EachOf IsOnWire (filter_map emptying item)
+  -- the number of a request that is taken out is as it came
+  pub emptied : EachOf (λ (a : Arrival). wire a.number ≡ cmd_sn a.request) (filter_map emptying item)
 
 -- the side behind an item
 abbrev pub side_behind : Interface → Side → List Mark → Side
@@ -120,7 +117,7 @@ abbrev pub AreStepsFit : Interface → Side → List (List Mark) → Type 0
 AreStepsFit i r [] = IsSound i.outbox r.both.box
 AreStepsFit i r (item ∷ items) = IsStepFit i r item × AreStepsFit i (side_behind i r item) items
 
--- what is known of the commands that leave, item by item
+-- .. and what is known of the commands that leave by the items
 abbrev pub AreLeavingFit : Interface → Side → List (List Mark) → Type 0
 AreLeavingFit i r [] = Unit {0}
 AreLeavingFit i r (item ∷ items) = EachOf (IsLeavingFit i r item) (filter_map leaving item) × AreLeavingFit i (side_behind i r item) items
@@ -174,14 +171,19 @@ pub record IsArrivalFit (i : Interface) (r : Side) (cid : ℕ) (header : List �
 
 -- ---- what becomes of it
 
--- nothing is closed by it. Commands may leave by it, and requests that are held be taken out
-abbrev pub is_plain : Mark → Bool
-is_plain (ClosesConn conn) = false
-is_plain ClosesSession = false
-is_plain _ = true
+-- nothing is closed by it, or this connection
+abbrev pub is_plain : ℕ → Mark → Bool
+is_plain cid (ClosesConn conn) = conn == cid
+is_plain cid ClosesSession = false
+is_plain cid _ = true
+
+-- by an item nothing is closed but the connection on which its request came, as by a Logout of it where others are open. Commands may leave by
+-- it, and requests that are held may be taken out
+abbrev pub is_plain_item : List Mark → Bool
+is_plain_item item = elim (executed_in item) [ Some a ↦ list_all (is_plain (connection_of a.request)) item | None ↦ true ]
 
 abbrev pub are_plain : List (List Mark) → Bool
-are_plain items = list_all (list_all is_plain) items
+are_plain items = list_all is_plain_item items
 
 -- its items are plain; those that it enables and that are withheld complete behind it, one after the other
 pub record IsPlainArrival (i : Interface) (r : Side) (cid : ℕ) (header : List ℕ) : Type 0 where

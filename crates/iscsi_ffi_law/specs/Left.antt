@@ -9,7 +9,7 @@ use Rattle.iscsi_ffi_steps.specs.Steps.{Side as StepsSide, after, called, ended}
 use Rattle.iscsi_ffi_law.specs.Arrived.{are_plain, items_then}
 use Rattle.iscsi_ffi_law.specs.Lists.{Goes}
 
--- what is still premised of the event in which a header arrives: its items are plain
+-- what is still premised of the event in which a header arrives: nothing is closed by its items but the connection on which a Logout came
 pub record IsEventLeft (i : Interface) (r : Side) (cid : ℕ) (header : List ℕ) : Type 0 where
   pub plain : are_plain (items_then i r cid header) ≡ true
 

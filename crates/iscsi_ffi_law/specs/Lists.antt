@@ -54,7 +54,7 @@ pub record HasRoom (i : Interface) (s : StepsSide) (r : Side) : Type 0 where
   pub fit : IsFit i r.both.box r.both.box
   pub room : length s.state.commands.items + 2 * length (cids i) ≤ s.state.room
 
--- a request is taken, by whose items nothing is closed; there is a place for it, one of those that there are
+-- a request is taken, by whose items nothing is closed but the connection on which a Logout came; there is a place for it, one of those that there are
 pub record IsArrival (i : Interface) (s : StepsSide) (r : Side) (cid : ℕ) (header : List ℕ) : Type 0 where
   pub fit : IsArrivalFit i r cid header
   pub taken : refusal_of i r cid ≡ None
@@ -62,7 +62,7 @@ pub record IsArrival (i : Interface) (s : StepsSide) (r : Side) (cid : ℕ) (hea
   pub placed : (place : ℕ) → next_place s.state.cookies ≡ Some place → IsPlaced s.state place
   pub plain : IsPlainArrival i (heard_in i r cid header) cid header
 
--- what is asked of each call. Of a request that becomes another thing, and of a connection that is lost and isn't closed, it is premised that they go alike
+-- what is asked of each call. Of a request by which something else is closed, and of a connection that is lost and isn't closed, it is premised that they go alike
 abbrev pub Meets : Interface → StepsSide → Side → Call → Type 0
 Meets i s r (Arrives cid header cookie) = (Leaves i r (outbox.Hears cid 0 0) × IsRefused i r cid) ⊎ IsArrival i s r cid header ⊎ Goes i s r (Arrives cid header cookie)
 Meets i s r (Completes ticket status) = (Leaves i r (outbox.Stops ticket) × (is_going r ticket ≡ false))

@@ -75,16 +75,15 @@ AreItemsFit o b (item ∷ items) = IsItemFit o b item × AreItemsFit o (after_it
 pub record IsHeardFit (i : Interface) (r : Side) (cid : ℕ) (header : List ℕ) : Type 0 where
   pub fit : IsFit i r.both.box (after_box_call i.outbox r.both.box (arrive_call i r cid header))
   pub items : AreItemsFit i.outbox r.both.box (in_parts (effects_then i r cid header))
-  -- its items, but for what is known of the commands that leave
   pub steps : AreLeavingFit i r (items_then i r cid header) → AreStepsFit i r (items_then i r cid header)
   pub stale : NoneIsFresh r.both.box
   pub sent : r.both.box.sent < 2 ^ 64 - 1
   pub replies : replies_waiting r.both.box < places i.outbox
   pub handed : EachOf (λ (l : Link). EachOf (λ (h : Handed). IsBefore r.both.box.sent h.out.sent) l.handed) r.both.box.links
-  pub found : length (live r.both.trace) ≤ places i.outbox
   -- it has no more items, enables no more commands, and leaves no more of them live than there are places for
   pub short : length (items_then i r cid header) ≤ places i.outbox
   pub enabled : length (filter_map ticket_enabled (effects_then i r cid header)) ≤ places i.outbox
+  pub found : length (live r.both.trace) ≤ places i.outbox
   pub few : length (live (stepped i r (Arrive cid header)).both.trace) ≤ places i.outbox
   pub regular : IsRegular i (stepped i r (Arrive cid header))
   pub prompt : (rest : List (List Mark)) → items_then i r cid header ≡ (Admits (arrived i r cid header) ∷ []) ∷ rest → starts_late r.both.event rest ≡ false
@@ -108,14 +107,6 @@ pub record IsPartingFit (i : Interface) (r : Side) (cid : ℕ) : Type 0 where
   pub sent : r.both.box.sent < 2 ^ 64 - 1
   pub replies : replies_waiting r.both.box ≤ places i.outbox
   pub handed : EachOf (λ (l : Link). EachOf (λ (h : Handed). IsBefore r.both.box.sent h.out.sent) l.handed) r.both.box.links
-  -- it has no more items, enables no more commands, finds no more of them live, and leaves no more live, than there are places for
-  pub found : length (live r.both.trace) ≤ places i.outbox
-  pub short : length (items_then i r cid (parting cid)) ≤ places i.outbox
-  pub enabled : length (filter_map ticket_enabled (effects_then i r cid (parting cid))) ≤ places i.outbox
-  pub few : length (live (stepped i r (Arrive cid (parting cid))).both.trace) ≤ places i.outbox
-  pub regular : IsRegular i (stepped i r (Arrive cid (parting cid)))
-  pub waits : EachOf (λ (b : Arrival). waiting_on (connection_of b.request) r.both.trace ≤ MOST_WAITING) (waiting r.both.trace)
-  pub distinct : AreDistinct r.both.trace
 
 -- a connection is lost that isn't closed
 pub record IsLossFit (i : Interface) (r : Side) (cid : ℕ) : Type 0 where

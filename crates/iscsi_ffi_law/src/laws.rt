@@ -85,10 +85,11 @@ pub fn done_law()
     ensures stops { (i : Interface) (s : StepsSide) (r : Side) → Stands i s r → (ticket : ℕ) → (is_going r ticket && contains r.marked ticket) ≡ true → AllDone i r ticket TASK_ABORTED → GoesAlike i s r (Stops ticket) }
 {}
 
-/// A request is taken, by whose items nothing is closed: it is passed over, rejected, held, waits as a function, or executes, and the held requests
-/// whose turn comes by it, and the functions that waited for that, execute one after the other. Each of them is answered at once, or not at all, or
-/// enters as a command; or commands leave by it, and those that were told to start are told to stop; or held requests are taken out, and are
-/// forgotten. What is enabled then, and is live still, starts, or is withheld, and those that are complete behind it, one after the other.
+/// A request is taken, by whose items nothing is closed but the connection on which a Logout came, and not the session: it is passed over, rejected,
+/// held, waits as a function, or executes, and the held requests whose turn comes by it, and the functions that waited for that, execute one after
+/// the other. Each of them is answered at once, or not at all, or enters as a command, or commands leave by it: those that were told to start are
+/// told to stop. Or a request that is held is taken out by it, and is over. By a Logout all commands of its connection leave, and what is held and
+/// waits there is over. What is enabled then, and is live still, starts, or is withheld, and those that are complete behind it, one after the other.
 /// What is premised of the rules' side is said in `IsArrivalFit` and `IsPlainArrival`; two premises more: a place for a word, which is one of those
 /// that there are.
 pub fn arrives_law()
@@ -97,8 +98,8 @@ pub fn arrives_law()
 
 /// A list of calls: each is answered by the steps as by the rules, and tells the same in the same order, but for what is forgotten, which is
 /// the same in any order. What is asked of each call is said in `Meets`. It is still a premise there that two kinds of calls by which the session
-/// takes an event go alike: a request by whose items something is closed, and the loss of a connection that isn't
-/// closed.
+/// takes an event go alike: a request by whose items the session is closed, or a connection on which its Logout didn't come, and the loss of a
+/// connection that isn't closed.
 pub fn lists_law()
     ensures alike { (i : Interface) (calls : List Call) → MeetFrom i (begun i) (opened i) calls → AreAlike i (begun i) (opened i) calls }
 {}
