@@ -37,7 +37,7 @@ use Rattle.iscsi_ffi_law.specs.Sides.{AreBytes, AreItemsFit, IsLossFit, IsOpenin
 use Rattle.iscsi_ffi_law.proofs.DoneShape.{done_effects, done_entry, entry_is, one_part}
 use Rattle.iscsi_ffi_law.proofs.FitEvents.{taken_enabled, taken_short, taken_steps}
 use Rattle.iscsi_ffi_law.proofs.FitFacts.{limits, takes_reply, takes_reply_at, there_live, ticket_is}
-use Rattle.iscsi_ffi_law.proofs.FitFollows.{together_event, live_there, tickets_up, units_there}
+use Rattle.iscsi_ffi_law.proofs.FitFollows.{together_event, live_there, tickets_up, units_there, together_other}
 use Rattle.iscsi_ffi_law.proofs.FitHolds.{Holds, arrival_read, arrival_room, holds_arrival, holds_done, holds_heard, holds_loss, loss_read}
 use Rattle.iscsi_ffi_law.proofs.FitNumbers.{all_sends, item_spent, spent}
 use Rattle.iscsi_ffi_law.proofs.FitPlaces.{placed_call}
@@ -53,6 +53,8 @@ use Rattle.iscsi_ffi_law.proofs.FitReplies.{completes_more}
 use Rattle.iscsi_ffi_law.proofs.FitShown.{max_reached}
 use Rattle.iscsi_ffi_law.proofs.FitSides.{IsGood, event_sends, good_event, good_other}
 use Rattle.iscsi_ffi_law.proofs.FitWalks.{later_walk, on_withholding, withheld_there}
+use Rattle.iscsi_ffi_law.proofs.FitCounts.{event_enables, items_short}
+use Rattle.iscsi_ffi_law.proofs.FitLimits.{few_reached}
 
 module _ (i : Interface) (opening : IsOpening i) where
   distinct : are_distinct i.outbox.session.conns ≡ true
@@ -279,6 +281,17 @@ module _ (i : Interface) (opening : IsOpening i) where
       let later = on_withholding i (λ k x. r.both.event + 1 ≤ x.both.event) (later_walk i (r.both.event + 1)) 0 (length (live w.side.both.trace)) w (omega arith) in
       let g : IsGood i.outbox (n + 1) s.both = good_other i.outbox n r.both (outbox.Loses cid) refl h.good in
       let read = loss_read i distinct n r cid known kept in
+      let together = together_other i.outbox r.both (outbox.Loses cid) tt h.together in
+      let after : Both = after_step i.outbox s.both (Happens e) in
+      let together' = together_event i.outbox s.both e known together in
+      let many = same_count i.outbox s.both.box s.both.trace together.lives in
+      let many' = same_count i.outbox after.box after.trace together'.lives in
+      let fits = fits_reached i.outbox distinct s.both g.reached in
+      let fits' = fits_reached i.outbox distinct after (good_event i.outbox (n + 1) s.both e read g).reached in
+      let most = few_reached i.outbox distinct s.both g.reached in
+      let some = (limits i opening).some in
+      let items = items_short i.outbox.session s.both.trace (arrived i s cid (parting cid)) in
+      let enables = event_enables i.outbox.session s.both.event s.both.trace e in
       record {
         fit = record {
           fit = fit_with (n + 1) (n + 1) s.both (after_step i.outbox s.both (Happens e)) g (good_event i.outbox (n + 1) s.both e read g) (omega (arith, few)) (omega (arith, few)) (omega (arith, early, later)) (omega (arith, early, later));
@@ -288,6 +301,13 @@ module _ (i : Interface) (opening : IsOpening i) where
           sent = (let x = g.sent_is in omega (arith, x, early, later));
           replies = (fits_reached i.outbox distinct s.both g.reached).replies;
           handed = (placed_call i.outbox r.both.box (outbox.Loses cid) refl h.placed).handed;
+          found = (let tasks = fits.tasks in omega (arith, tasks, many));
+          short = omega (arith, items, most, some);
+          enabled = omega (arith, enables, most, some);
+          few = (let tasks = fits'.tasks in omega (arith, tasks, many'));
+          regular = record { ascending = tickets_up i.outbox after together'; units = units_there i.outbox after together' };
+          waits = in_each (λ (b : Arrival). waiting_on (connection_of b.request) s.both.trace ≤ MOST_WAITING) (waiting s.both.trace) (λ b at. h.turned.four (connection_of b.request));
+          distinct = distinct_forms i.outbox.session s.both.trace s.both.event h.together.forms;
         };
         withheld = withheld_fit (n + 1) w (holds_loss i distinct n r cid known kept unclosed h) (omega (arith, few)) early left;
       }

@@ -107,6 +107,14 @@ pub record IsPartingFit (i : Interface) (r : Side) (cid : ℕ) : Type 0 where
   pub sent : r.both.box.sent < 2 ^ 64 - 1
   pub replies : replies_waiting r.both.box ≤ places i.outbox
   pub handed : EachOf (λ (l : Link). EachOf (λ (h : Handed). IsBefore r.both.box.sent h.out.sent) l.handed) r.both.box.links
+  -- it has no more items, enables no more commands, finds no more of them live, and leaves no more live, than there are places for
+  pub found : length (live r.both.trace) ≤ places i.outbox
+  pub short : length (items_then i r cid (parting cid)) ≤ places i.outbox
+  pub enabled : length (filter_map ticket_enabled (effects_then i r cid (parting cid))) ≤ places i.outbox
+  pub few : length (live (stepped i r (Arrive cid (parting cid))).both.trace) ≤ places i.outbox
+  pub regular : IsRegular i (stepped i r (Arrive cid (parting cid)))
+  pub waits : EachOf (λ (b : Arrival). waiting_on (connection_of b.request) r.both.trace ≤ MOST_WAITING) (waiting r.both.trace)
+  pub distinct : AreDistinct r.both.trace
 
 -- a connection is lost that isn't closed
 pub record IsLossFit (i : Interface) (r : Side) (cid : ℕ) : Type 0 where
