@@ -13,6 +13,7 @@ use Rattle.iscsi_ffi_law.proofs.Arrivals.{arrives_alike}
 use Rattle.iscsi_ffi_law.proofs.DoneCalls.{done_alike, stopped_alike}
 use Rattle.iscsi_ffi_law.proofs.Ends.{found_fit}
 use Rattle.iscsi_ffi_law.proofs.Losing.{loses_closed}
+use Rattle.iscsi_ffi_law.proofs.LossLaw.{loses_open}
 use Rattle.iscsi_ffi_law.proofs.NextCalls.{nexts_alike}
 use Rattle.iscsi_ffi_law.proofs.Opened.{stands_begun}
 use Rattle.iscsi_ffi_law.proofs.Putting.{puts_alike}
@@ -27,7 +28,7 @@ module _ (i : Interface) where
   goes s r (Arrives cid header cookie) h m =
       ⊎_elim
       (λ k. arrives_refused i s r h (found_fit i r.both.box (after_box_call i.outbox r.both.box (outbox.Hears cid 0 0)) k.0) cid header cookie k.1.0 k.1.1)
-      (λ m'. ⊎_elim (λ k. arrives_alike i s r h cid header cookie k.fit k.taken k.room k.placed k.plain) (λ k. k h) m') m
+      (λ k. arrives_alike i s r h cid header cookie k.fit k.taken k.room k.placed k.behind) m
   goes s r (Completes ticket status) h m = ⊎_elim (λ k. completes_alike i s r h ticket k.0 status k.1) (λ k. done_alike i s r h ticket status k.0 k.1) m
   goes s r (Stops ticket) h m = ⊎_elim (λ k. stops_alike i s r h ticket k.0 k.1) (λ k. stopped_alike i s r h ticket k.0 k.1) m
   goes s r (Nexts cid) h m = nexts_alike i s r h cid m.0 m.1 m.2
@@ -40,7 +41,7 @@ module _ (i : Interface) where
       (λ k. ⊎_elim
       (λ unknown. loses_unknown i s r h (found_fit i r.both.box (after_box_call i.outbox r.both.box (outbox.Hears cid 0 0)) k.0) cid unknown)
       (λ lost. loses_lost i s r h (found_fit i r.both.box (after_box_call i.outbox r.both.box (outbox.Hears cid 0 0)) k.0) cid lost) k.1)
-      (λ m'. ⊎_elim (λ k. loses_closed i s r h cid k.leaves k.orderly k.closed k.known k.kept) (λ k. k h) m') m
+      (λ m'. ⊎_elim (λ k. loses_closed i s r h cid k.leaves k.orderly k.closed k.known k.kept) (λ k. loses_open i s r h cid k) m') m
   goes s r (Clears unit) h m = clears_alike i s r h unit m.fit m.room
   goes s r (Cleared unit) h m = cleared_alike i s r h unit m
 

@@ -16,7 +16,7 @@ use Rattle.iscsi_ffi_steps.specs.Steps.{Answered, Going, Side as StepsSide, arri
 use Rattle.iscsi_ffi_steps.specs.Steps as steps
 use Rattle.iscsi_ffi_steps.specs.Walk.{in_state}
 use Rattle.iscsi_ffi_law.specs.Alike.{GoesAlike}
-use Rattle.iscsi_ffi_law.specs.Arrived.{IsArrivalFit, IsPlaced, IsPlainArrival}
+use Rattle.iscsi_ffi_law.specs.Arrived.{IsArrivalFit, IsPlaced, IsBehindFit}
 use Rattle.iscsi_ffi_law.specs.Done.{AreDoneFit, IsDoneFit}
 use Rattle.iscsi_ffi_law.specs.Stands.{Stands}
 use Rattle.iscsi_ffi_law.proofs.ArriveOpens.{IsFoundAt, names_open, opens_at, side_open, state_open}
@@ -104,8 +104,7 @@ module _ (i : Interface) (s : StepsSide) (r : Side) (h : Stands i s r) (cid : �
   found_there : IsFoundAt i (names_open i s r h cid header cookie fit free_place.place free_place.is within) h.notes s1 r1 cid header free_place.place
   found_there = opens_at i s r h cid header cookie fit free_place.place free_place.is within none
 
-  pub arrives_alike : IsPlainArrival i (rules.heard_in i r cid header) cid header → GoesAlike i s r (Arrives cid header cookie)
+  pub arrives_alike : IsBehindFit i (rules.heard_in i r cid header) cid header → GoesAlike i s r (Arrives cid header cookie)
   arrives_alike k = arrives_as (arrives_to i _ h.notes s1 r1 cid header place found_there (record {
-    plain = k.plain;
     withheld = asked_fit i (length (live (happening_there i (rules.heard_in i r cid header) (Arrive cid header)).side.both.trace)) (happening_there i (rules.heard_in i r cid header) (Arrive cid header)).side r1.asked _ _ k.withheld;
   }))

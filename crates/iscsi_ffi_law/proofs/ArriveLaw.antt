@@ -1,5 +1,5 @@
 -- A request arrives that has a place: both go on alike.
-use Rattle.std.proofs.Common.{◌≡◌, ℕ, ◌+◌, ◌<◌, not, cond, Bool, true, false, List, [], ◌∷◌, ◌++◌, length, filter, Option, Some, None, refl, ap, sym, subst, ◌∙◌, arith, length-set, ◌≤◌}
+use Rattle.std.proofs.Common.{◌≡◌, ℕ, ◌<◌, not, cond, Bool, true, false, List, [], ◌∷◌, ◌++◌, length, filter, Option, Some, None, refl, ap, sym, subst, ◌∙◌, arith, length-set, ◌≤◌, ◌==◌}
 use Rattle.iscsi_outbox_rules.specs.promises.Room.{places}
 use Rattle.iscsi_history.specs.rules.Settings.{is_known}
 use Rattle.iscsi_ffi_rules.specs.rules.Run.{cids}
@@ -20,7 +20,6 @@ use Rattle.iscsi_history.specs.rules.Execution.{rejected}
 use Rattle.iscsi_history.specs.rules.Management.{MOST_WAITING, waiting_on}
 use Rattle.iscsi_history.specs.rules.Run.{effects_of, effects_of_item}
 use Rattle.iscsi_history.specs.rules.Trace.{Admits, Arrival, Command, Executes, Ignores, Mark, Trace, Waits, entered, is_received, waiting}
-use Rattle.iscsi_history.proofs.BoolLemmas.{and_parts}
 use Rattle.iscsi_history.proofs.Forms.{AfterWaiting, AtArrival, AtTurn, Deeds, IsDone, Start, marks_done, start_mark, Executed}
 use Rattle.iscsi_history.proofs.ElementLemmas.{filter-in}
 use Rattle.iscsi_history.proofs.NewlyLemmas.{newly-untouched}
@@ -33,25 +32,28 @@ use Rattle.iscsi_ffi_rules.specs.rules.Run as rules
 use Rattle.iscsi_ffi_rules.specs.rules.Sides.{Side}
 use Rattle.iscsi_ffi_steps.specs.State.{State}
 use Rattle.iscsi_ffi_steps.specs.Steps.{Going, arriving, changed, done, happens, hold, is_held_first}
-use Rattle.iscsi_ffi_law.specs.Arrived.{AreStepsFit, IsPlainArrival, arrive_call, arrived, is_plain_item, items_then, side_behind, starts_late}
+use Rattle.iscsi_ffi_law.specs.Arrived.{AreStepsFit, IsBehindFit, arrive_call, arrived, items_then, side_behind, starts_late}
 use Rattle.iscsi_ffi_law.specs.Names.{Name, Note}
 use Rattle.iscsi_ffi_law.specs.Parts.{IsCommand, IsLiveNamed, is_named}
 use Rattle.iscsi_ffi_law.proofs.ArriveItems.{arrived_unheld, executed_go, held_now, ignored_go, postponed_go, received_go, rejected_go}
 use Rattle.iscsi_ffi_law.proofs.ArriveOpens.{IsFoundAt}
-use Rattle.iscsi_ffi_law.proofs.Between.{IsBetween, pending_as}
+use Rattle.iscsi_ffi_law.proofs.Between.{IsBetween, pending_as, pending_of}
 use Rattle.iscsi_ffi_law.proofs.DoneShape.{enables}
 use Rattle.iscsi_ffi_law.proofs.Ends.{GoesTo}
 use Rattle.iscsi_ffi_law.proofs.EventEnds.{AreBegun, IsEventOf}
-use Rattle.iscsi_ffi_law.proofs.EventGoes.{first_between, outbox_first, parts}
+use Rattle.iscsi_ffi_law.proofs.EventGoes.{first_between, first_unswept, outbox_first, parts}
 use Rattle.iscsi_ffi_law.proofs.EventLaw.{event_goes, pairs_live}
 use Rattle.iscsi_ffi_law.proofs.EventRules.{admits_alone}
-use Rattle.iscsi_ffi_law.proofs.HeldNews.{enters_once, one_at_most}
-use Rattle.iscsi_ffi_law.proofs.ItemsGo.{AllGo, side_after}
-use Rattle.iscsi_ffi_law.proofs.Opens.{OpensIf}
+use Rattle.iscsi_ffi_law.proofs.HeldNews.{enters_once, fresh_untold, one_at_most}
+use Rattle.iscsi_ffi_law.proofs.ItemsGo.{AllGo, first_go, side_after}
+use Rattle.iscsi_ffi_law.proofs.Opens.{Opens}
 use Rattle.iscsi_ffi_law.proofs.Marking.{named_first}
 use Rattle.iscsi_ffi_law.proofs.Members.{each_in, in_pairs}
-use Rattle.iscsi_ffi_law.proofs.Releases.{endings}
 use Rattle.iscsi_ffi_law.proofs.Releasing.{ending}
+use Rattle.iscsi_ffi_law.proofs.Unswept.{Unswept, none_at, none_counted, none_unswept}
+use Rattle.iscsi_requests.specs.declared.replies.WaitingReply.{WaitingReply}
+use Rattle.iscsi_ffi_law.specs.Uses.{is_place}
+use Rattle.iscsi_ffi_law.proofs.DoneRoom.{all_few, noted_few}
 use Rattle.iscsi_ffi_law.proofs.Turns.{Becomes, IsDue, IsExecuted, IsIgnored, IsPostponed, IsReceived, IsRejected, becomes}
 
 -- behind the last item the box is sound
@@ -80,7 +82,7 @@ due_once : (i : Interface) (items : List (List Mark)) (t : Trace) → EachOn (Is
 due_once i [] t due = refl
 due_once i (item ∷ items) t due = and_from (enters_once item) (list_all enters_once items) (ap enters_once due.0.is ∙ item_once due.0.start due.0.a due.0.deeds) (due_once i items (item ∷ t) due.1)
 
-module _ (i : Interface) (names : List Name) (notes : List Note) (s : State) (r : Side) (cid : ℕ) (header : List ℕ) (place : ℕ) (f : IsFoundAt i names notes s r cid header place) (p : IsPlainArrival i r cid header) where
+module _ (i : Interface) (names : List Name) (notes : List Note) (s : State) (r : Side) (cid : ℕ) (header : List ℕ) (place : ℕ) (f : IsFoundAt i names notes s r cid header place) (p : IsBehindFit i r cid header) where
   abbrev e : Event
   e = Arrive cid header
 
@@ -97,9 +99,11 @@ module _ (i : Interface) (names : List Name) (notes : List Note) (s : State) (r 
   abbrev pub ArrivesTo : Type 0
   ArrivesTo = GoesTo i (done (arriving i cid header (Some place) (record { event = r.both.event; trace = r.both.trace; doing = record { state = s; actions = []; forgets = [] } }))) (rules.done (happens_there i r (Arrive cid header)))
 
-  begun : IsBetween i names notes s r (Some place) []
+  abbrev begun : IsBetween i names notes s r (Some place) []
   begun = record {
-    requests = pending_as names notes (ending (Some place)) (λ n. ending (Some place) n + endings [] n) (λ q. []) s r (λ n. omega arith) f.requests;
+    unswept = none_unswept s;
+    gone = λ q. [];
+    requests = pending_as names notes (ending (Some place)) (pending_of (none_unswept s) (Some place) []) (λ q. []) s r (λ n. omega (arith, none_counted (λ (x : WaitingReply). x.request == n) s.replies.waiting, none_counted (is_place n) s.noted.handed)) f.requests;
     slots = f.slots;
     functions = f.functions;
     outbox = f.outbox;
@@ -112,6 +116,9 @@ module _ (i : Interface) (names : List Name) (notes : List Note) (s : State) (r 
     own_named = λ n is. f.named ∙ is;
     own_unheld = λ n is. arrived_unheld names notes (ending (Some place)) (λ q. []) s r f.requests f.before.admitted f.before.waiting n (f.named ∙ is);
     own_first = λ n is. refl;
+    long_replies = length-map s.replies.waiting (λ (xs : List WaitingReply). []) ∙ f.sizes.replies;
+    long_noted = length-map s.noted.handed (λ (xs : List (Option ℕ)). []) ∙ f.sizes.noted;
+    clear = λ q within takes. (none_at s.replies.waiting q, none_at s.noted.handed q);
   }
 
   -- no more are held, or wait, than there are places for
@@ -127,8 +134,17 @@ module _ (i : Interface) (names : List Name) (notes : List Note) (s : State) (r 
       known_some c (x ∷ cs) known = omega arith
 
   -- commands before it
-  begun_with : AreBegun i s r
+  begun_with : AreBegun i s r []
   begun_with = record {
+    waits = all_few i names notes (ending (Some place)) (λ q. []) s r f.requests f.outbox f.sizes;
+    replies_room = (let z = f.sizes.replies_room in let conns = length-map i.outbox.session.conns (λ (x : ℕ × ℕ). x.0) in omega (arith, z, conns));
+    rooms =
+        let waits = all_few i names notes (ending (Some place)) (λ q. []) s r f.requests f.outbox f.sizes in
+        let notes_few = noted_few i names notes (ending (Some place)) (λ q. []) s r f.requests f.outbox f.sizes f.fit.fit.sound in
+        let replies = f.fit.replies in
+        let room = f.sizes.room in
+        let conns = length-map i.outbox.session.conns (λ (x : ℕ × ℕ). x.0) in
+        omega (arith, waits, notes_few, replies, room, conns);
     few =
         let lives = pairs_live names r s.commands.items (filter (is_named names) (entered r.both.trace)) f.requests.commands in
         let named = ap length (named_first names r.both.trace (entered r.both.trace) f.requests.live_named) in
@@ -147,8 +163,11 @@ module _ (i : Interface) (names : List Name) (notes : List Note) (s : State) (r 
   abbrev s0 : State
   s0 = record s { outbox = outbox_first i r e lead s.outbox }
 
-  first : IsBetween i names notes s0 r (Some place) []
-  first = first_between i names notes s r (Some place) (after_call i.outbox r.both.box (arrive_call i r cid header)) f.fit.fit lead begun
+  abbrev first : IsBetween i names notes s0 r (Some place) []
+  first = first_between i names notes s r (Some place) [] (after_call i.outbox r.both.box (arrive_call i r cid header)) f.fit.fit lead begun
+
+  same_first : first.unswept ≡ none_unswept s
+  same_first = first_unswept i names notes s r (Some place) [] (after_call i.outbox r.both.box (arrive_call i r cid header)) f.fit.fit lead begun
 
   event_of : list_all admits_alone (items_then i r cid header) ≡ true → starts_late r.both.event (items_then i r cid header) ≡ false → list_all enters_once (items_then i r cid header) ≡ true → IsEventOf i r e
   event_of alone prompt once = record {
@@ -161,8 +180,7 @@ module _ (i : Interface) (names : List Name) (notes : List Note) (s : State) (r 
     prompt = prompt;
     few = f.fit.few;
     regular = f.fit.regular;
-    steps = f.fit.steps;
-    once = once;
+    untold = fresh_untold i (items_then i r cid header) r f.fit.steps once;
     alone = alone;
     behind = last_sound i (items_then i r cid header) r f.fit.steps;
   }
@@ -171,26 +189,29 @@ module _ (i : Interface) (names : List Name) (notes : List Note) (s : State) (r 
   once_by items is once = ap (list_all enters_once) is ∙ once
 
   -- it isn't held first
-  not_held : is_held_first request (effects_of i.outbox.session r.both.trace (items_then i r cid header)) ≡ false → list_all admits_alone (items_then i r cid header) ≡ true → starts_late r.both.event (items_then i r cid header) ≡ false → list_all enters_once (items_then i r cid header) ≡ true → AllGo i names notes s0 r (Some place) [] (items_then i r cid header) → ArrivesTo
+  not_held : is_held_first request (effects_of i.outbox.session r.both.trace (items_then i r cid header)) ≡ false → list_all admits_alone (items_then i r cid header) ≡ true → starts_late r.both.event (items_then i r cid header) ≡ false → list_all enters_once (items_then i r cid header) ≡ true → AllGo i names notes (none_unswept s) s0 r (Some place) [] (items_then i r cid header) → ArrivesTo
   not_held isnt alone prompt once go =
       subst (λ v. GoesTo i (done (cond v (happens i None e (changed (hold request place) begins)) (happens i (Some place) e begins))) (rules.done (happens_there i r e))) (sym isnt)
-      (event_goes i names notes s r (Some place) e (event_of alone prompt once) begun_with f.outbox go f.calm p.withheld)
+      (event_goes i names notes s r (Some place) [] e (event_of alone prompt once) begun_with f.outbox (first_go i names notes (none_unswept s) s0 r (Some place) [] (items_then i r cid header) f.fit.replies go) f.calm p.withheld)
 
   over : (why : Why) → items_then i r cid header ≡ (Ignores why ∷ []) ∷ [] → ArrivesTo
   over why is =
       not_held (ap (λ ms. is_held_first request (effects_of i.outbox.session r.both.trace ms)) is) (ap (list_all admits_alone) is) (ap (starts_late r.both.event) is) (ap (list_all enters_once) is)
-      (subst (AllGo i names notes s0 r (Some place) []) (sym is) (ignored_go i names notes f.fit.fit.distinct s0 r place first why (subst (AreStepsFit i r) is f.fit.steps)))
+      (subst (AllGo i names notes (none_unswept s) s0 r (Some place) []) (sym is) (subst (λ (v : Unswept). AllGo i names notes v s0 r (Some place) [] ((Ignores why ∷ []) ∷ [])) same_first
+      (ignored_go i names notes f.fit.fit.distinct s0 r place first why (subst (AreStepsFit i r) is f.fit.steps))))
 
   rejects : items_then i r cid header ≡ rejected a ∷ [] → ArrivesTo
   rejects is =
       not_held (ap (λ ms. is_held_first request (effects_of i.outbox.session r.both.trace ms)) is) (ap (list_all admits_alone) is) (ap (starts_late r.both.event) is) (ap (list_all enters_once) is)
-      (subst (AllGo i names notes s0 r (Some place) []) (sym is) (rejected_go i names notes f.fit.fit.distinct s0 r place first (connection_of a.request) (Reject 5 (header_of a.request)) (subst (AreStepsFit i r) is f.fit.steps)))
+      (subst (AllGo i names notes (none_unswept s) s0 r (Some place) []) (sym is) (subst (λ (v : Unswept). AllGo i names notes v s0 r (Some place) [] (rejected a ∷ [])) same_first
+      (rejected_go i names notes f.fit.fit.distinct s0 r place first (connection_of a.request) (Reject 5 (header_of a.request)) (subst (AreStepsFit i r) is f.fit.steps))))
 
-  executes : (d : Deeds) (rest : List (List Mark)) → is_immediate a.request ≡ true → IsDone i.outbox.session r.both.trace AtArrival a d → OpensIf a (marks_done a d) → items_then i r cid header ≡ (Executes a ∷ marks_done a d) ∷ rest → EachOn (IsDue i.outbox.session) ((Executes a ∷ marks_done a d) ∷ r.both.trace) rest → ArrivesTo
+  executes : (d : Deeds) (rest : List (List Mark)) → is_immediate a.request ≡ true → IsDone i.outbox.session r.both.trace AtArrival a d → Opens i.outbox.session a (marks_done a d) → items_then i r cid header ≡ (Executes a ∷ marks_done a d) ∷ rest → EachOn (IsDue i.outbox.session) ((Executes a ∷ marks_done a d) ∷ r.both.trace) rest → ArrivesTo
   executes d rest immediate does opens is due =
       not_held (ap (λ ms. is_held_first request (effects_of i.outbox.session r.both.trace ms)) is ∙ ap not immediate) (ap (list_all admits_alone) is ∙ due_alone i rest ((Executes a ∷ marks_done a d) ∷ r.both.trace) due) (ap (starts_late r.both.event) is ∙ ap not (eq-eqb r.both.event r.both.event refl)) (once_by ((Executes a ∷ marks_done a d) ∷ rest) is by_item)
-      (subst (AllGo i names notes s0 r (Some place) []) (sym is)
-      (executed_go i names notes f.fit.fit.distinct s0 r place first a refl f.before.waiting d rest does opens due (subst (λ ms. list_all is_plain_item ms ≡ true) is p.plain) (subst (AreStepsFit i r) is f.fit.steps)))
+      (subst (AllGo i names notes (none_unswept s) s0 r (Some place) []) (sym is)
+      (subst (λ (v : Unswept). AllGo i names notes v s0 r (Some place) [] ((Executes a ∷ marks_done a d) ∷ rest)) same_first
+      (executed_go i names notes f.fit.fit.distinct s0 r place first a refl f.before.waiting d rest does opens due (subst (AreStepsFit i r) is f.fit.steps))))
     where
       by_item : list_all enters_once ((Executes a ∷ marks_done a d) ∷ rest) ≡ true
       by_item = and_from (enters_once (Executes a ∷ marks_done a d)) (list_all enters_once rest) (item_once AtArrival a d) (due_once i rest ((Executes a ∷ marks_done a d) ∷ r.both.trace) due)
@@ -200,9 +221,6 @@ module _ (i : Interface) (names : List Name) (notes : List Note) (s : State) (r 
   module _ (rest : List (List Mark)) (numbered : is_immediate a.request ≡ false) (new : is_received r.both.trace a.number ≡ false) (is : items_then i r cid header ≡ (Admits a ∷ []) ∷ rest) (due : EachOn (IsDue i.outbox.session) ((Admits a ∷ []) ∷ r.both.trace) rest) where
     steps : AreStepsFit i r ((Admits a ∷ []) ∷ rest)
     steps = subst (AreStepsFit i r) is f.fit.steps
-
-    plain_rest : list_all is_plain_item rest ≡ true
-    plain_rest = (and_parts (is_plain_item (Admits a ∷ [])) (list_all is_plain_item rest) (subst (λ ms. list_all is_plain_item ms ≡ true) is p.plain)).1
 
     behind_first : (items : List (List Mark)) → AreStepsFit i (side_behind i r (Admits a ∷ [])) items → IsSound i.outbox (side_behind i r (Admits a ∷ [])).both.box
     behind_first [] h = h
@@ -229,17 +247,19 @@ module _ (i : Interface) (names : List Name) (notes : List Note) (s : State) (r 
     holds =
         subst (λ v. GoesTo i (done (cond v (happens i None e (changed (hold request place) begins)) (happens i (Some place) e begins))) (rules.done (happens_there i r e)))
         (sym (ap (λ ms. is_held_first request (effects_of i.outbox.session r.both.trace ms)) is ∙ held_first))
-        (event_goes i names notes held_state r None e (event_of (ap (list_all admits_alone) is ∙ due_alone i rest ((Admits a ∷ []) ∷ r.both.trace) due) (ap (starts_late r.both.event) is) (once_by ((Admits a ∷ []) ∷ rest) is (due_once i rest ((Admits a ∷ []) ∷ r.both.trace) due))) (record { few = begun_with.few; kept = few_kept held_state.held (length-set s.held.places (index_of (cmd_sn a.request) s.held) (Some place) ∙ f.slots.size_is); freed = begun_with.freed }) f.outbox
-        (subst (AllGo i names notes (record held_state { outbox = outbox_first i r e lead s.outbox }) r None []) (sym is)
-        (received_go i names notes f.fit.fit.distinct s0 r place first a refl f.before.admitted f.before.waiting new (f.fit.received rest is) steps.0 (behind_first rest steps.1) rest due (f.fit.prompt rest is) plain_rest steps.1)) f.calm p.withheld)
+        (event_goes i names notes held_state r None [] e (event_of (ap (list_all admits_alone) is ∙ due_alone i rest ((Admits a ∷ []) ∷ r.both.trace) due) (ap (starts_late r.both.event) is) (once_by ((Admits a ∷ []) ∷ rest) is (due_once i rest ((Admits a ∷ []) ∷ r.both.trace) due))) (record { waits = begun_with.waits; replies_room = begun_with.replies_room; rooms = begun_with.rooms; few = begun_with.few; kept = few_kept held_state.held (length-set s.held.places (index_of (cmd_sn a.request) s.held) (Some place) ∙ f.slots.size_is); freed = begun_with.freed }) f.outbox
+        (first_go i names notes (none_unswept s) (record held_state { outbox = outbox_first i r e lead s.outbox }) r None [] (items_then i r cid header) f.fit.replies
+        (subst (AllGo i names notes (none_unswept s) (record held_state { outbox = outbox_first i r e lead s.outbox }) r None []) (sym is)
+        (subst (λ (v : Unswept). AllGo i names notes v (record held_state { outbox = outbox_first i r e lead s.outbox }) r None [] ((Admits a ∷ []) ∷ rest)) same_first
+        (received_go i names notes f.fit.fit.distinct s0 r place first a refl f.before.admitted f.before.waiting new (f.fit.received rest is) steps.0 (behind_first rest steps.1) rest due (f.fit.prompt rest is) steps.1)))) f.calm p.withheld)
 
   postponed : (rest : List (List Mark)) → is_immediate a.request ≡ true → waiting_on (connection_of a.request) r.both.trace < MOST_WAITING → items_then i r cid header ≡ (Waits a ∷ []) ∷ rest → EachOn (IsDue i.outbox.session) ((Waits a ∷ []) ∷ r.both.trace) rest → ArrivesTo
   postponed rest immediate few is due =
       not_held (ap (λ ms. is_held_first request (effects_of i.outbox.session r.both.trace ms)) is ∙ ap not immediate) (ap (list_all admits_alone) is ∙ due_alone i rest ((Waits a ∷ []) ∷ r.both.trace) due) (ap (starts_late r.both.event) is)
       (once_by ((Waits a ∷ []) ∷ rest) is (due_once i rest ((Waits a ∷ []) ∷ r.both.trace) due))
-      (subst (AllGo i names notes s0 r (Some place) []) (sym is)
-      (postponed_go i names notes f.fit.fit.distinct s0 r place first a refl f.before.admitted f.before.waiting f.known f.fit.waits few rest due
-      (and_parts (is_plain_item (Waits a ∷ [])) (list_all is_plain_item rest) (subst (λ ms. list_all is_plain_item ms ≡ true) is p.plain)).1 (subst (AreStepsFit i r) is f.fit.steps)))
+      (subst (AllGo i names notes (none_unswept s) s0 r (Some place) []) (sym is)
+      (subst (λ (v : Unswept). AllGo i names notes v s0 r (Some place) [] ((Waits a ∷ []) ∷ rest)) same_first
+      (postponed_go i names notes f.fit.fit.distinct s0 r place first a refl f.before.admitted f.before.waiting f.known f.fit.waits few rest due (subst (AreStepsFit i r) is f.fit.steps))))
 
   pub arrives_to : ArrivesTo
   arrives_to = by_becomes (becomes i.outbox.session r.both.trace a)

@@ -44,10 +44,12 @@ steps_asked i asked (item ∷ items) r h = (
   record {
     fit = h.0.fit;
     sends = h.0.sends;
+    one_reply = h.0.one_reply;
     enters = λ c is. let k : IsFreshCommand r c = h.0.enters c is in record { unentered = k.unentered; unleft = k.unleft; untold = k.untold; unmarked = k.unmarked; idle = k.idle; unarrived = k.unarrived };
     waited = h.0.waited;
     leaves = each-weaken (IsLeavingFit i r item) (IsLeavingFit i (record r { asked = asked }) item) (filter_map leaving item) (λ d k. record { held = k.held; waiting = k.waiting; unanswered = k.unanswered; runs = k.runs }) h.0.leaves;
     emptied = h.0.emptied;
+    waits = h.0.waits;
   },
   steps_asked i asked items (side_behind i r item) h.1,
 )
@@ -114,7 +116,7 @@ module _ (i : Interface) (s : StepsSide) (r : Side) (h : Stands i s r) (cid : �
         withheld = h.withheld;
         calm = h.calm;
         before = record { asked = tt; answers = fit.before.answers; entered = fit.before.entered; admitted = fit.before.admitted; waiting = fit.before.waiting };
-        fit = record { fit = fit.event.fit; steps = steps_asked i (r.asked ++ record { event = r.both.event; cookie = cookie } ∷ []) (items_then i (heard_in i r cid header) cid header) (heard_in i r cid header) fit.event.steps; stale = fit.event.stale; sent = fit.event.sent; found = fit.event.found; short = fit.event.short; enabled = fit.event.enabled; few = fit.event.few; regular = record { ascending = fit.event.regular.ascending; units = fit.event.regular.units }; distinct = fit.event.distinct; received = fit.event.received; prompt = fit.event.prompt; waits = fit.event.waits };
+        fit = record { fit = fit.event.fit; steps = steps_asked i (r.asked ++ record { event = r.both.event; cookie = cookie } ∷ []) (items_then i (heard_in i r cid header) cid header) (heard_in i r cid header) fit.event.steps; stale = fit.event.stale; sent = fit.event.sent; replies = fit.event.replies; found = fit.event.found; short = fit.event.short; enabled = fit.event.enabled; few = fit.event.few; regular = record { ascending = fit.event.regular.ascending; units = fit.event.regular.units }; distinct = fit.event.distinct; received = fit.event.received; prompt = fit.event.prompt; waits = fit.event.waits };
         known = taken.0;
         events = taken.1;
       }

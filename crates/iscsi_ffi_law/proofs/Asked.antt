@@ -44,7 +44,7 @@ nth_each P k [] x each is = absurd cc
 nth_each P zero (y ∷ xs) x each is = let same : y ≡ x = cc in subst P same each.0
 nth_each P (suc k) (y ∷ xs) x each is = nth_each P k xs x each.1 is
 
-each_back : {A B : Type 0} (f : A → B) (P : B → Type 0) (xs : List A) → EachOf P (map f xs) → EachOf (λ (x : A). P (f x)) xs
+pub each_back : {A B : Type 0} (f : A → B) (P : B → Type 0) (xs : List A) → EachOf P (map f xs) → EachOf (λ (x : A). P (f x)) xs
 each_back f P [] each = tt
 each_back f P (x ∷ xs) each = (each.0, each_back f P xs each.1)
 

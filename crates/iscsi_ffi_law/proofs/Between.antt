@@ -1,5 +1,5 @@
 -- What holds between two items of an event, and what it comes to as the next one begins.
-use Rattle.std.proofs.Common.{◌≡◌, ℕ, ◌+◌, ◌<◌, ◌≤◌, ◌==◌, ◌&&◌, ◌||◌, ⊎_elim, not, cond, Bool, false, List, [], ◌∷◌, ◌++◌, length, count_by, filter_map, Option, Some, None, refl, ap, sym, subst, ◌∙◌, arith, ne_eqb, eq-eqb, nat_lt, le-ltb, lt-ltb, is_some}
+use Rattle.std.proofs.Common.{◌≡◌, ℕ, ◌+◌, ◌<◌, ◌≤◌, ◌==◌, ◌&&◌, ◌||◌, ⊎_elim, not, cond, Bool, true, false, List, [], ◌∷◌, ◌++◌, length, count_by, filter_map, Option, Some, None, refl, ap, sym, subst, ◌∙◌, arith, ne_eqb, eq-eqb, nat_lt, le-ltb, lt-ltb, is_some}
 use Rattle.iscsi_ffi_law.proofs.KeptCounts.{held_or_waiting}
 use Rattle.std.specs.List.{list_any}
 use Rattle.std.proofs.lemmas.Bool.{cases_lt, false≢true}
@@ -10,10 +10,13 @@ use Rattle.iscsi_history.specs.rules.Trace.{Arrival, Command as RulesCommand, Ma
 use Rattle.iscsi_history.proofs.CountLemmas.{one}
 use Rattle.iscsi_history.proofs.Forms.{AtArrival, AtTurn, Start}
 use Rattle.iscsi_history.proofs.HeldLemmas.{held-delivered}
+use Rattle.iscsi_outbox_rules.specs.rules.Queues.{takes_more}
+use Rattle.iscsi_outbox_law.specs.Commands.{link_in}
 use Rattle.iscsi_outbox_law.specs.Pairs.{EachOf}
 use Rattle.iscsi_outbox_law.specs.Stands.{Stands as OutboxStands}
 use Rattle.iscsi_outbox_law.proofs.PairLemmas.{each-weaken}
 use Rattle.iscsi_outbox_steps.specs.State.{State as OutboxState, limits_of}
+use Rattle.iscsi_requests.specs.Conns.{of_conn}
 use Rattle.iscsi_requests.specs.Functions.{WaitingFunctions}
 use Rattle.iscsi_requests.specs.declared.functions.WaitingFunction.{WaitingFunction}
 use Rattle.iscsi_requests.specs.Numbers.{HeldNumbers, index_of, size_for}
@@ -38,6 +41,7 @@ use Rattle.iscsi_ffi_law.proofs.QuietItems.{IsUnheld, is_held_on}
 use Rattle.iscsi_ffi_law.proofs.Releases.{endings}
 use Rattle.iscsi_ffi_law.proofs.Releasing.{ending}
 use Rattle.iscsi_ffi_law.proofs.Slots.{IsTurnOf, at, count_then, distinct_then, in_place, index_within, long_then, held_in, held_then, named_then, noted_then, slots_same, slots_then, count_put}
+use Rattle.iscsi_ffi_law.proofs.Unswept.{Unswept, unswept_at}
 use Rattle.iscsi_ffi_law.proofs.Walking.{walk_at, walk_in}
 
 -- as many uses have ended, counted in another way
@@ -63,9 +67,17 @@ pending_as names notes pending pending' gone s r same a = record {
   undue = a.undue;
 }
 
--- `own`: the request that arrives in this event, until it executes or is answered; `xs`: the uses that have ended in it
+-- how many uses of a place have ended, and aren't taken off yet; `u`: what is still to be swept
+abbrev pub pending_of : Unswept → Option ℕ → List (Option ℕ) → ℕ → ℕ
+pending_of u own xs p = ending own p + endings xs p + unswept_at u p
+
+-- `own`: the request that arrives in this event, until it executes or is answered; `xs`: the uses that have ended in it. The state is that of the
+-- steps without what is to be swept at the end of the event
 pub record IsBetween (i : Interface) (names : List Name) (notes : List Note) (s : State) (r : Side) (own : Option ℕ) (xs : List (Option ℕ)) : Type 0 where
-  pub requests : AreRequests names notes (λ p. ending own p + endings xs p) (λ q. []) s r
+  pub unswept : Unswept
+  -- of each connection, the places of own PDUs that are needed no more
+  pub gone : ℕ → List (Option ℕ)
+  pub requests : AreRequests names notes (pending_of unswept own xs) gone s r
   pub slots : AreHeld (size_for i.outbox.session.window) s.commands.room names s.held r.both.trace
   pub functions : AreFunctions (cids i) names s.functions (waiting r.both.trace)
   pub outbox : OutboxStands i.outbox s.outbox r.both.box
@@ -78,6 +90,15 @@ pub record IsBetween (i : Interface) (names : List Name) (notes : List Note) (s 
   pub own_named : (p : ℕ) → own ≡ Some p → place_named names r.both.event ≡ Some p
   pub own_unheld : (p : ℕ) → own ≡ Some p → count_held p s + count_functions p s ≡ 0
   pub own_first : (p : ℕ) → own ≡ Some p → xs ≡ []
+  pub long_replies : length unswept.replies ≡ length (cids i)
+  pub long_noted : length unswept.noted ≡ length (cids i)
+  -- nothing is left to be swept where something goes out still
+  pub clear : (p : ℕ) → p < length r.both.box.links → takes_more (link_in r.both.box.links p) ≡ true → (of_conn p unswept.replies ≡ []) × (of_conn p unswept.noted ≡ [])
+
+-- the outbox that an event finds: its effects are walked over that
+pub record IsFound (i : Interface) (o : OutboxState) : Type 0 where
+  pub limits : o.limits ≡ limits_of i.outbox
+  pub many : length o.links ≡ length (cids i)
 
 -- a request executes: it has a use that isn't any yet
 pub record IsHeaded (i : Interface) (names : List Name) (notes : List Note) (s : State) (r : Side) (own : Option ℕ) (xs : List (Option ℕ)) (item : List Mark) (start : Start) (a : Arrival) : Type 0 where
@@ -98,7 +119,7 @@ pub record IsHeaded (i : Interface) (names : List Name) (notes : List Note) (s :
   pub over : count_by (is_place place) held.places + count_lists (λ (f : WaitingFunction). f.request == place) functions.waiting ≡ 0
   pub by : StopReason
   pub why : by ≡ reason_by a.request (Some place)
-  pub walk : (o : OutboxState) → o.limits ≡ limits_of i.outbox → (acts : List Action) (first : Bool) (sent : ℕ) → (first && is_late r.both.event item) ≡ false → on_effect first (start_effect start a.request) (walk_at o s acts xs own sent) ≡ walk_in o (record s { held = held; functions = functions }) acts xs (Some place) None (Some by) sent
+  pub walk : (o : OutboxState) → IsFound i o → (acts : List Action) (first : Bool) (sent : ℕ) → (first && is_late r.both.event item) ≡ false → on_effect first (start_effect start a.request) (walk_at o s acts xs own sent) ≡ walk_in o (record s { held = held; functions = functions }) acts xs (Some place) None (Some by) sent
 
 -- ---- its turn comes
 
@@ -177,7 +198,7 @@ module _ (i : Interface) (names : List Name) (notes : List Note) (s : State) (r 
 
 -- ---- an immediate one arrives
 
-arrival_unheld : (a : Arrival) (void : Option ℕ) (entering : Option RulesCommand) (reply : Option Reply) → IsUnheld (plain_item AtArrival a void entering reply)
+pub arrival_unheld : (a : Arrival) (void : Option ℕ) (entering : Option RulesCommand) (reply : Option Reply) → IsUnheld (plain_item AtArrival a void entering reply)
 arrival_unheld a void entering reply = let u = unheld_marks a void entering reply in record { admits = u.admits; admits_none = u.admits_none; delivers = u.delivers; empties = u.empties }
 
 -- the trace holds the same behind such an item

@@ -1,5 +1,5 @@
 -- A call that changes the outbox, and what waits or isn't written.
-use Rattle.std.proofs.Common.{◌≡◌, ℕ, ◌+◌, ◌<◌, ◌≤◌, ◌==◌, List, ◌++◌, length, map, filter, Option, Some, ap, sym, subst, ◌∙◌}
+use Rattle.std.proofs.Common.{◌≡◌, ℕ, ◌+◌, ◌<◌, ◌≤◌, List, length, filter, Option, ap, sym, subst, ◌∙◌}
 use Rattle.iscsi_history.specs.rules.Trace.{entered}
 use Rattle.iscsi_outbox_rules.specs.rules.Boxes.{Box, Link}
 use Rattle.iscsi_outbox_law.specs.Commands.{link_in}
@@ -19,6 +19,7 @@ use Rattle.iscsi_ffi_law.specs.Parts.{AreCounted, AreKept, IsAbout, IsAnswered, 
 use Rattle.iscsi_ffi_law.specs.Stands.{AreRequests}
 use Rattle.iscsi_ffi_law.specs.Uses.{count_lists, uses_of}
 use Rattle.iscsi_ffi_law.proofs.Moved.{same_homes, with_box}
+use Rattle.iscsi_ffi_law.proofs.NotePlaces.{notes_same}
 
 -- the state with other parts
 abbrev pub changed_to : State → OutboxState → Cookies → WaitingReplies → Unwritten → Unwritten → State
@@ -76,9 +77,6 @@ conn_kept names notes gone s s' r b p l l' c replies noted unwritten conn left q
       (subst (λ xs. PairsOf (IsAbout names notes (with_box r b) l'.conn) xs (left_to_write l)) (sym unwritten)
       (subst (λ k. PairsOf (IsAbout names notes (with_box r b) k) (of_conn p s.unwritten.handed) (left_to_write l)) (sym conn)
       (pairs-weaken (IsAbout names notes r l.conn) (IsAbout names notes (with_box r b) l.conn) (of_conn p s.unwritten.handed) (left_to_write l) (λ x y k. record { named = k.named; noted = k.noted }) c.written)));
-  noted =
-      ap (λ k. map (λ (n : Note). Some n.place) (filter (λ (n : Note). n.conn == k) notes)) conn ∙ c.noted
-      ∙ ap (λ hs. gone ++ (noted_in (of_conn p s.unwritten.handed) hs ++ of_conn p s.noted.handed)) (sym left)
-      ∙ ap (λ xs. gone ++ (noted_in xs (left_to_write l') ++ of_conn p s.noted.handed)) (sym unwritten)
-      ∙ ap (λ xs. gone ++ (noted_in (of_conn p s'.unwritten.handed) (left_to_write l') ++ xs)) (sym noted);
+  noted = notes_same notes gone l.conn l'.conn (of_conn p s.noted.handed) (of_conn p s'.noted.handed) (noted_in (of_conn p s.unwritten.handed) (left_to_write l)) (noted_in (of_conn p s'.unwritten.handed) (left_to_write l')) conn noted
+      (ap (λ xs. noted_in xs (left_to_write l')) unwritten ∙ ap (noted_in (of_conn p s.unwritten.handed)) left) c.noted;
 }

@@ -1,6 +1,5 @@
--- A connection is closed in the outbox by the Logout that came on it: it takes more still, and nothing that waits is dropped.
-use Rattle.std.proofs.Common.{◌≡◌, ℕ, ◌<◌, ◌==◌, cond, true, List, [], ◌∷◌, ◌++◌, length, filter_map, Option, Some, None, refl, ap, sym, subst, ◌∙◌, filter, not, Bool, ◌&&◌, false}
-use Rattle.iscsi_outbox_law.specs.Pairs.{EachOf}
+-- A Logout closes connections in the outbox: the one on which it came takes more still, and nothing that waits there is dropped.
+use Rattle.std.proofs.Common.{◌≡◌, ℕ, ◌<◌, ◌==◌, cond, true, List, [], ◌∷◌, ◌++◌, length, filter_map, Option, Some, None, refl, ap, sym, subst, ◌∙◌, ◌&&◌, false}
 use Rattle.iscsi_wire.specs.Fields.{connection_of}
 use Rattle.iscsi_ffi_law.proofs.Quiet.{settled_tasks}
 use Rattle.iscsi_ffi_law.proofs.DonePhases.{running_enabled, runs_at, turned_runs}
@@ -8,19 +7,18 @@ use Rattle.iscsi_outbox_rules.specs.rules.Words.{contains}
 use Rattle.iscsi_ffi_law.specs.Parts.{IsQueued}
 use Rattle.iscsi_requests.specs.declared.replies.WaitingReply.{WaitingReply}
 use Rattle.iscsi_outbox_law.proofs.PlaceLemmas.{AreApart}
-use Rattle.iscsi_outbox_law.proofs.PairLemmas.{each-weaken, each-map}
-use Rattle.std.specs.List.{flat_map, list_all, list_any}
-use Rattle.std.proofs.lemmas.Bool.{cond_both, eqb-true}
+use Rattle.iscsi_outbox_law.proofs.PairLemmas.{each-weaken}
+use Rattle.std.specs.List.{flat_map, list_any}
+use Rattle.std.proofs.lemmas.Bool.{cond_both}
 use Rattle.std.proofs.lemmas.List.{append-nil, length-map}
 use Rattle.iscsi_wire.specs.declared.reply.Reply.{Reply}
 use Rattle.iscsi_wire.specs.declared.request.Request.{Request}
 use Rattle.iscsi_history.specs.declared.effect.Effect.{Effect}
 use Rattle.iscsi_history.specs.rules.Trace.{Command, Trace, first_of}
-use Rattle.iscsi_history.proofs.BoolLemmas.{and_parts}
-use Rattle.iscsi_outbox_rules.specs.rules.Boxes.{Answer, Box, Link, Task, Aim, Handed}
+use Rattle.iscsi_outbox_rules.specs.rules.Boxes.{Answer, Box, Link, Task, Aim}
 use Rattle.iscsi_outbox_rules.specs.rules.Calls.{Opening}
 use Rattle.iscsi_outbox_rules.specs.rules.Due.{settle}
-use Rattle.iscsi_outbox_rules.specs.rules.Items.{after_item, close, close_all, conns_closed, enter_tasks, executing, in_phase, leave, newly_closed, phase_enabled, reply_sent, send, task_entered, ticket_enabled, tickets_left, aim, answer, outgoing, send_as}
+use Rattle.iscsi_outbox_rules.specs.rules.Items.{after_item, aim, answer, close, close_all, close_one, conns_closed, enter_tasks, executing, in_phase, leave, newly_closed, outgoing, phase_enabled, reply_sent, send, send_as, task_entered, ticket_enabled, tickets_left}
 use Rattle.iscsi_outbox_rules.specs.rules.Queues.{at_link, drop_on, takes_more}
 use Rattle.iscsi_outbox_law.specs.Commands.{link_in}
 use Rattle.iscsi_ffi_law.specs.Names.{Name}
@@ -41,20 +39,12 @@ pub record IsPartingPart (links : List Link) (es : List Effect) (q : Request) (c
 abbrev pub shut : Link → Link
 shut l = record l { closed = true }
 
-abbrev pub shut_on : ℕ → Box → Box
-shut_on conn b = record b { links = at_link conn shut b.links }
-
--- .. also where it was
-abbrev pub shut_by : ℕ → List ℕ → Box → Box
-shut_by by [] b = b
-shut_by by (conn ∷ conns) b = shut_by by conns (shut_on by b)
-
--- those that it closes are all the one on which it came
-pub own_closed : (by : ℕ) (conns : List ℕ) (b : Box) → list_all (λ conn. conn == by) conns ≡ true → close_all by conns b ≡ shut_by by conns b
-own_closed by [] b all = refl
-own_closed by (conn ∷ conns) b all =
-    let parts = and_parts (conn == by) (list_all (λ c. c == by) conns) all in
-    ap (λ v. close_all by conns (cond v (shut_on conn b) (drop_on conn (record b { links = at_link conn (λ (l : Link). record l { closed = true; cut = true }) b.links })))) parts.0 ∙ ap (λ c. close_all by conns (shut_on c b)) (eqb-true conn by parts.0) ∙ own_closed by conns (shut_on by b) parts.1
+-- commands run on as they did
+closed_tasks : (by : ℕ) (cs : List ℕ) (b : Box) → (close_all by cs b).tasks ≡ b.tasks
+closed_tasks by [] b = refl
+closed_tasks by (c ∷ cs) b =
+    closed_tasks by cs (close_one by c b)
+    ∙ cond_both (c == by) (record b { links = at_link c (λ (l : Link). record l { closed = true }) b.links }) (drop_on c (record b { links = at_link c (λ (l : Link). record l { closed = true; cut = true }) b.links })) (λ (x : Box). x.tasks ≡ b.tasks) (λ is. refl) (λ isnt. refl)
 
 module _ (o : Opening) (b : Box) (q : Request) (cs ns : List Command) (y : Option (ℕ × Reply)) (conns : List ℕ) (es : List Effect) (h : IsPartingPart b.links es q cs ns y conns) where
   abbrev closes : List ℕ
@@ -109,58 +99,10 @@ all_shut names t answers replies noted by links undue h = record {
     same_conn : (l : Link) → (cond (l.conn == by) (shut l) l).conn ≡ l.conn
     same_conn l = cond_both (l.conn == by) (shut l) l (λ (m : Link). m.conn ≡ l.conn) (λ is. refl) (λ isnt. refl)
 
--- ---- closed by its own Logout, also where it was
-
-module _ (by : ℕ) where
-  pub shut_long : (conns : List ℕ) (b : Box) → length (shut_by by conns b).links ≡ length b.links
-  shut_long [] b = refl
-  shut_long (conn ∷ conns) b = shut_long conns (shut_on by b) ∙ length-map b.links (λ (l : Link). cond (l.conn == by) (shut l) l)
-
-  pub shut_by_out : (conns : List ℕ) (b : Box) (p : ℕ) → p < length b.links → SameOut (link_in b.links p) (link_in (shut_by by conns b).links p)
-  shut_by_out [] b p within = record { conn = refl; takes = refl; left = refl }
-  shut_by_out (conn ∷ conns) b p within =
-      let x = shut_out by b.links p within in
-      let y = shut_by_out conns (shut_on by b) p (subst (λ n. p < n) (sym (length-map b.links (λ (l : Link). cond (l.conn == by) (shut l) l))) within) in
-      record { conn = y.conn ∙ x.conn; takes = y.takes ∙ x.takes; left = y.left ∙ x.left }
-
-  pub shut_undue : (conns : List ℕ) (b : Box) → (shut_by by conns b).undue ≡ b.undue
-  shut_undue [] b = refl
-  shut_undue (conn ∷ conns) b = shut_undue conns (shut_on by b)
-
-  pub shut_sent : (conns : List ℕ) (b : Box) → (shut_by by conns b).sent ≡ b.sent
-  shut_sent [] b = refl
-  shut_sent (conn ∷ conns) b = shut_sent conns (shut_on by b)
-
-  pub shut_tasks : (conns : List ℕ) (b : Box) → (shut_by by conns b).tasks ≡ b.tasks
-  shut_tasks [] b = refl
-  shut_tasks (conn ∷ conns) b = shut_tasks conns (shut_on by b)
-
-  pub shut_all : (names : List Name) (t : Trace) (answers : List ℕ) (replies : ℕ → List WaitingReply) (noted : ℕ → ℕ) (conns : List ℕ) (b : Box) → AllQueued names t answers replies noted b.links b.undue → AllQueued names t answers replies noted (shut_by by conns b).links (shut_by by conns b).undue
-  shut_all names t answers replies noted [] b h = h
-  shut_all names t answers replies noted (conn ∷ conns) b h = shut_all names t answers replies noted conns (shut_on by b) (all_shut names t answers replies noted by b.links b.undue h)
-
-module _ (by : ℕ) (P : List Handed → Type 0) where
-  -- what was handed out there stays
-  pub shut_handed : (conns : List ℕ) (b : Box) → EachOf (λ (l : Link). P l.handed) b.links → EachOf (λ (l : Link). P l.handed) (shut_by by conns b).links
-  shut_handed [] b h = h
-  shut_handed (conn ∷ conns) b h = shut_handed conns (shut_on by b) (each-map (λ (l : Link). P l.handed) (λ (l : Link). P l.handed) (λ (l : Link). cond (l.conn == by) (shut l) l) b.links (λ l q. cond_both (l.conn == by) (shut l) l (λ (m : Link). P m.handed) (λ is. q) (λ isnt. q)) h)
-
--- those that were open are the one on which it came
-pub only_own : (by : ℕ) (conns : List ℕ) (p : ℕ → Bool) → list_all (λ conn. conn == by) conns ≡ true → list_all (λ conn. conn == by) (filter p conns) ≡ true
-only_own by [] p all = refl
-only_own by (conn ∷ conns) p all =
-    let parts = and_parts (conn == by) (list_all (λ c. c == by) conns) all in
-    cond_both (p conn) (conn ∷ filter p conns) (filter p conns) (λ (cs : List ℕ). list_all (λ c. c == by) cs ≡ true) (λ is. ap (λ v. v && list_all (λ c. c == by) (filter p conns)) parts.0 ∙ only_own by conns p parts.1) (λ isnt. only_own by conns p parts.1)
-
-module _ (o : Opening) (b : Box) (q : Request) (cs ns : List Command) (y : Option (ℕ × Reply)) (conns : List ℕ) (es : List Effect) (h : IsPartingPart b.links es q cs ns y conns) (own : list_all (λ conn. conn == connection_of q) conns ≡ true) where
-  -- the outbox with them gone, and the connection closed
-  abbrev pub parted_box : Box
-  parted_box = shut_by (connection_of q) (newly_closed b conns) (left_box b q cs)
-
-  pub own_item : after_item o b es ≡ settle o (in_phase phase_enabled (tickets_of ns) (send o (Some q) [] conns (newly_closed b conns) y parted_box))
-  own_item = parting_item o b q cs ns y conns es h
-      ∙ ap (λ (c : Box). settle o (in_phase phase_enabled (tickets_of ns) (send o (Some q) [] conns (newly_closed b conns) y c)))
-      (own_closed (connection_of q) (newly_closed b conns) (left_box b q cs) (only_own (connection_of q) conns (λ conn. not (list_any (λ (l : Link). l.conn == conn && l.closed) b.links)) own))
+module _ (o : Opening) (b : Box) (q : Request) (cs ns : List Command) (y : Option (ℕ × Reply)) (conns : List ℕ) (es : List Effect) (h : IsPartingPart b.links es q cs ns y conns) where
+  -- the outbox with them gone, and with what it closes closed
+  abbrev parted_box : Box
+  parted_box = close_all (connection_of q) (newly_closed b conns) (left_box b q cs)
 
   sent_as : (w : Option (ℕ × Reply)) (c : Box) → (send o (Some q) [] conns (newly_closed b conns) w c).tasks ≡ c.tasks
   sent_as None c = refl
@@ -173,10 +115,10 @@ module _ (o : Opening) (b : Box) (q : Request) (cs ns : List Command) (y : Optio
   -- all others run as before
   pub parts_runs : (n : ℕ) → contains (tickets_of cs) n ≡ false → list_any (runs_at n) (after_item o b es).tasks ≡ list_any (runs_at n) b.tasks
   parts_runs n other =
-      ap (λ (c : Box). list_any (runs_at n) c.tasks) own_item
+      ap (λ (c : Box). list_any (runs_at n) c.tasks) (parting_item o b q cs ns y conns es h)
       ∙ ap (list_any (runs_at n)) (settled_tasks o [] sent_box.undue sent_box)
       ∙ turned_runs phase_enabled (tickets_of ns) n (send o (Some q) [] conns (newly_closed b conns) y parted_box).tasks running_enabled
-      ∙ ap (list_any (runs_at n)) (sent_as y parted_box ∙ shut_tasks (connection_of q) (newly_closed b conns) (left_box b q cs))
+      ∙ ap (list_any (runs_at n)) (sent_as y parted_box ∙ closed_tasks (connection_of q) (newly_closed b conns) (left_box b q cs))
       ∙ taken_runs b.tasks cs n other
     where
       sent_box : Box

@@ -88,7 +88,7 @@ module _ (i : Interface) (names : List Name) (notes : List Note) (s : State) (r 
             record w' { sent = (s.outbox.sent + 1) % 2 ^ 64 }
 
         room : may_wait s.outbox.sent s.replies ≡ true
-        room = ap (λ n. may_wait n s.replies) (sent_is i names notes s r d status f) ∙ may_wait_more i names notes f.pending (λ p. []) s r f.requests f.outbox f.sizes f.fit.sent f.fit.replies
+        room = ap (λ n. may_wait n s.replies) (sent_is i names notes s r d status f) ∙ may_wait_more i names notes f.pending f.gone s r f.requests f.outbox f.sizes f.fit.sent f.fit.replies
 
     abbrev with_items : List Command → Doing
     with_items cs = record {
@@ -133,7 +133,7 @@ module _ (i : Interface) (names : List Name) (notes : List Note) (s : State) (r 
 
   module _ (xs : List (Option ℕ)) (room : length xs ≤ s.room) (uses : (place : ℕ) → uses_at place s.cookies ≡ uses_of place s + endings xs place) (pending : (place : ℕ) → f.pending place ≡ endings xs place) where
     released : Released s acts (releases xs (record { state = s; actions = acts; forgets = [] }))
-    released = all_released s acts f.requests.counted (commands_known names notes f.pending (λ q. []) s r f.requests) xs room uses
+    released = all_released s acts f.requests.counted (commands_known names notes f.pending f.gone s r f.requests) xs room uses
 
     used_now : (t : State) (c : Command) → In c t.commands.items → is_live c ≡ true → is_used_place t c.request ≡ true
     used_now t c there lives =
@@ -147,11 +147,11 @@ module _ (i : Interface) (names : List Name) (notes : List Note) (s : State) (r 
     abbrev t : State
     t = state_done i names notes s r d status f
 
-    requests_now : AreRequests names notes f.pending (λ q. []) t (done_side i names notes s r d status f)
+    requests_now : AreRequests names notes f.pending f.gone t (done_side i names notes s r d status f)
     requests_now = requests_done i names notes s r d status f r.told s.withheld (map (restaged Over d.ticket) s.commands.items) (have_over i names notes s r d status f)
 
     released_now : Released t acts (releases xs (record { state = t; actions = acts; forgets = [] }))
-    released_now = all_released t acts f.requests.counted (commands_known names notes f.pending (λ q. []) t (done_side i names notes s r d status f) requests_now) xs room
+    released_now = all_released t acts f.requests.counted (commands_known names notes f.pending f.gone t (done_side i names notes s r d status f) requests_now) xs room
         (λ q. requests_now.uses q ∙ ap (λ n. uses_of q t + n) (pending q))
 
     pub takes_after : takes None (done_entry i.outbox.session r.both.trace d status) (releases xs (record { state = s; actions = acts; forgets = [] }))
@@ -165,7 +165,7 @@ module _ (i : Interface) (names : List Name) (notes : List Note) (s : State) (r 
         → takes None (done_entry i.outbox.session r.both.trace d status) (releases xs (record { state = s; actions = acts; forgets = [] })) ≡ releases xs e
     starts_after e is cookies same none =
         takes_after
-        ∙ starts_released t acts xs f.requests.counted released_now (tickets_of (news i.outbox.session r.both.trace d status)) (used_now t) (commands_known names notes f.pending (λ q. []) t (done_side i names notes s r d status f) requests_now) requests_now.numbered
+        ∙ starts_released t acts xs f.requests.counted released_now (tickets_of (news i.outbox.session r.both.trace d status)) (used_now t) (commands_known names notes f.pending f.gone t (done_side i names notes s r d status f) requests_now) requests_now.numbered
         (ap (λ (x : Doing). x.state.cookies) is ∙ cookies) (ap (λ (x : Doing). x.state.room) is ∙ same) (ap (λ (x : Doing). x.forgets) is ∙ none)
         ∙ ap (releases xs) is
 

@@ -67,7 +67,8 @@ use Rattle.iscsi_ffi_law.proofs.Staging.{Both, both_of}
 -- what is found as a command completes
 pub record IsFound (i : Interface) (names : List Name) (notes : List Note) (s : State) (r : Side) (d : RulesCommand) (status : ℕ) : Type 0 where
   pub pending : ℕ → ℕ  -- uses that have ended already, and aren't taken off yet
-  pub requests : AreRequests names notes pending (λ p. []) s r
+  pub gone : ℕ → List (Option ℕ)  -- of each connection, the places of own PDUs that are needed no more
+  pub requests : AreRequests names notes pending gone s r
   pub outbox : OutboxStands i.outbox s.outbox r.both.box
   pub sizes : AreSizes i s
   pub counts : AreCounts i s r
@@ -303,7 +304,7 @@ module _ (i : Interface) (names : List Name) (notes : List Note) (s : State) (r 
       at_last = ap (λ k. nth k (r.answers ++ d.arrival.event ∷ [])) (sym f.requests.answers) ∙ nth_last r.answers d.arrival.event
 
   all_before : AllQueued names r.both.trace r.answers (λ q. of_conn q s.replies.waiting) (λ q. length (of_conn q s.noted.handed)) r.both.box.links r.both.box.undue
-  all_before = all_queued i names notes f.pending (λ q. []) s r f.requests f.outbox f.fit.fit.distinct f.fit.fit.sound
+  all_before = all_queued i names notes f.pending f.gone s r f.requests f.outbox f.fit.fit.distinct f.fit.fit.sound
 
   many_got : length (map gets r.both.box.links) ≡ length r.both.box.links
   many_got = length-map r.both.box.links gets

@@ -35,7 +35,7 @@ use Rattle.iscsi_ffi_law.proofs.Staging.{Both}
 
 module _ (i : Interface) (s : StepsSide) (r : Side) (h : Stands i s r) (d : RulesCommand) (status : ℕ) (command : command_of r.both.trace d.ticket ≡ Some d) (a : AllDone i r d.ticket status) where
   abbrev f : IsFound i h.names h.notes s.state r d status
-  f = record { pending = endings []; requests = h.requests; outbox = h.outbox; sizes = h.sizes; counts = h.counts; command = command; fit = a.fit }
+  f = record { pending = endings []; gone = λ p. []; requests = h.requests; outbox = h.outbox; sizes = h.sizes; counts = h.counts; command = command; fit = a.fit }
 
   held : s.state.withheld ≡ tickets_of (filter (λ (c : RulesCommand). not (c.ticket == d.ticket)) (held_of r))
   held = h.withheld ∙ ap (λ cs. tickets_of (filter (λ (c : RulesCommand). not (c.ticket == d.ticket)) cs)) (sym (none_first (held_of r) h.calm))
@@ -99,7 +99,7 @@ module _ (i : Interface) (s : StepsSide) (r : Side) (h : Stands i s r) where
 
     module _ (st : ℕ) (fit : AllDone i r d.ticket st) where
       two : Both h.names r s.state.commands.items d
-      two = b i h.names h.notes s.state r d st (record { pending = endings []; requests = h.requests; outbox = h.outbox; sizes = h.sizes; counts = h.counts; command = command; fit = fit.fit })
+      two = b i h.names h.notes s.state r d st (record { pending = endings []; gone = λ p. []; requests = h.requests; outbox = h.outbox; sizes = h.sizes; counts = h.counts; command = command; fit = fit.fit })
 
       going_on : is_going two.c ≡ true
       going_on = two.is.going ∙ ap (λ v. v && contains r.told d.ticket) two.lives ∙ told

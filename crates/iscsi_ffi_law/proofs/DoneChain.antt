@@ -109,7 +109,8 @@ module _ (i : Interface) (names : List Name) (notes : List Note) (distinct : are
     abbrev f : IsFound i names notes s0 r c (status_there r c)
     f = record {
       pending = endings xs;
-      requests = requests_held names notes (endings xs) (λ q. []) s r (tickets_of cs) mid.requests;
+      gone = mid.gone;
+      requests = requests_held names notes (endings xs) mid.gone s r (tickets_of cs) mid.requests;
       outbox = mid.outbox;
       sizes = record { room = mid.sizes.room; functions = mid.sizes.functions; replies = mid.sizes.replies; noted = mid.sizes.noted; unwritten = mid.sizes.unwritten; noted_room = mid.sizes.noted_room; unwritten_room = mid.sizes.unwritten_room; replies_room = mid.sizes.replies_room; slots = mid.sizes.slots; few = mid.sizes.few };
       counts = record { units = mid.counts.units; last = mid.counts.last; tracked = mid.counts.tracked };

@@ -52,7 +52,8 @@ use Rattle.iscsi_ffi_law.proofs.Starting.{Starts, all_inserted, starting_of, wit
 
 -- what holds there; `acts`: what was told so far. The places are those of commands that start still
 pub record IsMid (i : Interface) (names : List Name) (notes : List Note) (s : State) (r : Side) (acts : List Action) (pending : ℕ → ℕ) : Type 0 where
-  pub requests : AreRequests names notes pending (λ q. []) s r
+  pub gone : ℕ → List (Option ℕ)
+  pub requests : AreRequests names notes pending gone s r
   pub outbox : OutboxStands i.outbox s.outbox r.both.box
   pub sizes : AreSizes i s
   pub flags : AreFlags i s r
@@ -157,6 +158,7 @@ module _ (i : Interface) (names : List Name) (notes : List Note) (s : State) (r 
   mid_then slots functions = record {
     functions = functions;
     slots = slots_same (size_for i.outbox.session.window) s.commands.room names s.held r.both.trace (done_trace r.both.trace d status) (held_same r.both.trace (done_item d status) (record { admits = refl; admits_none = λ n. refl; delivers = λ n. refl; empties = λ n. refl })) slots;
+    gone = f.gone;
     requests = requests_done i names notes s r d status f (r.told ++ tickets_of (starting_of (done_side i names notes s r d status f) (news i.outbox.session r.both.trace d status)))
         (all_inserted (tickets_of (withheld_of (done_side i names notes s r d status f) (news i.outbox.session r.both.trace d status))) s.withheld) k.items k.have;
     outbox = stands_after i names notes s r d status f;
@@ -195,9 +197,9 @@ abbrev pub going_rel : List (Option ℕ) → State → Side → List Action → 
 going_rel xs s r acts = record { event = r.both.event; trace = r.both.trace; doing = releases xs (record { state = s; actions = acts; forgets = [] }) }
 
 pub mid_ends : (i : Interface) (names : List Name) (notes : List Note) (xs : List (Option ℕ)) (s : State) (r : Side) (acts : List Action) → IsMid i names notes s r acts (endings xs) → length xs ≤ s.room → are_distinct i.outbox.session.conns ≡ true → held_of r ≡ [] → EndsAlike i (going_rel xs s r acts) r acts
-mid_ends i names notes xs s r acts m room distinct none = ends_with i names notes (λ q. []) xs acts s r at_end room short (going_rel xs s r acts) refl refl refl
+mid_ends i names notes xs s r acts m room distinct none = ends_with i names notes m.gone xs acts s r at_end room short (going_rel xs s r acts) refl refl refl
   where
-    at_end : IsAtEnd i names notes (endings xs) (λ q. []) s r
+    at_end : IsAtEnd i names notes (endings xs) m.gone s r
     at_end = record {
       outbox = m.outbox;
       sound = m.sound;

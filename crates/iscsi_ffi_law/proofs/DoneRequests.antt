@@ -39,6 +39,7 @@ use Rattle.iscsi_ffi_law.proofs.Marking.{pairs_mapped}
 use Rattle.iscsi_ffi_law.proofs.Members.{CountedAt, Passing, counted_in, each_in, in_counted, lists_counted, two_counted}
 use Rattle.iscsi_ffi_law.proofs.Moved.{same_homes}
 use Rattle.iscsi_ffi_law.proofs.Next.{nth_within}
+use Rattle.iscsi_ffi_law.proofs.NotePlaces.{notes_same}
 use Rattle.iscsi_ffi_law.proofs.Queued.{SameOut}
 use Rattle.iscsi_ffi_law.proofs.Replies.{AnswersIt, answers_it}
 use Rattle.iscsi_ffi_law.proofs.Staging.{HaveCommands, one_over, restaged, restaged_ticket}
@@ -241,7 +242,7 @@ module _ (i : Interface) (names : List Name) (notes : List Note) (s : State) (r 
   -- ---- all of it
 
   pub requests_done : (told held : List ℕ) (items : List Command) → HaveCommands names (record done_side { told = told }) (outbox_after i names notes s r d status f) (map (restaged Over d.ticket) s.commands.items) items
-      → AreRequests names notes f.pending (λ q. []) (record (state_done i names notes s r d status f) { commands = record s.commands { items = items }; withheld = held }) (record done_side { told = told })
+      → AreRequests names notes f.pending f.gone (record (state_done i names notes s r d status f) { commands = record s.commands { items = items }; withheld = held }) (record done_side { told = told })
   requests_done told held items have = record {
     asked = f.requests.asked;
     noted = f.requests.noted;
@@ -265,7 +266,7 @@ module _ (i : Interface) (names : List Name) (notes : List Note) (s : State) (r 
     last = (let long = length-append r.answers (d.arrival.event ∷ []) in let many = f.requests.answers in omega (arith, long, many));
     conns = λ q within.
         let short : q < length r.both.box.links = short_of q within in
-        let c : IsConn names notes [] s r q (link_in r.both.box.links q) = f.requests.conns q short in
+        let c : IsConn names notes (f.gone q) s r q (link_in r.both.box.links q) = f.requests.conns q short in
         let same : SameOut (link_in r.both.box.links q) (link_in (box_after i names notes s r d status f).links q) = same_after i names notes s r d status f q short in
         record {
           replies = answered_on q short;
@@ -275,9 +276,8 @@ module _ (i : Interface) (names : List Name) (notes : List Note) (s : State) (r 
               (pairs_each (IsAbout names notes r (link_in r.both.box.links q).conn) (IsAbout names notes r' (link_in r.both.box.links q).conn) (λ (h : Handed). IsBefore r.both.box.sent h.out.sent) (of_conn q s.unwritten.handed) (left_to_write (link_in r.both.box.links q))
               (λ x y before k. record { named = each-weaken (λ (n : Name). is_about n.event r y.out ≡ is_place n.place x) (λ (n : Name). is_about n.event r' y.out ≡ is_place n.place x) names (λ n e. about_same told n.event y.out before ∙ e) k.named; noted = k.noted })
               (each_left (λ (h : Handed). IsBefore r.both.box.sent h.out.sent) (link_in r.both.box.links q) (each-at (λ (l : Link). EachOf (λ (h : Handed). IsBefore r.both.box.sent h.out.sent) l.handed) r.both.box.links q (new_link 0) short f.fit.handed)) c.written));
-          noted =
-              ap (λ k. map (λ (n : Note). Some n.place) (filter (λ (n : Note). n.conn == k) notes)) same.conn ∙ c.noted
-              ∙ ap (λ hs. noted_in (of_conn q s.unwritten.handed) hs ++ of_conn q s.noted.handed) (sym same.left);
+          noted = notes_same notes (f.gone q) (link_in r.both.box.links q).conn (link_in (box_after i names notes s r d status f).links q).conn (of_conn q s.noted.handed) (of_conn q s.noted.handed) (noted_in (of_conn q s.unwritten.handed) (left_to_write (link_in r.both.box.links q)))
+              (noted_in (of_conn q s.unwritten.handed) (left_to_write (link_in (box_after i names notes s r d status f).links q))) same.conn refl (ap (noted_in (of_conn q s.unwritten.handed)) same.left) c.noted;
         };
     undue = (queued_after i names notes s r d status f).undue_are;
   }

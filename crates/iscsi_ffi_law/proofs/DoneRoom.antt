@@ -1,5 +1,5 @@
 -- No more replies are kept than wait in the outbox, so there is room for one more.
-use Rattle.std.proofs.Common.{◌≡◌, ℕ, zero, suc, ◌+◌, ◌-◌, ◌^◌, ◌<◌, ◌≤◌, ◌==◌, ◌&&◌, ⊎_elim, nat_lt, cond, Bool, true, List, [], ◌∷◌, ◌++◌, length, map, count_by, Option, Some, None, is_some, refl, ap, ◌∙◌, arith, lt-ltb, length-append}
+use Rattle.std.proofs.Common.{◌≡◌, ℕ, zero, suc, ◌+◌, ◌-◌, ◌^◌, ◌<◌, ◌≤◌, ◌==◌, ◌&&◌, ⊎_elim, nat_lt, cond, Bool, true, List, [], ◌∷◌, ◌++◌, length, map, count_by, Option, Some, None, is_some, refl, ap, ◌∙◌, arith, lt-ltb, length-append, ◌*◌}
 use Rattle.std.specs.Prelude.{sum_by}
 use Rattle.std.proofs.lemmas.Bool.{cases_lt}
 use Rattle.std.proofs.lemmas.List.{length-map}
@@ -11,7 +11,7 @@ use Rattle.iscsi_outbox_rules.specs.rules.Boxes.{Answer, Link, Outgoing}
 use Rattle.iscsi_outbox_rules.specs.rules.Words.{is_reply, replies_waiting}
 use Rattle.iscsi_outbox_law.specs.Commands.{link_in}
 use Rattle.iscsi_outbox_law.specs.Stands.{Stands as OutboxStands}
-use Rattle.iscsi_requests.specs.Conns.{count_all}
+use Rattle.iscsi_requests.specs.Conns.{count_all, of_conn}
 use Rattle.iscsi_requests.specs.Replies.{all_of, has_log_place}
 use Rattle.iscsi_requests.specs.declared.replies.WaitingReply.{WaitingReply}
 use Rattle.iscsi_ffi_rules.specs.rules.Calls.{Interface}
@@ -23,7 +23,13 @@ use Rattle.iscsi_ffi_law.specs.Parts.{IsBefore, IsKnownOut, IsUndue, is_sent_at}
 use Rattle.iscsi_ffi_law.specs.Stands.{AreRequests, AreSizes}
 use Rattle.iscsi_ffi_law.specs.Uses.{count_lists, is_place}
 use Rattle.iscsi_ffi_law.proofs.Finish.{as_many_links}
-use Rattle.iscsi_ffi_law.proofs.Fitting.{count_inside, count_map, fewer, sent_place, sent_reply}
+use Rattle.iscsi_ffi_law.proofs.Fitting.{count_inside, noted_own, count_map, fewer, sent_place, sent_reply}
+use Rattle.iscsi_outbox_law.specs.Sound.{IsLinkSound, IsSound}
+use Rattle.iscsi_outbox_law.proofs.PairLemmas.{each-at}
+use Rattle.iscsi_outbox_rules.specs.rules.Own.{is_own}
+use Rattle.iscsi_outbox_rules.specs.rules.Run.{new_link}
+use Rattle.iscsi_ffi_rules.specs.rules.Needs.{is_noted}
+use Rattle.iscsi_ffi_rules.specs.rules.Run.{cids}
 use Rattle.iscsi_ffi_law.proofs.Members.{CountedAt, lists_counted}
 
 all_counted : (p : WaitingReply → Bool) (lists : List (List WaitingReply)) → count_by p (all_of lists) ≡ count_lists p lists
@@ -97,6 +103,27 @@ module _ (i : Interface) (names : List Name) (notes : List Note) (pending : ℕ 
       (λ out k some. sent_reply out.pdu out.ticket out.sent k.own some)) in
       let later = count_inside (IsUndue names r.answers) (λ (x : Answer). is_some x.out.sent) (λ (x : Answer). is_reply x.out.pdu) r.both.box.undue a.undue (λ x k some. k.reply) in
       omega (arith, all, all_long s.replies.waiting, here, later, sum_by-append (λ (x : Option ℕ). cond (is_some x) 1 0) (all_sent r.both.box.links) undue, count_map (λ (x : Answer). x.out.sent) is_some r.both.box.undue)
+
+  -- own PDUs that are of no command
+  pub noted_few : IsSound i.outbox r.both.box → count_all s.noted.handed ≤ i.outbox.own * length (cids i)
+  noted_few sound = (let long = z.noted in let few = each_few s.noted.handed (λ p short. one_few p (let many = as_many_links i s r h in omega (arith, short, long, many))) in let same = ap (λ n. i.outbox.own * n) long in omega (arith, few, same))
+    where
+      one_few : (p : ℕ) → p < length r.both.box.links → length (of_conn p s.noted.handed) ≤ i.outbox.own
+      one_few p short =
+          let its : IsLinkSound i.outbox r.both.box.tasks (link_in r.both.box.links p) = each-at (IsLinkSound i.outbox r.both.box.tasks) r.both.box.links p (new_link 0) short sound.links in
+          let owned = count-weaker (λ (o : Outgoing). is_noted o.pdu) (λ (o : Outgoing). is_own o.pdu) (link_in r.both.box.links p).queue (λ o noted. noted_own o.pdu noted) in
+          omega (arith, owned, (a.conns p short).queued.noting, its.own)
+
+      each_few : (lists : List (List (Option ℕ))) → ((p : ℕ) → p < length lists → length (of_conn p lists) ≤ i.outbox.own) → count_all lists ≤ i.outbox.own * length lists
+      each_few [] few = omega arith
+      each_few (xs ∷ lists) few =
+          let first = few 0 (omega arith) in
+          let rest = each_few lists (λ p short. few (suc p) (omega (arith, short))) in
+          let product : i.outbox.own * suc (length lists) ≡ i.outbox.own + i.outbox.own * length lists = one_more i.outbox.own (length lists) in
+          omega (arith, first, rest, product)
+        where
+          one_more : (m n : ℕ) → m * suc n ≡ m + m * n
+          one_more m n = grind arith
 
   -- ---- one more
 

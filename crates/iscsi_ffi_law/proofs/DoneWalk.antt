@@ -88,7 +88,7 @@ module _ (i : Interface) (names : List Name) (notes : List Note) (s : State) (r 
             record w' { sent = (s.outbox.sent + 1) % 2 ^ 64 }
 
         room : may_wait s.outbox.sent s.replies ≡ true
-        room = ap (λ n. may_wait n s.replies) sent_is ∙ may_wait_more i names notes f.pending (λ p. []) s r f.requests f.outbox f.sizes f.fit.sent f.fit.replies
+        room = ap (λ n. may_wait n s.replies) sent_is ∙ may_wait_more i names notes f.pending f.gone s r f.requests f.outbox f.sizes f.fit.sent f.fit.replies
 
     walk_is : (on_effects true (done_effects i.outbox.session r.both.trace d status) (walk_from None here)).doing
         ≡ record { state = record s { commands = record s.commands { items = map (restaged Over d.ticket) s.commands.items }; replies = pushed (p i names notes s r d status f) (record { log_place = r.both.box.sent; request = (b i names notes s r d status f).c.request }) s.replies }; actions = acts; forgets = forgets }

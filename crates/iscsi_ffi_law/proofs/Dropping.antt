@@ -105,6 +105,16 @@ module _ (p : ℕ) where
       ∙ ap (λ ls. releases xs (put_parts d.state.replies d.state.noted (record d.state.unwritten { handed = ls }) (release_if x d))) (set_twice d.state.unwritten.handed p (behind_oldest (of_conn p d.state.unwritten.handed)))
       ∙ ap (releases xs) (sym (release_put x d.state.replies d.state.noted (without_handed d.state.unwritten) d))
 
+  -- what waits
+  pub waiting_dropped : (d : Doing) → p < length d.state.replies.waiting → p < length d.state.noted.handed
+      → drop_waiting p d ≡ releases (map (λ (x : WaitingReply). Some x.request) (of_conn p d.state.replies.waiting) ++ of_conn p d.state.noted.handed) (put_parts (without_replies d.state.replies) (without_handed d.state.noted) d.state.unwritten d)
+  waiting_dropped d in_replies in_noted =
+      let rs : List (Option ℕ) = map (λ (x : WaitingReply). Some x.request) (of_conn p d.state.replies.waiting) in
+      ap (λ (e : Doing). drop_noted (length (of_conn p e.state.noted.handed)) p e) (replies_dropped (of_conn p d.state.replies.waiting) d in_replies refl ∙ releases_put rs (without_replies d.state.replies) d.state.noted d.state.unwritten d)
+      ∙ noted_dropped (of_conn p d.state.noted.handed) (put_parts (without_replies d.state.replies) d.state.noted d.state.unwritten (releases rs d)) in_noted refl
+      ∙ ap (releases (of_conn p d.state.noted.handed)) (sym (releases_put rs (without_replies d.state.replies) (without_handed d.state.noted) d.state.unwritten d))
+      ∙ sym (releases_append rs (of_conn p d.state.noted.handed) (put_parts (without_replies d.state.replies) (without_handed d.state.noted) d.state.unwritten d))
+
   -- all of it
   abbrev pub all_of : State → List (Option ℕ)
   all_of s = map (λ (x : WaitingReply). Some x.request) (of_conn p s.replies.waiting) ++ (of_conn p s.noted.handed ++ of_conn p s.unwritten.handed)

@@ -40,7 +40,7 @@ use Rattle.iscsi_ffi_law.proofs.Waited.{IsCid}
 abbrev pub put_functions : WaitingFunctions → Doing → Doing
 put_functions v d = record d { state = record d.state { functions = v } }
 
-release_put : (x : Option ℕ) (v : WaitingFunctions) (d : Doing) → release_if x (put_functions v d) ≡ put_functions v (release_if x d)
+pub release_put : (x : Option ℕ) (v : WaitingFunctions) (d : Doing) → release_if x (put_functions v d) ≡ put_functions v (release_if x d)
 release_put None v d = refl
 release_put (Some q) v d = by_place (has_place q d.state.cookies)
   where
@@ -60,7 +60,7 @@ module _ (p : ℕ) where
   set_twice (ys ∷ lists) zero xs = refl
   set_twice (ys ∷ lists) (suc k) xs = ap (λ ls. ys ∷ ls) (set_twice lists k xs)
 
-  length_kept : (lists : List (List WaitingFunction)) (k : ℕ) (xs : List WaitingFunction) → length (set lists k xs) ≡ length lists
+  pub length_kept : (lists : List (List WaitingFunction)) (k : ℕ) (xs : List WaitingFunction) → length (set lists k xs) ≡ length lists
   length_kept [] k xs = refl
   length_kept (ys ∷ lists) zero xs = refl
   length_kept (ys ∷ lists) (suc k) xs = ap suc (length_kept lists k xs)
@@ -104,7 +104,7 @@ first_pair names f fs [] pairs = absurd pairs
 first_pair names f fs (a ∷ ws) pairs = record { a = a; others = ws; are = refl; is = pairs.0 }
 
 module _ (i : Interface) (names : List Name) (notes : List Note) (s : State) (r : Side) (own : Option ℕ) (xs : List (Option ℕ)) (k : IsBetween i names notes s r own xs) (cid p : ℕ) (c : IsCid i cid p) where
-  module _ (t : Trace) (place : ℕ) (ended : List (Option ℕ)) (v : HeldNumbers) (fs : WaitingFunctions) (h : IsOut i names notes s r own xs t place ended v fs) (f : WaitingFunction) (rest : List WaitingFunction) (of_p : of_conn p fs.waiting ≡ f ∷ rest) where
+  module _ (t : Trace) (place : Option ℕ) (ended : List (Option ℕ)) (v : HeldNumbers) (fs : WaitingFunctions) (h : IsOut i names notes s r own xs t place ended v fs) (f : WaitingFunction) (rest : List WaitingFunction) (of_p : of_conn p fs.waiting ≡ f ∷ rest) where
     abbrev s1 : State
     s1 = record s { held = v; functions = fs }
 
@@ -270,14 +270,14 @@ module _ (i : Interface) (names : List Name) (notes : List Note) (s : State) (r 
       by_test later false is k = ap (λ z. cond (not z) (b ∷ filter (λ (x : Arrival). not (of_cid x)) ws) (filter (λ (x : Arrival). not (of_cid x)) ws)) (ap (λ n. connection_of b.request == n) (sym c.at) ∙ is) ∙ ap (λ xs'. b ∷ xs') (later k)
 
   -- the trace in which each of them has executed
-  record AreDropped (t : Trace) (place : ℕ) (ended : List (Option ℕ)) (v : HeldNumbers) (fs : WaitingFunctions) (list : List WaitingFunction) : Type 0 where
+  record AreDropped (t : Trace) (place : Option ℕ) (ended : List (Option ℕ)) (v : HeldNumbers) (fs : WaitingFunctions) (list : List WaitingFunction) : Type 0 where
     then : Trace
     holds : (n : ℕ) → held then n ≡ held t n
     admitted : shown admitted_by then ≡ shown admitted_by t
     waits : waiting then ≡ filter (λ (x : Arrival). not (of_cid x)) (waiting t)
     out : IsOut i names notes s r own xs then place (ended ++ places_of list) v (without_functions p fs)
 
-  all_dropped : (list : List WaitingFunction) (t : Trace) (place : ℕ) (ended : List (Option ℕ)) (v : HeldNumbers) (fs : WaitingFunctions) → IsOut i names notes s r own xs t place ended v fs → of_conn p fs.waiting ≡ list → AreDropped t place ended v fs list
+  all_dropped : (list : List WaitingFunction) (t : Trace) (place : Option ℕ) (ended : List (Option ℕ)) (v : HeldNumbers) (fs : WaitingFunctions) → IsOut i names notes s r own xs t place ended v fs → of_conn p fs.waiting ≡ list → AreDropped t place ended v fs list
   all_dropped [] t place ended v fs h is = record {
     then = t;
     holds = λ n. refl;
@@ -306,7 +306,7 @@ module _ (i : Interface) (names : List Name) (notes : List Note) (s : State) (r 
       }
 
   -- the connection is closed
-  pub closed_out : (t : Trace) (place : ℕ) (ended : List (Option ℕ)) (v : HeldNumbers) (fs : WaitingFunctions) → IsOut i names notes s r own xs t place ended v fs
+  pub closed_out : (t : Trace) (place : Option ℕ) (ended : List (Option ℕ)) (v : HeldNumbers) (fs : WaitingFunctions) → IsOut i names notes s r own xs t place ended v fs
       → IsOut i names notes s r own xs ((ClosesConn cid ∷ []) ∷ t) place (ended ++ places_of (of_conn p fs.waiting)) v (without_functions p fs)
   closed_out t place ended v fs h =
       let d : AreDropped t place ended v fs (of_conn p fs.waiting) = all_dropped (of_conn p fs.waiting) t place ended v fs h refl in

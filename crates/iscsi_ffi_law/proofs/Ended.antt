@@ -4,7 +4,7 @@ use Rattle.std.specs.List.{list_any}
 use Rattle.std.proofs.lemmas.Bool.{false≢true, eq-eqb, ltb-true, ltb-false, or_right}
 use Rattle.std.proofs.lemmas.List.Elements.{filter-append}
 use Rattle.iscsi_history.specs.rules.Trace.{Command as RulesCommand, entered, has, leaves_ticket}
-use Rattle.iscsi_history.proofs.ElementLemmas.{In}
+use Rattle.iscsi_history.proofs.ElementLemmas.{In, append-in_first, append-in_second}
 use Rattle.iscsi_history.proofs.ListLemmas.{filter-map, filter-swap, fewer_counted, any_filter}
 use Rattle.iscsi_outbox_rules.specs.promises.Scope.{nth}
 use Rattle.iscsi_outbox_rules.specs.rules.Boxes.{Answer, Link, Outgoing}
@@ -23,23 +23,24 @@ use Rattle.iscsi_ffi_commands.specs.declared.command.Command.{Command}
 use Rattle.iscsi_ffi_commands.specs.Commands.{has_ticket}
 use Rattle.iscsi_ffi_rules.specs.declared.action.Action.{Action}
 use Rattle.iscsi_ffi_rules.specs.promises.Words.{is_forget}
-use Rattle.iscsi_ffi_rules.specs.rules.Needs.{is_about, is_live as is_live_event, is_needed, is_noted, is_of_event, is_ticket_of, left_to_write, runs, waits}
-use Rattle.iscsi_ffi_rules.specs.rules.Run.{parted}
-use Rattle.iscsi_ffi_rules.specs.rules.Sides.{Side}
+use Rattle.iscsi_ffi_rules.specs.rules.Needs.{is_about, is_live as is_live_event, is_needed, is_noted, is_of_event, is_ticket_of, left_to_write, noted_unwritten, noted_waiting, runs, waits}
+use Rattle.iscsi_ffi_rules.specs.rules.Run.{parted, parted_handed, parted_waiting}
+use Rattle.iscsi_ffi_rules.specs.rules.Sides.{Noted, Side}
 use Rattle.iscsi_ffi_steps.specs.State.{State}
 use Rattle.iscsi_ffi_law.specs.Alike.{AreForgets}
-use Rattle.iscsi_ffi_law.specs.Names.{Name, Note, asked_of, noted_of, place_named}
-use Rattle.iscsi_ffi_law.specs.Parts.{AreCommands, AreCounted, IsAbout, IsAnswered, IsAtEvent, IsCommand, IsConn, IsKnownOut, IsNamedEvent, IsNote, IsOfCommand, IsOneUse, IsOfReply, IsRequest, IsUndue, is_named, IsLiveNamed}
+use Rattle.iscsi_ffi_law.specs.Names.{AreNoted, Name, Note, asked_of, note_places, noted_of, place_named}
+use Rattle.iscsi_ffi_law.specs.Parts.{AreCommands, AreCounted, AreNotesOn, IsAbout, IsAnswered, IsAtEvent, IsCommand, IsConn, IsKnownOut, IsNamedEvent, IsNote, IsOfCommand, IsOneUse, IsOfReply, IsRequest, IsUndue, is_named, IsLiveNamed, noted_in}
 use Rattle.iscsi_ffi_law.specs.Stands.{AreRequests}
 use Rattle.iscsi_ffi_law.specs.Uses.{count_commands, count_replies, is_place, is_used, uses_of}
 use Rattle.iscsi_ffi_law.proofs.Commands.{commands_needed}
-use Rattle.iscsi_ffi_law.proofs.Flags.{flag_of, flags_at, is_used_note, is_used_place, unused_flag, used_flag, places_on}
+use Rattle.iscsi_ffi_law.proofs.Flags.{flag_of, handed_flags, is_used_note, is_used_place, unused_flag, used_flag, waiting_flags}
 use Rattle.iscsi_ffi_law.proofs.Kept.{apart_used, count_used, each_place, filter_all, filter_members, filter_nothing, is_named_used, named_used, used_named}
 use Rattle.iscsi_ffi_law.proofs.Lists.{lists_at}
 use Rattle.iscsi_ffi_law.proofs.Members.{each_in, find_in, in_any, in_counted, in_each, at_any}
 use Rattle.iscsi_ffi_law.proofs.NameLemmas.{Named, found_named}
 use Rattle.iscsi_ffi_law.proofs.Needs.{is_needed_used}
-use Rattle.iscsi_ffi_law.proofs.Notes.{all_left, parted_needed}
+use Rattle.iscsi_ffi_law.proofs.NotePlaces.{notes_whole}
+use Rattle.iscsi_ffi_law.proofs.Notes.{HasFlags, all_left, parted_needed}
 use Rattle.iscsi_ffi_law.proofs.Replies.{AnswersIt, HaveConns, answers_it, at_sent, is_part_of, is_reply_to, queued_counted, undue_counted, waits_counted}
 
 -- what is left of a state where all uses that ended are taken off
@@ -77,12 +78,23 @@ module _ (names : List Name) (notes : List Note) (pending : ℕ → ℕ) (gone :
       ap (map asked_of) (sym (filter_members (λ (n : Name). is_needed r (asked_of n)) (λ (n : Name). is_used_place s n.place) names needed_is))
       ∙ sym (filter-map (is_needed r) asked_of names) ∙ ap (filter (is_needed r)) a.asked
 
-  pub noted_left : map noted_of (filter (λ (n : Note). is_used_place s n.place) notes) ≡ (parted r.both.box.links r.noted).needed
-  noted_left = sym (
-      ap (λ ns. (parted r.both.box.links ns).needed) (sym a.noted)
-      ∙ parted_needed (is_used_note s) r.both.box.links notes apart_links
-      (each_place _ r.both.box.links (new_link 0) (λ p within. flags_at names notes gone s r h apart_links a.noted_apart a.commands p within))
-      ∙ ap (map noted_of) (all_left (is_used_note s) r.both.box.links notes (each-weaken (IsNote s r.both.box.links) (λ (n : Note). list_any (λ (l : Link). l.conn == n.conn) r.both.box.links ≡ true) notes (λ n q. q.home) a.noted_apart)))
+  -- of a kind those that the rules keep
+  kind_left : (left : Link → ℕ) (kind : Note → Bool) (ns : List Noted) → map noted_of (filter kind notes) ≡ ns → ((p : ℕ) → p < length r.both.box.links → HasFlags left (is_used_note s) (filter kind notes) (link_in r.both.box.links p))
+      → map noted_of (filter kind (filter (λ (n : Note). is_used_place s n.place) notes)) ≡ (parted left r.both.box.links ns).needed
+  kind_left left kind ns are flags =
+      ap (map noted_of) (filter-swap kind (λ (n : Note). is_used_place s n.place) notes)
+      ∙ sym (
+      ap (λ ms. (parted left r.both.box.links ms).needed) (sym are)
+      ∙ parted_needed left (is_used_note s) r.both.box.links (filter kind notes) apart_links (each_place _ r.both.box.links (new_link 0) flags)
+      ∙ ap (map noted_of) (all_left left (is_used_note s) r.both.box.links (filter kind notes)
+      (each-filter (λ (n : Note). list_any (λ (l : Link). l.conn == n.conn) r.both.box.links ≡ true) kind notes
+      (each-weaken (IsNote s r.both.box.links) (λ (n : Note). list_any (λ (l : Link). l.conn == n.conn) r.both.box.links ≡ true) notes (λ n q. q.home) a.noted_apart))))
+
+  pub noted_left : AreNoted (filter (λ (n : Note). is_used_place s n.place) notes) (parted_waiting r).needed (parted_handed r).needed
+  noted_left = record {
+    waiting_are = kind_left noted_waiting (λ (n : Note). n.waits) r.noted a.noted.waiting_are (waiting_flags names notes gone s r h apart_links a.noted_apart a.commands);
+    handed_are = kind_left noted_unwritten (λ (n : Note). not n.waits) r.handed_notes a.noted.handed_are (handed_flags names notes gone s r h apart_links a.noted_apart a.commands);
+  }
 
   -- ---- what is used still
 
@@ -163,17 +175,27 @@ module _ (names : List Name) (notes : List Note) (pending : ℕ → ℕ) (gone :
       let is : is_used_place s x.request ≡ true = of_replies x.request (omega (arith, some, lists_at (λ (y : WaitingReply). y.request == x.request) s.replies.waiting p)) in
       subst (IsAtEvent (filter (λ (n : Name). is_used_place s n.place) names) x.request) (sym at.is) (named_used (is_used_place s) names notes a.apart at.event x.request at.named is)
 
-  notes_on : (p : ℕ) → p < length r.both.box.links → map (λ (n : Note). Some n.place) (filter (λ (n : Note). n.conn == (link_in r.both.box.links p).conn) (filter (λ (n : Note). is_used_place s n.place) notes))
-      ≡ places_on names notes gone s r h apart_links a.noted_apart a.commands p
+  kind_on : (conn : ℕ) (kind : Note → Bool) (over xs : List (Option ℕ)) → note_places conn (filter kind notes) ≡ over ++ xs → ((x : Option ℕ) → In x over → flag_of names notes gone s r h apart_links a.noted_apart a.commands x ≡ false)
+      → ((x : Option ℕ) → In x xs → flag_of names notes gone s r h apart_links a.noted_apart a.commands x ≡ true) → note_places conn (filter kind (filter (λ (n : Note). is_used_place s n.place) notes)) ≡ xs
+  kind_on conn kind over xs are unused used' =
+      ap (note_places conn) (filter-swap kind (λ (n : Note). is_used_place s n.place) notes)
+      ∙ ap (map (λ (n : Note). Some n.place)) (filter-swap (λ (n : Note). n.conn == conn) (λ (n : Note). is_used_place s n.place) (filter kind notes))
+      ∙ sym (filter-map (flag_of names notes gone s r h apart_links a.noted_apart a.commands) (λ (n : Note). Some n.place) (filter (λ (n : Note). n.conn == conn) (filter kind notes)))
+      ∙ ap (filter (flag_of names notes gone s r h apart_links a.noted_apart a.commands)) are ∙ filter-append (flag_of names notes gone s r h apart_links a.noted_apart a.commands) over xs
+      ∙ ap (λ ys. ys ++ filter (flag_of names notes gone s r h apart_links a.noted_apart a.commands) xs) (filter_nothing (flag_of names notes gone s r h apart_links a.noted_apart a.commands) over unused) ∙ filter_all (flag_of names notes gone s r h apart_links a.noted_apart a.commands) xs used'
+
+  notes_on : (p : ℕ) → p < length r.both.box.links
+      → AreNotesOn (filter (λ (n : Note). is_used_place s n.place) notes) (link_in r.both.box.links p).conn [] (of_conn p s.noted.handed) (noted_in (of_conn p s.unwritten.handed) (left_to_write (link_in r.both.box.links p)))
   notes_on p within =
       let c : IsConn names notes (gone p) s r p (link_in r.both.box.links p) = a.conns p within in
-      ap (map (λ (n : Note). Some n.place)) (filter-swap (λ (n : Note). n.conn == (link_in r.both.box.links p).conn) (λ (n : Note). is_used_place s n.place) notes)
-      ∙ sym (filter-map (flag_of names notes gone s r h apart_links a.noted_apart a.commands) (λ (n : Note). Some n.place) (filter (λ (n : Note). n.conn == (link_in r.both.box.links p).conn) notes))
-      ∙ ap (filter (flag_of names notes gone s r h apart_links a.noted_apart a.commands)) c.noted
-      ∙ filter-append (flag_of names notes gone s r h apart_links a.noted_apart a.commands) (gone p) (places_on names notes gone s r h apart_links a.noted_apart a.commands p)
-      ∙ ap (λ xs. xs ++ filter (flag_of names notes gone s r h apart_links a.noted_apart a.commands) (places_on names notes gone s r h apart_links a.noted_apart a.commands p))
-      (filter_nothing (flag_of names notes gone s r h apart_links a.noted_apart a.commands) (gone p) (unused_flag names notes gone s r h apart_links a.noted_apart a.commands p within))
-      ∙ filter_all (flag_of names notes gone s r h apart_links a.noted_apart a.commands) (places_on names notes gone s r h apart_links a.noted_apart a.commands p) (used_flag names notes gone s r h apart_links a.noted_apart a.commands p within)
+      let unwritten : List (Option ℕ) = noted_in (of_conn p s.unwritten.handed) (left_to_write (link_in r.both.box.links p)) in
+      let over = unused_flag names notes gone s r h apart_links a.noted_apart a.commands p within in
+      let still = used_flag names notes gone s r h apart_links a.noted_apart a.commands p within in
+      notes_whole (filter (λ (n : Note). is_used_place s n.place) notes) (link_in r.both.box.links p).conn (of_conn p s.noted.handed) (noted_in (of_conn p s.unwritten.handed) (left_to_write (link_in r.both.box.links p)))
+      (kind_on (link_in r.both.box.links p).conn (λ (n : Note). n.waits) c.noted.gone_waiting (of_conn p s.noted.handed) c.noted.waiting_are
+      (λ x k. over x (subst (In x) (sym c.noted.gone_are) (append-in_second c.noted.gone_handed c.noted.gone_waiting x k))) (λ x k. still x (append-in_second unwritten (of_conn p s.noted.handed) x k)))
+      (kind_on (link_in r.both.box.links p).conn (λ (n : Note). not n.waits) c.noted.gone_handed unwritten c.noted.handed_are
+      (λ x k. over x (subst (In x) (sym c.noted.gone_are) (append-in_first c.noted.gone_handed c.noted.gone_waiting x k))) (λ x k. still x (append-in_first unwritten (of_conn p s.noted.handed) x k)))
 
   -- ---- commands
 
@@ -249,7 +271,7 @@ module _ (names : List Name) (notes : List Note) (pending : ℕ → ℕ) (gone :
 
   -- the rules' side at the end of a call
   abbrev pub side_left : List ℕ → List ℕ → Side
-  side_left awake over = record r { awake = awake; over = over; asked = filter (is_needed r) r.asked; noted = (parted r.both.box.links r.noted).needed }
+  side_left awake over = record r { awake = awake; over = over; asked = filter (is_needed r) r.asked; noted = (parted_waiting r).needed; handed_notes = (parted_handed r).needed }
 
   pub requests_left : (v : Cookies) (forgets : List Action) → IsReleased s v forgets → (awake over : List Bool) (awake_by_rules over_by_rules : List ℕ)
       → AreRequests (filter (λ (n : Name). is_used_place s n.place) names) (filter (λ (n : Note). is_used_place s n.place) notes) (λ place. 0) (λ p. []) (left_of s v awake over) (side_left awake_by_rules over_by_rules)

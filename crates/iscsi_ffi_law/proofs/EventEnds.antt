@@ -1,5 +1,5 @@
 -- An event by the steps as by the rules, from the end of its items to that of the call.
-use Rattle.std.proofs.Common.{◌≡◌, ℕ, ◌+◌, ◌-◌, ◌*◌, ◌<◌, ◌≤◌, ◌==◌, ◌&&◌, ◌||◌, ◌^◌, not, cond, Bool, true, false, List, [], ◌∷◌, ◌++◌, length, map, count_by, filter, filter_map, Option, None, refl, ap, sym, subst, ◌∙◌, arith, lt-ltb, eq-eqb, length-append}
+use Rattle.std.proofs.Common.{◌≡◌, ℕ, ◌+◌, ◌-◌, ◌*◌, ◌<◌, ◌≤◌, ◌==◌, ◌&&◌, ◌||◌, ◌^◌, not, cond, Bool, true, false, List, [], ◌∷◌, ◌++◌, length, map, count_by, filter, filter_map, Option, None, refl, ap, sym, subst, ◌∙◌, arith, lt-ltb, eq-eqb, length-append, ◌⊎◌, ⊎_elim, inl, inr}
 use Rattle.iscsi_ffi_law.proofs.KeptCounts.{held_or_waiting}
 use Rattle.std.specs.List.{flat_map, list_all, list_any}
 use Rattle.std.proofs.lemmas.Bool.{eqb-true, false≢true, not-true}
@@ -15,22 +15,22 @@ use Rattle.iscsi_history.specs.rules.Trace.{Command as RulesCommand, Mark, Trace
 use Rattle.iscsi_history.proofs.CountLemmas.{count-weaker}
 use Rattle.iscsi_history.proofs.ElementLemmas.{In, in-filter}
 use Rattle.iscsi_history.proofs.ListLemmas.{filter-shorter}
+use Rattle.iscsi_arrivals.specs.Standing.{StandsFor}
 use Rattle.iscsi_outbox_rules.specs.promises.Room.{places}
 use Rattle.iscsi_outbox_rules.specs.rules.Boxes.{Box, Task}
 use Rattle.iscsi_outbox_rules.specs.rules.Items.{after_event, after_items as box_after_items, phase_told, ticket_enabled}
-use Rattle.iscsi_outbox_rules.specs.rules.Words.{contains}
+use Rattle.iscsi_outbox_rules.specs.rules.Words.{contains, replies_waiting}
 use Rattle.iscsi_outbox_rules.proofs.ClosedParts.{effects_each}
 use Rattle.iscsi_outbox_law.specs.Commands.{link_in}
-use Rattle.iscsi_outbox_law.specs.Pairs.{EachOf}
 use Rattle.iscsi_outbox_law.specs.Sound.{IsSound, NoneIsFresh}
 use Rattle.iscsi_outbox_law.specs.Stands.{Stands as OutboxStands}
-use Rattle.iscsi_outbox_law.proofs.PairLemmas.{each-weaken, pairs-weaken}
+use Rattle.iscsi_outbox_law.proofs.PairLemmas.{each-weaken, pairs-length, pairs-weaken}
 use Rattle.iscsi_outbox_law.proofs.TurningEach.{event_stands}
 use Rattle.iscsi_outbox_law.proofs.TurningFresh.{event_fresh}
 use Rattle.iscsi_outbox_law.proofs.TurningLast.{tell_last}
 use Rattle.iscsi_outbox_steps.specs.State.{Limits, State as OutboxState}
 use Rattle.iscsi_outbox_steps.specs.Steps.{after_items as steps_after_items, is_running_ticket, taken}
-use Rattle.iscsi_requests.specs.Conns.{of_conn}
+use Rattle.iscsi_requests.specs.Conns.{count_all, of_conn}
 use Rattle.iscsi_ffi_commands.specs.declared.command.Command.{Command}
 use Rattle.iscsi_ffi_commands.specs.declared.command.Stage.{Stage}
 use Rattle.iscsi_ffi_commands.specs.declared.command.Stage.TheVariants.{Cleared, Entered, Marked, Over, Started}
@@ -44,42 +44,47 @@ use Rattle.iscsi_ffi_rules.specs.rules.Sides.{Side}
 use Rattle.iscsi_ffi_steps.specs.State.{State}
 use Rattle.iscsi_ffi_steps.specs.Steps.{reset_in, resets_in, start_each, takes, walk_from}
 use Rattle.iscsi_ffi_steps.specs.Walk.{Doing, Walk, in_state, on_effects, sweep, tell_all, touched_by}
-use Rattle.iscsi_ffi_law.specs.Arrived.{AreStepsFit, starts_late}
+use Rattle.iscsi_ffi_law.specs.Arrived.{starts_late}
 use Rattle.iscsi_ffi_law.specs.Done.{IsRegular}
 use Rattle.iscsi_ffi_law.specs.Fit.{IsFit}
 use Rattle.iscsi_ffi_law.specs.Names.{Name, Note}
 use Rattle.iscsi_ffi_law.specs.Parts.{IsAbout, IsCommand, IsConn, IsNote, IsRequest, is_named}
-use Rattle.iscsi_ffi_law.specs.Stands.{AreRequests}
+use Rattle.iscsi_ffi_law.specs.Stands.{AreRequests, AreSizes}
 use Rattle.iscsi_ffi_law.specs.Uses.{is_used, uses_of}
-use Rattle.iscsi_ffi_law.proofs.Between.{IsBetween}
+use Rattle.iscsi_ffi_law.proofs.Between.{IsBetween, IsFound, pending_as, pending_of}
 use Rattle.iscsi_ffi_law.proofs.Core.{Core, all_released_core}
 use Rattle.iscsi_ffi_law.proofs.DonePhases.{runs_at, told_runs}
 use Rattle.iscsi_ffi_law.proofs.DoneShape.{tickets_of}
-use Rattle.iscsi_ffi_law.proofs.EventNews.{live_news, news_entered}
-use Rattle.iscsi_ffi_law.proofs.EventGoes.{box_parts, none_swept, outbox_first, outbox_parts, parts}
+use Rattle.iscsi_ffi_law.proofs.EventNews.{entered_by, live_news, news_entered}
+use Rattle.iscsi_ffi_law.proofs.EventGoes.{box_parts, outbox_first, outbox_parts, parts}
 use Rattle.iscsi_ffi_law.proofs.EventRules.{admits_alone, all_enabled, all_resets, few_resets, news_of, side_is}
+use Rattle.iscsi_ffi_law.proofs.Finish.{as_many_links}
 use Rattle.iscsi_ffi_law.proofs.Flags.{is_used_place}
-use Rattle.iscsi_ffi_law.proofs.ItemsGo.{AllGo, side_after}
+use Rattle.iscsi_ffi_law.proofs.ItemsGo.{FirstGo, side_after}
 use Rattle.iscsi_ffi_law.proofs.Members.{Paired, find_in, in_counted, pairs_in}
-use Rattle.iscsi_ffi_law.proofs.HeldNews.{enters_once}
 use Rattle.iscsi_ffi_law.proofs.Moved.{IsMoved, commands_known, requests_moved, run_same}
 use Rattle.iscsi_ffi_law.proofs.NameLemmas.{found_named}
 use Rattle.iscsi_ffi_law.proofs.EndsWith.{told_all}
 use Rattle.iscsi_ffi_law.proofs.Releases.{all_released, endings, releases}
-use Rattle.iscsi_ffi_law.proofs.Releasing.{Released, ending}
+use Rattle.iscsi_ffi_law.proofs.Releasing.{Released}
 use Rattle.iscsi_ffi_law.proofs.Sources.{cookie_named}
 use Rattle.iscsi_ffi_law.proofs.Staging.{HaveCommands}
 use Rattle.iscsi_ffi_law.proofs.Starting.{Starts, all_start}
 use Rattle.iscsi_ffi_law.proofs.StartsAfter.{starts_released}
 use Rattle.iscsi_ffi_law.proofs.StartsOver.{alive_start}
-use Rattle.iscsi_ffi_law.proofs.Stepping.{IsCalm}
+use Rattle.iscsi_ffi_law.proofs.Sweeping.{all_cleared, all_gone, all_uses, few_uses, none_left, swept, uses_end}
+use Rattle.iscsi_ffi_law.proofs.Unswept.{Unswept, joined_nothing, none_at, none_unswept, nothing_counted, put_state, with_noted}
+use Rattle.iscsi_ffi_law.proofs.Framing.{touched_as, touched_in}
+use Rattle.iscsi_ffi_law.proofs.Dropping.{endings_append, releases_append}
+use Rattle.iscsi_requests.specs.declared.replies.WaitingReply.{WaitingReply}
+use Rattle.iscsi_outbox_rules.specs.rules.Queues.{takes_more}
 use Rattle.iscsi_ffi_law.proofs.Walking.{core_at, walk_at}
 
 -- ---- commands are told to start
 
-pub requests_started : (names : List Name) (notes : List Note) (pending : ℕ → ℕ) (s : State) (r : Side) (event : ℕ) (told : List ℕ) (before items : List Command) → AreRequests names notes pending (λ k. []) s r → before ≡ s.commands.items → HaveCommands names (record r { both = record r.both { event = event }; told = told }) s.outbox before items
-    → AreRequests names notes pending (λ k. []) (record s { commands = record s.commands { items = items } }) (record r { both = record r.both { event = event }; told = told })
-requests_started names notes pending s r event told before items a same have = record {
+pub requests_started : (names : List Name) (notes : List Note) (pending : ℕ → ℕ) (gone : ℕ → List (Option ℕ)) (s : State) (r : Side) (event : ℕ) (told : List ℕ) (before items : List Command) → AreRequests names notes pending gone s r → before ≡ s.commands.items → HaveCommands names (record r { both = record r.both { event = event }; told = told }) s.outbox before items
+    → AreRequests names notes pending gone (record s { commands = record s.commands { items = items } }) (record r { both = record r.both { event = event }; told = told })
+requests_started names notes pending gone s r event told before items a same have = record {
   asked = a.asked;
   noted = a.noted;
   apart = a.apart;
@@ -97,7 +102,7 @@ requests_started names notes pending s r event told before items a same have = r
   once = a.once;
   last = a.last;
   conns = λ k within.
-      let x : IsConn names notes [] s r k (link_in r.both.box.links k) = a.conns k within in
+      let x : IsConn names notes (gone k) s r k (link_in r.both.box.links k) = a.conns k within in
       record {
         replies = x.replies;
         queued = x.queued;
@@ -118,13 +123,16 @@ pub record IsEventOf (i : Interface) (r : Side) (e : Event) : Type 0 where
   pub prompt : starts_late r.both.event (items_of i.outbox.session r.both.event r.both.trace e) ≡ false
   pub few : length (live (stepped i r e).both.trace) ≤ places i.outbox
   pub regular : IsRegular i (stepped i r e)
-  pub steps : AreStepsFit i r (items_of i.outbox.session r.both.event r.both.trace e)
-  pub once : list_all enters_once (items_of i.outbox.session r.both.event r.both.trace e) ≡ true
+  -- those that enter weren't told to start
+  pub untold : (c : RulesCommand) → In c (entered_by (items_of i.outbox.session r.both.event r.both.trace e)) → contains r.told c.ticket ≡ false
   pub alone : list_all admits_alone (items_of i.outbox.session r.both.event r.both.trace e) ≡ true
   pub behind : IsSound i.outbox (side_after i r (items_of i.outbox.session r.both.event r.both.trace e)).both.box
 
--- what is known of commands before it
-pub record AreBegun (i : Interface) (s : State) (r : Side) : Type 0 where
+-- what is known of commands, and of what waits, before it; `before`: the uses that have ended already
+pub record AreBegun (i : Interface) (s : State) (r : Side) (before : List (Option ℕ)) : Type 0 where
+  pub waits : count_all s.replies.waiting ≤ replies_waiting r.both.box
+  pub replies_room : s.replies.room ≡ places i.outbox
+  pub rooms : length before + (count_all s.replies.waiting + count_all s.noted.handed) + 4 * places i.outbox ≤ s.room
   pub few : count_by is_live s.commands.items ≤ places i.outbox
   pub kept : held_or_waiting s.held s.functions ≤ places i.outbox
   -- those that were told to start were free
@@ -140,8 +148,8 @@ going_live c h = by_stage c.stage h
     by_stage Cleared k = refl
     by_stage Over k = absurd (false≢true k)
 
-module _ (i : Interface) (names : List Name) (notes : List Note) (s : State) (r : Side) (own : Option ℕ) (e : Event) (fit : IsEventOf i r e) (first : AreBegun i s r) (k : OutboxStands i.outbox s.outbox r.both.box)
-    (go : AllGo i names notes (record s { outbox = outbox_first i r e (parts i r e).lead s.outbox }) r own [] (items_of i.outbox.session r.both.event r.both.trace e)) where
+module _ (i : Interface) (names : List Name) (notes : List Note) (s : State) (r : Side) (own : Option ℕ) (before : List (Option ℕ)) (e : Event) (fit : IsEventOf i r e) (first : AreBegun i s r before) (k : OutboxStands i.outbox s.outbox r.both.box)
+    (go : FirstGo i names notes (none_unswept s) (record s { outbox = outbox_first i r e (parts i r e).lead s.outbox }) r own before (items_of i.outbox.session r.both.event r.both.trace e)) where
   abbrev pub items : List (List Mark)
   items = items_of i.outbox.session r.both.event r.both.trace e
 
@@ -170,8 +178,14 @@ module _ (i : Interface) (names : List Name) (notes : List Note) (s : State) (r 
   abbrev pub side_n : Side
   side_n = record r { both = record r.both { trace = t'; box = box_after_items i.outbox r.both.box each }; answers = answers' }
 
-  pub between_n : IsBetween i names notes go.state side_n None go.ended
-  between_n = subst (λ (x : Side). IsBetween i names notes go.state x None go.ended) (side_is i r items) go.between
+  pub both_n : (k' : IsBetween i names notes go.state side_n None go.ended) × (k'.unswept ≡ go.between.unswept)
+  both_n = subst (λ (x : Side). (k' : IsBetween i names notes go.state x None go.ended) × (k'.unswept ≡ go.between.unswept)) (side_is i r items) (go.between, refl)
+
+  abbrev pub between_n : IsBetween i names notes go.state side_n None go.ended
+  between_n = both_n.0
+
+  same_unswept : go.between.unswept ≡ both_n.0.unswept
+  same_unswept = sym both_n.1
 
   sound_n : IsSound i.outbox (box_after_items i.outbox r.both.box each)
   sound_n = subst (λ (x : Side). IsSound i.outbox x.both.box) (side_is i r items) fit.behind
@@ -216,8 +230,36 @@ module _ (i : Interface) (names : List Name) (notes : List Note) (s : State) (r 
   abbrev pub side_e : Side
   side_e = record r { both = record r.both { trace = t'; box = box' }; answers = answers' }
 
-  pub requests2 : AreRequests names notes (λ p. ending None p + endings go.ended p) (λ q. []) state2 side_e
-  requests2 = requests_moved names notes (λ p. ending None p + endings go.ended p) (λ q. []) go.state side_n between_n.requests out' box' runs moved
+  abbrev u : Unswept
+  u = between_n.unswept
+
+  requests1 : AreRequests names notes (pending_of u None go.ended) between_n.gone state2 side_e
+  requests1 = requests_moved names notes (pending_of u None go.ended) between_n.gone go.state side_n between_n.requests out' box' runs moved
+
+  -- ---- what is swept
+
+  pub found' : IsFound i out'
+  found' = record { limits = stands'.sizes.limits; many = pairs-length StandsFor out'.links box'.links stands'.links.each ∙ as_many_links i state2 side_e stands' }
+
+  abbrev swept_places : List ℕ
+  swept_places = flat_map (touched_in out') effects
+
+  -- all that is to be swept is there
+  each_there : (p : ℕ) → ((of_conn p u.replies ≡ []) × (of_conn p u.noted ≡ [])) ⊎ In p (flat_map (touched_in out') effects)
+  each_there p =
+      subst (λ (x : Unswept). ((of_conn p x.replies ≡ []) × (of_conn p x.noted ≡ [])) ⊎ In p (flat_map (touched_in out') effects)) same_unswept
+      (⊎_elim (λ same. inl (same.0 ∙ none_at s.replies.waiting p, same.1 ∙ none_at s.noted.handed p)) (λ there. inr there) (go.touched out' found' p))
+
+  -- the uses that have ended, with those of what is swept
+  abbrev pub all_ended : List (Option ℕ)
+  all_ended = go.ended ++ all_uses (flat_map (touched_in out') effects) between_n.unswept
+
+  pub requests2 : AreRequests names notes (endings all_ended) between_n.gone state2 side_e
+  requests2 = pending_as names notes (pending_of u None go.ended) (endings all_ended) between_n.gone state2 side_e
+      (λ p.
+      let gone = none_left (all_cleared swept_places u) (λ q. all_gone swept_places u q (each_there q)) p in
+      let uses = uses_end swept_places u p in
+      omega (arith, gone, uses, endings_append go.ended (all_uses swept_places u) p)) requests1
 
   -- ---- what starts
 
@@ -265,8 +307,22 @@ module _ (i : Interface) (names : List Name) (notes : List Note) (s : State) (r 
   few_told : length (stops ++ resets) ≤ 2 * places i.outbox
   few_told = let long = length-append stops resets in omega (arith, few_reset, few_stopped, long)
 
-  pub few_ended : length go.ended ≤ 3 * places i.outbox
-  few_ended = let few = go.few in let short = fit.short in let lives = first.few in let kept = first.kept in omega (arith, few, short, lives, kept)
+  pub few_ended : length all_ended ≤ go.state.room
+  few_ended =
+      let few = go.few in
+      let short = fit.short in
+      let lives = first.few in
+      let kept = first.kept in
+      let waits = go.waits in
+      let begun = first.waits in
+      let replies_few = go.replies in
+      let noted = go.notes_kept in
+      let rooms = first.rooms in
+      let same = go.room in
+      let sweeps = few_uses swept_places u in
+      let replies = ap (λ (x : Unswept). count_all x.replies) same_unswept in
+      let others = ap (λ (x : Unswept). count_all x.noted) same_unswept in
+      omega (arith, few, short, lives, kept, waits, begun, replies_few, noted, rooms, same, sweeps, replies, others, nothing_counted s.replies.waiting, nothing_counted s.noted.handed, length-append go.ended (all_uses swept_places u))
 
   pub news_are : (x : RulesCommand) → In x ns → In x (entered t') × (has (leaves_ticket x.ticket) t' ≡ false) × (was_free x t' ≡ true)
   news_are x at =
@@ -299,24 +355,65 @@ module _ (i : Interface) (names : List Name) (notes : List Note) (s : State) (r 
   K = core_at go.state go.ended
 
   abbrev walked_to : Doing
-  walked_to = record { state = record go.state { outbox = s.outbox; cookies = K.cookies; commands = K.commands }; actions = stops; forgets = K.forgets }
+  walked_to = record { state = record (put_state go.between.unswept go.state) { outbox = s.outbox; cookies = K.cookies; commands = K.commands }; actions = stops; forgets = K.forgets }
 
   sent_is : s.outbox.sent ≡ r.both.box.sent
   sent_is = let e' = k.numbers.sent in let lt = fit.sent in omega (arith, e', lt)
 
-  walked : (on_effects true effects (walk_from own (record { state = s; actions = []; forgets = [] }))).doing ≡ walked_to
+  found : IsFound i s.outbox
+  found = record { limits = k.sizes.limits; many = pairs-length StandsFor s.outbox.links r.both.box.links k.links.each ∙ as_many_links i s r k }
+
+  abbrev begins : Doing
+  begins = releases before (record { state = s; actions = []; forgets = [] })
+
+  walked : (on_effects true effects (walk_from own begins)).doing ≡ walked_to
   walked =
-      ap (λ n. (on_effects true effects (walk_at s.outbox (record s { outbox = outbox_first i r e (parts i r e).lead s.outbox }) [] [] own n)).doing) sent_is
-      ∙ ap (λ (w : Walk). w.doing) (go.walk s.outbox k.sizes.limits [] true fit.prompt (let same = go.room in omega (arith, few_stopped, wide, same)))
+      ap (λ (d : Doing). (on_effects true effects (record { doing = d; current = None; own = own; by = None; sent = d.state.outbox.sent })).doing) (all_released_core before (record { state = s; actions = []; forgets = [] }))
+      ∙ ap (λ n. (on_effects true effects (walk_at s.outbox s0 [] before own n)).doing) sent_is
+      ∙ ap (λ (x : State). (on_effects true effects (walk_at s.outbox x [] before own r.both.box.sent)).doing) (sym nothing_put)
+      ∙ ap (λ (w : Walk). w.doing) (go.walk s.outbox found [] fit.prompt (let same = go.room in omega (arith, few_stopped, wide, same)) (let waits = first.waits in let replies = go.replies in let room = first.replies_room in omega (arith, waits, replies, room, nothing_counted s.replies.waiting)))
+    where
+      s0 : State
+      s0 = record s { outbox = outbox_first i r e (parts i r e).lead s.outbox }
+
+      -- nothing is to be swept before it
+      nothing_put : put_state (none_unswept s) s0 ≡ s0
+      nothing_put =
+          ap (λ (ls : List (List WaitingReply)). record s0 { replies = record s.replies { waiting = ls }; noted = with_noted (none_unswept s) s.noted }) (joined_nothing s.replies.waiting (none_unswept s).replies (none_at s.replies.waiting))
+          ∙ ap (λ (ls : List (List (Option ℕ))). record s0 { noted = record s.noted { handed = ls } }) (joined_nothing s.noted.handed (none_unswept s).noted (none_at s.noted.handed))
+
+  abbrev K2 : Core
+  K2 = core_at state2 all_ended
 
   abbrev taken_in : Doing
-  taken_in = record { state = record state2 { cookies = K.cookies; commands = K.commands }; actions = stops; forgets = K.forgets }
+  taken_in = record { state = record state2 { cookies = K2.cookies; commands = K2.commands }; actions = stops; forgets = K2.forgets }
 
-  calm_links : EachOf (IsCalm box') effects
-  calm_links = subst (λ (b : Box). EachOf (IsCalm (over b)) effects) (sym same_box) (subst (λ (x : Side). EachOf (IsCalm x.both.box) effects) (side_is i r items) (calm_over go.calm))
+  -- the outbox takes it in, and what is to be swept is
+  abbrev unswept_in : Doing
+  unswept_in = record { state = record (put_state u state2) { cookies = K.cookies; commands = K.commands }; actions = stops; forgets = K.forgets }
+
+  sizes2 : AreSizes i state2
+  sizes2 =
+      let z = between_n.sizes in
+      record { room = z.room; functions = z.functions; replies = z.replies; noted = z.noted; unwritten = z.unwritten; noted_room = z.noted_room; unwritten_room = z.unwritten_room; replies_room = z.replies_room; slots = z.slots; few = z.few }
+
+  places_touched : (es : List Effect) (t : State) → t.outbox ≡ out' → flat_map (touched_by t) es ≡ flat_map (touched_in out') es
+  places_touched [] t same = refl
+  places_touched (x ∷ es) t same = ap (λ ps. ps ++ flat_map (touched_by t) es) (touched_as t x ∙ ap (λ (o : OutboxState). touched_in o x) same) ∙ ap (λ ps. touched_in out' x ++ ps) (places_touched es t same)
+
+  sweeps : sweep (flat_map (touched_by unswept_in.state) effects) unswept_in ≡ taken_in
+  sweeps =
+      ap (λ ps. sweep ps unswept_in) (places_touched effects unswept_in.state refl)
+      ∙ swept i names notes (endings all_ended) between_n.gone state2 side_e requests2 stands' sizes2 fit.fit.sound_after fit.fit.emptied fit.fit.distinct swept_places u cleared_in between_n.long_replies between_n.long_noted clear_links each_there refl
+      ∙ ap (releases (all_uses swept_places u)) (sym (all_released_core go.ended (record { state = state2; actions = stops; forgets = [] })))
+      ∙ sym (releases_append go.ended (all_uses swept_places u) (record { state = state2; actions = stops; forgets = [] }))
+      ∙ all_released_core all_ended (record { state = state2; actions = stops; forgets = [] })
     where
-      calm_over : EachOf (IsCalm (side_after i r items).both.box) effects → EachOf (IsCalm (side_after i r items).both.box) effects
-      calm_over h = h
+      cleared_in : Doing
+      cleared_in = record { state = record state2 { cookies = K.cookies; commands = K.commands }; actions = stops; forgets = K.forgets }
+
+      clear_links : (p : ℕ) → p < length box'.links → takes_more (link_in box'.links p) ≡ true → (of_conn p u.replies ≡ []) × (of_conn p u.noted ≡ [])
+      clear_links = subst (λ (b : Box). (p : ℕ) → p < length b.links → takes_more (link_in b.links p) ≡ true → (of_conn p u.replies ≡ []) × (of_conn p u.noted ≡ [])) (sym same_box) between_n.clear
 
   resets_are : resets_in taken_in.state effects ≡ resets
   resets_are =
@@ -328,9 +425,8 @@ module _ (i : Interface) (names : List Name) (notes : List Note) (s : State) (r 
       by_lead true = refl
       by_lead false = refl
 
-  released : Released state2 (stops ++ resets) (releases go.ended d3)
-  released = all_released state2 (stops ++ resets) requests2.counted (commands_known names notes (λ p. ending None p + endings go.ended p) (λ q'. []) state2 side_e requests2) go.ended
-      (omega (arith, few_ended, wide)) (λ p. requests2.uses p ∙ (let plus : uses_of p state2 + (ending None p + endings go.ended p) ≡ uses_of p state2 + endings go.ended p = omega arith in plus))
+  released : Released state2 (stops ++ resets) (releases all_ended d3)
+  released = all_released state2 (stops ++ resets) requests2.counted (commands_known names notes (endings all_ended) between_n.gone state2 side_e requests2) all_ended few_ended requests2.uses
 
   live_used : (c : Command) → In c state2.commands.items → is_live c ≡ true → is_used_place state2 c.request ≡ true
   live_used c there lives =
@@ -338,22 +434,28 @@ module _ (i : Interface) (names : List Name) (notes : List Note) (s : State) (r 
       = in_counted (λ (x : Command). x.request == c.request && is_used state2.outbox x) state2.commands.items c there (ap (λ v. v && is_used state2.outbox c) (eq-eqb c.request c.request refl) ∙ ap (λ v. v || is_running_ticket c.ticket state2.outbox) lives) in
       lt-ltb 0 (uses_of c.request state2) (omega (arith, some))
 
-  pub takes_is : takes own (record { numbers = numbers; effects = effects }) (record { state = s; actions = []; forgets = [] }) ≡ releases go.ended (start_each (tickets_of ns) d3)
+  pub takes_is : takes own (record { numbers = numbers; effects = effects }) (releases before (record { state = s; actions = []; forgets = [] })) ≡ releases all_ended (start_each (tickets_of ns) d3)
   takes_is =
       ap behind walked
-      ∙ ap from_swept (none_swept i out' box' stands' fit.fit.distinct taken_in refl effects calm_links)
+      ∙ ap from_swept (ap (λ (x : Unswept). swept_in (unswept_with x)) same_unswept ∙ sweeps)
       ∙ ap (λ told. start_each (filter_map ticket_enabled effects) (tell_all told taken_in)) resets_are
       ∙ ap (start_each (filter_map ticket_enabled effects)) (told_all resets taken_in (let long = length-append stops resets in omega (arith, few_told, wide, long)))
       ∙ ap (λ ks. start_each ks (record taken_in { actions = stops ++ resets })) (all_enabled i.outbox.session r.both.trace items)
-      ∙ ap (start_each (tickets_of all_news)) (sym (all_released_core go.ended d3))
-      ∙ starts_released state2 (stops ++ resets) go.ended requests2.counted released (tickets_of all_news) live_used (commands_known names notes (λ p. ending None p + endings go.ended p) (λ q'. []) state2 side_e requests2) requests2.numbered
+      ∙ ap (start_each (tickets_of all_news)) (sym (all_released_core all_ended d3))
+      ∙ starts_released state2 (stops ++ resets) all_ended requests2.counted released (tickets_of all_news) live_used (commands_known names notes (endings all_ended) between_n.gone state2 side_e requests2) requests2.numbered
       (ap (λ (d : Doing). d.state.cookies) (alive_starts ∙ q.is)) (ap (λ (d : Doing). d.state.room) (alive_starts ∙ q.is)) (ap (λ (d : Doing). d.forgets) (alive_starts ∙ q.is))
-      ∙ ap (releases go.ended) alive_starts
+      ∙ ap (releases all_ended) alive_starts
     where
+      swept_in : Doing → Doing
+      swept_in d' = sweep (flat_map (touched_by d'.state) effects) d'
+
       from_swept : Doing → Doing
       from_swept swept = start_each (filter_map ticket_enabled effects) (tell_all (resets_in swept.state effects) swept)
 
       behind : Doing → Doing
       behind d0 =
           let d' = in_state (λ t. record t { outbox = taken effects numbers t.outbox }) d0 in
-          from_swept (sweep (flat_map (touched_by d'.state) effects) d')
+          from_swept (swept_in d')
+
+      unswept_with : Unswept → Doing
+      unswept_with x = record { state = record (put_state x state2) { cookies = K.cookies; commands = K.commands }; actions = stops; forgets = K.forgets }

@@ -31,7 +31,7 @@ use Rattle.iscsi_ffi_law.specs.Parts.{IsCommand, is_named}
 use Rattle.iscsi_ffi_law.specs.Uses.{is_used, uses_of}
 use Rattle.iscsi_ffi_law.specs.Names.{Name, Note}
 use Rattle.iscsi_ffi_law.specs.Stands.{AreRequests}
-use Rattle.iscsi_ffi_law.proofs.Between.{IsBetween, pending_as}
+use Rattle.iscsi_ffi_law.proofs.Between.{IsBetween}
 use Rattle.iscsi_ffi_law.proofs.Ascending.{all_more, all_up, filtered_up, same_list, times}
 use Rattle.iscsi_ffi_law.proofs.Asked.{find_nothing}
 use Rattle.iscsi_ffi_law.proofs.Commands.{one_command}
@@ -40,18 +40,19 @@ use Rattle.iscsi_ffi_law.proofs.DoneHeld.{held_of}
 use Rattle.iscsi_ffi_law.proofs.DoneMid.{IsMid, requests_held}
 use Rattle.iscsi_ffi_law.proofs.DoneShape.{tickets_of}
 use Rattle.iscsi_ffi_law.proofs.Ends.{EndsAlike, GoesTo}
-use Rattle.iscsi_ffi_law.proofs.EventEnds.{AreBegun, IsEventOf, between_n, d3, few_ended, few_reset, few_stopped, news_are, out', q, requests2, requests_started, resets, side2, side_e, side_n, stands', state2, stops, takes_is, tracked', wide}
+use Rattle.iscsi_ffi_law.proofs.EventEnds.{AreBegun, IsEventOf, all_ended, between_n, d3, few_ended, few_reset, few_stopped, news_are, out', q, requests2, requests_started, resets, side2, side_e, side_n, stands', state2, stops, takes_is, tracked'}
 use Rattle.iscsi_ffi_law.proofs.EventGoes.{outbox_first, parts}
 use Rattle.iscsi_ffi_law.proofs.EventNews.{few_news, live_news, same_counts}
 use Rattle.iscsi_ffi_law.proofs.EventRules.{all_enabled, news_of}
 use Rattle.iscsi_ffi_law.proofs.Flags.{is_used_place}
 use Rattle.iscsi_ffi_law.proofs.HeldNews.{held_counts, told_free}
-use Rattle.iscsi_ffi_law.proofs.ItemsGo.{AllGo}
+use Rattle.iscsi_ffi_law.proofs.ItemsGo.{FirstGo}
 use Rattle.iscsi_ffi_law.proofs.Marking.{named_first}
 use Rattle.iscsi_ffi_law.proofs.Members.{find_in, in_counted, in_find}
 use Rattle.iscsi_ffi_law.proofs.Moved.{commands_known}
 use Rattle.iscsi_ffi_law.proofs.Releases.{all_released, endings, releases}
-use Rattle.iscsi_ffi_law.proofs.Releasing.{Released, ending}
+use Rattle.iscsi_ffi_law.proofs.Releasing.{Released}
+use Rattle.iscsi_ffi_law.proofs.Unswept.{none_unswept}
 use Rattle.iscsi_ffi_law.proofs.Starting.{Starts, all_inserted, starting_of, withheld_of}
 
 -- the commands that are live are so on both sides
@@ -76,8 +77,8 @@ live_kept keep (c ∷ cs) kept = by_tests (live_kept keep cs (λ x there. kept x
     by_tests rest false is true is' = let here : one (is_live c) ≡ 0 = ap one is in omega (arith, rest, here, count-cons is_live c cs)
     by_tests rest false is false is' = let here : one (is_live c) ≡ 0 = ap one is in omega (arith, rest, here, count-cons is_live c cs)
 
-module _ (i : Interface) (names : List Name) (notes : List Note) (s : State) (r : Side) (own : Option ℕ) (e : Event) (fit : IsEventOf i r e) (first : AreBegun i s r) (k : OutboxStands i.outbox s.outbox r.both.box)
-    (go : AllGo i names notes (record s { outbox = outbox_first i r e (parts i r e).lead s.outbox }) r own [] (items_of i.outbox.session r.both.event r.both.trace e))
+module _ (i : Interface) (names : List Name) (notes : List Note) (s : State) (r : Side) (own : Option ℕ) (before : List (Option ℕ)) (e : Event) (fit : IsEventOf i r e) (first : AreBegun i s r before) (k : OutboxStands i.outbox s.outbox r.both.box)
+    (go : FirstGo i names notes (none_unswept s) (record s { outbox = outbox_first i r e (parts i r e).lead s.outbox }) r own before (items_of i.outbox.session r.both.event r.both.trace e))
     (calm : next_withheld r ≡ None)
     (fits : let w = happening_there i r e in AreDoneFit i (length (live w.side.both.trace)) w) where
   -- what it enabled, and of that what is live
@@ -88,7 +89,7 @@ module _ (i : Interface) (names : List Name) (notes : List Note) (s : State) (r 
   news = live_news i.outbox.session r.both.trace (items_of i.outbox.session r.both.event r.both.trace e)
 
   abbrev two : Side
-  two = side2 i names notes s r own e fit first k go
+  two = side2 i names notes s r own before e fit first k go
 
   abbrev t2 : Trace
   t2 = after_items (items_of i.outbox.session r.both.event r.both.trace e) r.both.trace
@@ -97,18 +98,22 @@ module _ (i : Interface) (names : List Name) (notes : List Note) (s : State) (r 
   marks = items_of i.outbox.session r.both.event r.both.trace e
 
   abbrev told : List Action
-  told = (stops i names notes s r own e fit first k go ++ resets i names notes s r own e fit first k go) ++ map (start_there two) (starting_of two news)
+  told = (stops i names notes s r own before e fit first k go ++ resets i names notes s r own before e fit first k go) ++ map (start_there two) (starting_of two news)
+
+  -- the uses that have ended
+  abbrev ended : List (Option ℕ)
+  ended = all_ended i names notes s r own before e fit first k go
 
   -- ---- the rules
 
   found_live : (x : RulesCommand) → In x news → live_with t2 x.ticket ≡ Some x
   found_live x at =
-      let n = news_are i names notes s r own e fit first k go x at in
+      let n = news_are i names notes s r own before e fit first k go x at in
       let there = filter-in (λ (d : RulesCommand). not (has (leaves_ticket d.ticket) t2)) (entered t2) x n.0 (ap not n.1) in
       let y = in_find (λ (d : RulesCommand). d.ticket == x.ticket) (live t2) x there (eq-eqb x.ticket x.ticket refl) in
       let found = find_in (λ (d : RulesCommand). d.ticket == x.ticket) (live t2) y.0 y.1 in
       let g = in-filter (λ (d : RulesCommand). not (has (leaves_ticket d.ticket) t2)) (entered t2) y.0 found.0 in
-      let same : y.0 ≡ x = one_command (entered t2) y.0 x (requests2 i names notes s r own e fit first k go).tickets g.0 n.0 (eqb-true y.0.ticket x.ticket found.1) in
+      let same : y.0 ≡ x = one_command (entered t2) y.0 x (requests2 i names notes s r own before e fit first k go).tickets g.0 n.0 (eqb-true y.0.ticket x.ticket found.1) in
       y.1 ∙ ap (λ (d : RulesCommand). Some d) same
 
   -- one that left isn't found
@@ -143,56 +148,53 @@ module _ (i : Interface) (names : List Name) (notes : List Note) (s : State) (r 
       ∙ ap (λ xs. by_started (filter (λ x. not (is_withheld two x)) xs)) (all_found all_news (λ x at lives. found_live x (filter-in (λ (d : RulesCommand). not (has (leaves_ticket d.ticket) t2)) all_news x at (ap not lives))))
     where
       by_started : List RulesCommand → Told
-      by_started xs = record { side = record two { told = r.told ++ map (λ (x : RulesCommand). x.ticket) xs }; actions = (flat_map (stops_in r) marks ++ resets i names notes s r own e fit first k go) ++ map (start_there two) xs }
+      by_started xs = record { side = record two { told = r.told ++ map (λ (x : RulesCommand). x.ticket) xs }; actions = (flat_map (stops_in r) marks ++ resets i names notes s r own before e fit first k go) ++ map (start_there two) xs }
 
   -- ---- the steps
 
-  abbrev start : Starts names two (out' i names notes s r own e fit first k go) (state2 i names notes s r own e fit first k go).commands.items news (d3 i names notes s r own e fit first k go) (start_each (tickets_of news) (d3 i names notes s r own e fit first k go))
-  start = q i names notes s r own e fit first k go
+  abbrev start : Starts names two (out' i names notes s r own before e fit first k go) (state2 i names notes s r own before e fit first k go).commands.items news (d3 i names notes s r own before e fit first k go) (start_each (tickets_of news) (d3 i names notes s r own before e fit first k go))
+  start = q i names notes s r own before e fit first k go
 
   abbrev last_state : State
-  last_state = record (state2 i names notes s r own e fit first k go) { commands = record go.state.commands { items = start.items }; withheld = all_inserted (tickets_of (withheld_of two news)) go.state.withheld }
+  last_state = record (state2 i names notes s r own before e fit first k go) { commands = record go.state.commands { items = start.items }; withheld = all_inserted (tickets_of (withheld_of two news)) go.state.withheld }
 
-  started_is : start_each (tickets_of news) (d3 i names notes s r own e fit first k go) ≡ record { state = last_state; actions = told; forgets = [] }
+  started_is : start_each (tickets_of news) (d3 i names notes s r own before e fit first k go) ≡ record { state = last_state; actions = told; forgets = [] }
   started_is = start.is
 
   abbrev going_then : Going
-  going_then = record { event = r.both.event + 1; trace = t2; doing = releases go.ended (record { state = last_state; actions = told; forgets = [] }) }
+  going_then = record { event = r.both.event + 1; trace = t2; doing = releases ended (record { state = last_state; actions = told; forgets = [] }) }
 
-  happening_to : happening i own e (record { event = r.both.event; trace = r.both.trace; doing = record { state = s; actions = []; forgets = [] } }) ≡ going_then
+  happening_to : happening i own e (record { event = r.both.event; trace = r.both.trace; doing = releases before (record { state = s; actions = []; forgets = [] }) }) ≡ going_then
   happening_to =
-      ap (λ v. cond v next before) (lt-ltb r.both.event i.outbox.session.events fit.events)
-      ∙ ap (λ (d : Doing). record { event = r.both.event + 1; trace = t2; doing = d }) (takes_is i names notes s r own e fit first k go ∙ ap (releases go.ended) started_is)
+      ap (λ v. cond v next found) (lt-ltb r.both.event i.outbox.session.events fit.events)
+      ∙ ap (λ (d : Doing). record { event = r.both.event + 1; trace = t2; doing = d }) (takes_is i names notes s r own before e fit first k go ∙ ap (releases ended) started_is)
     where
-      before : Going
-      before = record { event = r.both.event; trace = r.both.trace; doing = record { state = s; actions = []; forgets = [] } }
+      found : Going
+      found = record { event = r.both.event; trace = r.both.trace; doing = releases before (record { state = s; actions = []; forgets = [] }) }
 
       next : Going
-      next = record { event = r.both.event + 1; trace = t2; doing = takes own (entry_of i.outbox.session r.both.event r.both.trace e) (record { state = s; actions = []; forgets = [] }) }
+      next = record { event = r.both.event + 1; trace = t2; doing = takes own (entry_of i.outbox.session r.both.event r.both.trace e) (releases before (record { state = s; actions = []; forgets = [] })) }
 
   -- ---- the end
 
-  abbrev b : IsBetween i names notes go.state (side_n i names notes s r own e fit first k go) None go.ended
-  b = between_n i names notes s r own e fit first k go
+  abbrev b : IsBetween i names notes go.state (side_n i names notes s r own before e fit first k go) None go.ended
+  b = between_n i names notes s r own before e fit first k go
 
-  requests3 : AreRequests names notes (λ p. ending None p + endings go.ended p) (λ p. []) last_state side3
-  requests3 = requests_held names notes (λ p. ending None p + endings go.ended p) (λ p. []) (record (state2 i names notes s r own e fit first k go) { commands = record go.state.commands { items = start.items } }) side3 (all_inserted (tickets_of (withheld_of two news)) go.state.withheld)
-      (requests_started names notes (λ p. ending None p + endings go.ended p) (state2 i names notes s r own e fit first k go) (side_e i names notes s r own e fit first k go) (r.both.event + 1) (r.told ++ tickets_of (starting_of two news)) go.state.commands.items start.items
-      (requests2 i names notes s r own e fit first k go) refl start.have)
+  requests3 : AreRequests names notes (endings ended) b.gone last_state side3
+  requests3 = requests_held names notes (endings ended) b.gone (record (state2 i names notes s r own before e fit first k go) { commands = record go.state.commands { items = start.items } }) side3 (all_inserted (tickets_of (withheld_of two news)) go.state.withheld)
+      (requests_started names notes (endings ended) b.gone (state2 i names notes s r own before e fit first k go) (side_e i names notes s r own before e fit first k go) (r.both.event + 1) (r.told ++ tickets_of (starting_of two news)) go.state.commands.items start.items
+      (requests2 i names notes s r own before e fit first k go) refl start.have)
 
-  plain_pending : AreRequests names notes (endings go.ended) (λ p. []) last_state side3
-  plain_pending = pending_as names notes (λ p. ending None p + endings go.ended p) (endings go.ended) (λ p. []) last_state side3 (λ p. omega arith) requests3
-
-  room_ended : length go.ended ≤ last_state.room
-  room_ended = let few = few_ended i names notes s r own e fit first k go in let w = wide i names notes s r own e fit first k go in omega (arith, few, w)
+  room_ended : length ended ≤ last_state.room
+  room_ended = few_ended i names notes s r own before e fit first k go
 
   -- those that are live, and were told to start before, were free
   told_before : (c : RulesCommand) → In c (entered t2) → has (leaves_ticket c.ticket) t2 ≡ false → contains r.told c.ticket ≡ was_free c r.both.trace
-  told_before = told_free i marks r fit.steps fit.once (requests2 i names notes s r own e fit first k go).tickets calm first.freed
+  told_before = told_free i marks r fit.untold (requests2 i names notes s r own before e fit first k go).tickets calm first.freed
 
   -- those that are withheld, in the order of their tickets
   held_news : (n : ℕ) → times n (tickets_of (withheld_of two news)) ≡ times n (tickets_of (held_of side3))
-  held_news = held_counts (is_withheld two) r.told t2 news (same_counts i.outbox.session marks r.both.trace r.told (requests2 i names notes s r own e fit first k go).tickets fit.regular.units told_before) (requests2 i names notes s r own e fit first k go).tickets
+  held_news = held_counts (is_withheld two) r.told t2 news (same_counts i.outbox.session marks r.both.trace r.told (requests2 i names notes s r own before e fit first k go).tickets fit.regular.units told_before) (requests2 i names notes s r own before e fit first k go).tickets
 
   held_then : all_inserted (tickets_of (withheld_of two news)) go.state.withheld ≡ tickets_of (held_of side3)
   held_then =
@@ -200,10 +202,11 @@ module _ (i : Interface) (names : List Name) (notes : List Note) (s : State) (r 
       ∙ same_list (all_inserted (tickets_of (withheld_of two news)) []) (tickets_of (held_of side3)) (all_up (tickets_of (withheld_of two news)) [] tt)
       (filtered_up (λ (c : RulesCommand). was_free c t2 && not (contains side3.told c.ticket)) (λ (c : RulesCommand). not (has (leaves_ticket c.ticket) t2)) (entered t2) fit.regular.ascending) (λ n. omega (arith, all_more n (tickets_of (withheld_of two news)) [], held_news n))
 
-  mid : IsMid i names notes last_state side3 told (endings go.ended)
+  mid : IsMid i names notes last_state side3 told (endings ended)
   mid = record {
-    requests = plain_pending;
-    outbox = stands' i names notes s r own e fit first k go;
+    gone = b.gone;
+    requests = requests3;
+    outbox = stands' i names notes s r own before e fit first k go;
     sizes = record {
       room = b.sizes.room;
       functions = b.sizes.functions;
@@ -217,19 +220,19 @@ module _ (i : Interface) (names : List Name) (notes : List Note) (s : State) (r 
       few = b.sizes.few;
     };
     flags = record { awake = b.flags.awake; over = b.flags.over };
-    counts = record { units = b.counts.units; last = b.counts.last; tracked = tracked' i names notes s r own e fit first k go };
+    counts = record { units = b.counts.units; last = b.counts.last; tracked = tracked' i names notes s r own before e fit first k go };
     regular = record { ascending = fit.regular.ascending; units = fit.regular.units };
     slots = b.slots;
     functions = b.functions;
     held = held_then;
     room =
-        let stopped = few_stopped i names notes s r own e fit first k go in
-        let reset = few_reset i names notes s r own e fit first k go in
-        let first_two = length-append (stops i names notes s r own e fit first k go) (resets i names notes s r own e fit first k go) in
-        let long = length-append (stops i names notes s r own e fit first k go ++ resets i names notes s r own e fit first k go) (map (start_there two) (starting_of two news)) in
+        let stopped = few_stopped i names notes s r own before e fit first k go in
+        let reset = few_reset i names notes s r own before e fit first k go in
+        let first_two = length-append (stops i names notes s r own before e fit first k go) (resets i names notes s r own before e fit first k go) in
+        let long = length-append (stops i names notes s r own before e fit first k go ++ resets i names notes s r own before e fit first k go) (map (start_there two) (starting_of two news)) in
         let mapped = length-map (starting_of two news) (start_there two) in
         let fewer = filter-shorter (λ (c : RulesCommand). not (is_withheld two c)) news in
-        let started = few_news i.outbox.session marks r.both.trace r.told (requests2 i names notes s r own e fit first k go).tickets fit.regular.units told_before in
+        let started = few_news i.outbox.session marks r.both.trace r.told (requests2 i names notes s r own before e fit first k go).tickets fit.regular.units told_before in
         let all = fit.few in
         omega (arith, stopped, reset, first_two, long, mapped, fewer, started, all);
     sound = fit.fit.sound_after;
@@ -239,10 +242,10 @@ module _ (i : Interface) (names : List Name) (notes : List Note) (s : State) (r 
   -- there are as many commands left as are live
   as_many : length (live t2) ≤ length going_then.doing.state.commands.items
   as_many =
-      let rel : Released last_state told (releases go.ended (record { state = last_state; actions = told; forgets = [] }))
-      = all_released last_state told plain_pending.counted (commands_known names notes (endings go.ended) (λ p. []) last_state side3 plain_pending) go.ended room_ended plain_pending.uses in
+      let rel : Released last_state told (releases ended (record { state = last_state; actions = told; forgets = [] }))
+      = all_released last_state told requests3.counted (commands_known names notes (endings ended) b.gone last_state side3 requests3) ended room_ended requests3.uses in
       let left = ap (λ (d : Doing). length d.state.commands.items) rel.is in
-      let named = ap length (named_first names t2 (entered t2) plain_pending.live_named) in
+      let named = ap length (named_first names t2 (entered t2) requests3.live_named) in
       let lives = pairs_live names side3 start.items (filter (is_named names) (entered t2)) start.have.commands in
       let kept = live_kept (λ (c : Command). is_used_place last_state c.request) start.items used in
       omega (arith, left, named, lives, kept)
@@ -254,10 +257,10 @@ module _ (i : Interface) (names : List Name) (notes : List Note) (s : State) (r 
           lt-ltb 0 (uses_of c.request last_state) (omega (arith, some))
 
   ends : EndsAlike i (withholding i (length going_then.doing.state.commands.items) going_then) (withholding_there i (length (live side3.both.trace)) (record { side = side3; actions = told })).side (withholding_there i (length (live side3.both.trace)) (record { side = side3; actions = told })).actions
-  ends = chain i names notes fit.fit.distinct go.ended (length (live side3.both.trace)) (length going_then.doing.state.commands.items) last_state side3 told mid room_ended (omega arith) as_many
+  ends = chain i names notes fit.fit.distinct ended (length (live side3.both.trace)) (length going_then.doing.state.commands.items) last_state side3 told mid room_ended (omega arith) as_many
       (subst (λ (w : Told). AreDoneFit i (length (live w.side.both.trace)) w) rules_are fits)
 
-  pub event_goes : GoesTo i (done (happens i own e (record { event = r.both.event; trace = r.both.trace; doing = record { state = s; actions = []; forgets = [] } }))) (rules.done (happens_there i r e))
+  pub event_goes : GoesTo i (done (happens i own e (record { event = r.both.event; trace = r.both.trace; doing = releases before (record { state = s; actions = []; forgets = [] }) }))) (rules.done (happens_there i r e))
   event_goes =
       subst (λ (g : Going). GoesTo i (done (withholding i (length g.doing.state.commands.items) g)) (rules.done (happens_there i r e))) (sym happening_to)
       (subst (λ (w : Told). GoesTo i (done (withholding i (length going_then.doing.state.commands.items) going_then)) (rules.done w)) (sym (ap (withheld i) rules_are)) (record { answer = refl; tells = ends.tells; stands = ends.stands }))

@@ -32,7 +32,7 @@ use Rattle.iscsi_ffi_rules.specs.rules.Calls.{Interface}
 use Rattle.iscsi_ffi_rules.specs.rules.Happening.{Told}
 use Rattle.iscsi_ffi_rules.specs.rules.Needs.{is_needed}
 use Rattle.iscsi_ffi_rules.specs.rules.Run as rules
-use Rattle.iscsi_ffi_rules.specs.rules.Run.{cids, newly_over, newly_ready, parted}
+use Rattle.iscsi_ffi_rules.specs.rules.Run.{cids, newly_over, newly_ready, parted_handed, parted_waiting}
 use Rattle.iscsi_ffi_rules.specs.rules.Clearing.{next_withheld}
 use Rattle.iscsi_ffi_rules.specs.rules.Sides.{Asked, Noted, Side}
 use Rattle.iscsi_ffi_rules.proofs.WordTheorem.{ended_counted}
@@ -40,15 +40,15 @@ use Rattle.iscsi_ffi_steps.specs.State.{State}
 use Rattle.iscsi_ffi_steps.specs.Steps.{Going, after, close_each, ended, gives, gives_no_more, tell_each, told}
 use Rattle.iscsi_ffi_steps.specs.Walk.{Doing}
 use Rattle.iscsi_ffi_law.specs.Alike.{AreForgets, SameForgets, TellAlike, is_any_forget}
-use Rattle.iscsi_ffi_law.specs.Names.{Name, Note, asked_of, noted_of}
+use Rattle.iscsi_ffi_law.specs.Names.{Name, Note, asked_of}
 use Rattle.iscsi_ffi_law.specs.Parts.{AreFunctions, AreHeld}
 use Rattle.iscsi_ffi_law.specs.Uses.{uses_of}
 use Rattle.iscsi_ffi_law.specs.Stands.{AreCounts, AreFlags, AreRequests, AreSizes, Stands}
 use Rattle.iscsi_ffi_law.proofs.Ended.{IsReleased, left_of, requests_left, side_left}
 use Rattle.iscsi_ffi_law.proofs.Flags.{is_used_place}
 use Rattle.iscsi_ffi_law.proofs.Kept.{count_nothing}
-use Rattle.iscsi_ffi_law.proofs.Members.{Passing, any_in, in_any}
-use Rattle.iscsi_ffi_law.proofs.Needs.{map_in}
+use Rattle.iscsi_ffi_law.proofs.Members.{Passing, any_in, in_any, map_in}
+use Rattle.iscsi_ffi_law.proofs.NotePlaces.{noted_counted}
 use Rattle.iscsi_ffi_law.proofs.Replies.{HaveConns}
 use Rattle.iscsi_ffi_law.proofs.Slots.{functions_used, slots_used}
 use Rattle.iscsi_ffi_law.proofs.Telling.{flags_after, gives_alike, gives_to, is_over_to, over_alike, told_over, told_ready}
@@ -175,13 +175,13 @@ module _ (i : Interface) (names : List Name) (notes : List Note) (pending : ℕ 
     asked_gone = map (λ (a : Asked). Forget a.cookie) (filter (λ (a : Asked). not (is_needed r a)) r.asked)
 
     abbrev noted_gone : List Action
-    noted_gone = map (λ (n : Noted). Forget n.cookie) (parted r.both.box.links r.noted).needless
+    noted_gone = map (λ (n : Noted). Forget n.cookie) ((parted_waiting r).needless ++ (parted_handed r).needless)
 
     forgets_are : AreForgets (asked_gone ++ noted_gone)
     forgets_are =
         each-append (λ a. is_any_forget a ≡ true) asked_gone noted_gone
         (each-new (λ a. is_any_forget a ≡ true) (λ (a : Asked). Forget a.cookie) (filter (λ (a : Asked). not (is_needed r a)) r.asked) (λ a. refl))
-        (each-new (λ a. is_any_forget a ≡ true) (λ (n : Noted). Forget n.cookie) (parted r.both.box.links r.noted).needless (λ n. refl))
+        (each-new (λ a. is_any_forget a ≡ true) (λ (n : Noted). Forget n.cookie) ((parted_waiting r).needless ++ (parted_handed r).needless) (λ n. refl))
 
     none_forgotten : (word : ℕ) (f : ℕ → Action) (cs : List ℕ) → ((cid : ℕ) → is_forget word (f cid) ≡ false) → count_by (is_forget word) (map f cs) ≡ 0
     none_forgotten word f cs none = count_nothing (is_forget word) (map f cs) (λ a there. let c = map_in f cs a there in ap (is_forget word) (sym c.2) ∙ none c.0)
@@ -196,11 +196,10 @@ module _ (i : Interface) (names : List Name) (notes : List Note) (pending : ℕ 
         let left = requests_left names notes pending gone s r e.requests have_conns links_are_apart runs_alike v forgets rel s.awake s.over (r.awake ++ newly_ready i r) (r.over ++ newly_over i r) in
         let after' = words_kept (filter (λ (n : Name). is_used_place s n.place) names) (filter (λ (n : Note). is_used_place s n.place) notes) v left.kept (λ place cookie. cookie == word) in
         let asked_before : count_by (λ (a : Asked). a.cookie == word) r.asked ≡ count_by (λ (n : Name). n.cookie == word) names = ap (count_by (λ (a : Asked). a.cookie == word)) (sym e.requests.asked) ∙ count_by-map (λ (a : Asked). a.cookie == word) asked_of names in
-        let noted_before : count_by (λ (n : Noted). n.cookie == word) r.noted ≡ count_by (λ (n : Note). n.cookie == word) notes = ap (count_by (λ (n : Noted). n.cookie == word)) (sym e.requests.noted) ∙ count_by-map (λ (n : Noted). n.cookie == word) noted_of notes in
+        let noted_before = noted_counted (λ (n : Noted). n.cookie == word) notes r.noted r.handed_notes e.requests.noted in
         let asked_after : count_by (λ (a : Asked). a.cookie == word) (filter (is_needed r) r.asked) ≡ count_by (λ (n : Name). n.cookie == word) (filter (λ (n : Name). is_used_place s n.place) names)
         = ap (count_by (λ (a : Asked). a.cookie == word)) (sym left.asked) ∙ count_by-map (λ (a : Asked). a.cookie == word) asked_of (filter (λ (n : Name). is_used_place s n.place) names) in
-        let noted_after : count_by (λ (n : Noted). n.cookie == word) (parted r.both.box.links r.noted).needed ≡ count_by (λ (n : Note). n.cookie == word) (filter (λ (n : Note). is_used_place s n.place) notes)
-        = ap (count_by (λ (n : Noted). n.cookie == word)) (sym left.noted) ∙ count_by-map (λ (n : Noted). n.cookie == word) noted_of (filter (λ (n : Note). is_used_place s n.place) notes) in
+        let noted_after = noted_counted (λ (n : Noted). n.cookie == word) (filter (λ (n : Note). is_used_place s n.place) notes) (parted_waiting r).needed (parted_handed r).needed left.noted in
         let told1 : count_by (is_forget word) (((acts ++ map (λ cid. Ready cid) (newly_ready i r)) ++ map (λ cid. Close cid) (newly_over i r)) ++ (asked_gone ++ noted_gone)) ≡ count_by (is_forget word) acts + 0 + 0 + count_by (is_forget word) (asked_gone ++ noted_gone)
         = by_parts word in
         omega (arith, rules_kept, before, after', asked_before, noted_before, asked_after, noted_after, told1, rel.words word)

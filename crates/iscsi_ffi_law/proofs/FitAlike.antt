@@ -1,5 +1,5 @@
 -- The calls of a list go alike, by what holds of both sides.
-use Rattle.std.proofs.Common.{zero, suc, ◌++◌, length, ◌≡◌, ℕ, ◌+◌, ◌&&◌, inl, inr, ⊎_elim, Bool, true, false, List, [], ◌∷◌, Option, Some, None, filter, not, refl}
+use Rattle.std.proofs.Common.{zero, suc, ◌++◌, length, ◌≡◌, ℕ, ◌+◌, ◌&&◌, inl, inr, Bool, true, false, List, [], ◌∷◌, Option, Some, None, filter, not, refl}
 use Rattle.iscsi_history.specs.rules.Settings.{is_known}
 use Rattle.iscsi_history.specs.rules.Trace.{Command, entered, has, is_closed, leaves_ticket, was_free}
 use Rattle.iscsi_outbox_rules.specs.rules.Calls as outbox
@@ -17,7 +17,6 @@ use Rattle.iscsi_ffi_rules.specs.rules.Sides.{Asked, Side, opened}
 use Rattle.iscsi_ffi_steps.specs.Steps.{Side as StepsSide, after, begun, called, ended}
 use Rattle.iscsi_outbox_law.specs.Pairs.{EachOf}
 use Rattle.iscsi_ffi_law.specs.Alike.{GoesAlike}
-use Rattle.iscsi_ffi_law.specs.Left.{Left, LeftFrom}
 use Rattle.iscsi_ffi_law.specs.Lists.{AreAlike, Meets}
 use Rattle.iscsi_ffi_law.specs.Sides.{AreFitFrom, IsCallFit, IsOfBytes, IsOpening, IsShort, IsSideFit, asking}
 use Rattle.iscsi_ffi_law.specs.Stands.{Stands}
@@ -27,11 +26,11 @@ use Rattle.iscsi_ffi_law.proofs.FitFacts.{limits}
 use Rattle.iscsi_ffi_law.proofs.FitEvents.{taken_leaves}
 use Rattle.iscsi_ffi_law.proofs.FitHolds.{Holds}
 use Rattle.iscsi_ffi_law.proofs.FitLasts.{Lasts, lasts_begun, lasts_walk}
-use Rattle.iscsi_ffi_law.proofs.FitReached.{sound_reached}
 use Rattle.iscsi_ffi_law.proofs.FitRoom.{free, placed, room_to_tell, uses_few}
 use Rattle.iscsi_ffi_law.proofs.FitSized.{AreSized, sized_begun, sized_step}
 use Rattle.iscsi_ffi_law.proofs.FitWalks.{on_call}
 use Rattle.iscsi_ffi_law.proofs.HeldNews.{told_free}
+use Rattle.iscsi_ffi_law.proofs.FitLoss.{loss_holds}
 use Rattle.iscsi_ffi_law.proofs.Members.{each_in, in_pairs}
 use Rattle.iscsi_ffi_law.proofs.Opened.{stands_begun}
 use Rattle.iscsi_ffi_law.specs.Parts.{IsCommand, IsLiveNamed, is_named}
@@ -67,7 +66,7 @@ module _ (i : Interface) (opening : IsOpening i) where
     told_is : (c : Command) → In c (live r.both.trace) → contains r.told c.ticket ≡ was_free c r.both.trace
     told_is c at =
         let there = in-filter (λ (d : Command). not (has (leaves_ticket d.ticket) r.both.trace)) (entered r.both.trace) c at in
-        told_free i [] r (sound_reached i.outbox (limits i opening).distinct r.both h.good.reached).0 refl st.requests.tickets st.calm freed c there.0 (not_true (has (leaves_ticket c.ticket) r.both.trace) there.1)
+        told_free i [] r (λ d none. absurd none) st.requests.tickets st.calm freed c there.0 (not_true (has (leaves_ticket c.ticket) r.both.trace) there.1)
       where
         freed : (c : Command) → In c (entered r.both.trace) → has (leaves_ticket c.ticket) r.both.trace ≡ false → contains r.told c.ticket ≡ true → was_free c r.both.trace ≡ true
         freed c there lives told =
@@ -75,26 +74,24 @@ module _ (i : Interface) (opening : IsOpening i) where
             let pair = in_pairs (IsCommand st.names r) s.state.commands.items (filter (is_named st.names) (entered r.both.trace)) c (filter-in (is_named st.names) (entered r.both.trace) c there named) st.requests.commands in
             pair.2.freed told
 
-    meets_arrival : (cid : ℕ) (header : List ℕ) (cookie : ℕ) → IsCallFit i r (Arrives cid header cookie) → Left i s r (Arrives cid header cookie) → (x : Option Refusal) → refusal_of i r cid ≡ x → Meets i s r (Arrives cid header cookie)
-    meets_arrival cid header cookie call left (Some why) is = inl (fit.leaves (outbox.Hears cid 0 0) refl, (why, is))
-    meets_arrival cid header cookie call left None is =
+    meets_arrival : (cid : ℕ) (header : List ℕ) (cookie : ℕ) → IsCallFit i r (Arrives cid header cookie) → (x : Option Refusal) → refusal_of i r cid ≡ x → Meets i s r (Arrives cid header cookie)
+    meets_arrival cid header cookie call (Some why) is = inl (fit.leaves (outbox.Hears cid 0 0) refl, (why, is))
+    meets_arrival cid header cookie call None is =
         let k = call is in
-        ⊎_elim
-        (λ e. let w = k.event in inr (inl (record {
+        let w = k.event in
+        inr (record {
           fit = record {
             before = k.before;
             heard = k.heard;
-            event = record { fit = w.fit; steps = w.steps (taken_leaves i opening n r cid header is h w.items w.stale lasts.replied lasts.freed told_is); stale = w.stale; sent = w.sent; found = w.found; short = w.short; enabled = w.enabled; few = w.few; regular = w.regular; distinct = w.distinct; received = w.received; prompt = w.prompt; waits = w.waits };
+            event = record { fit = w.fit; steps = w.steps (taken_leaves i opening n r cid header is h w.items w.stale lasts.replied lasts.freed told_is); stale = w.stale; sent = w.sent; replies = w.sends; found = w.found; short = w.short; enabled = w.enabled; few = w.few; regular = w.regular; distinct = w.distinct; received = w.received; prompt = w.prompt; waits = w.waits };
           };
           taken = is;
           room = free i opening n s r st z h;
           placed = placed i opening n s r st z h;
-          plain = record {
-            plain = e.plain;
+          behind = record {
             withheld = (let v = happening i (asking (heard_in i r cid header) cookie) (Arrive cid header) in let u = happening i (heard_in i r cid header) (Arrive cid header) in done_asked i (length (live v.side.both.trace)) v.side u.side.asked v.actions u.actions k.withheld);
           };
-        })))
-        (λ x. inr (inr x)) (left is)
+        })
 
     meets_completed : (ticket status : ℕ) → IsCallFit i r (Completes ticket status) → (v : Bool) → is_going r ticket ≡ v → Meets i s r (Completes ticket status)
     meets_completed ticket status call true is = inr (is, call is)
@@ -104,33 +101,33 @@ module _ (i : Interface) (opening : IsOpening i) where
     meets_stopped ticket call true is = inr (is, call is)
     meets_stopped ticket call false is = inl (fit.leaves (outbox.Stops ticket) refl, is)
 
-    meets_loss : (cid : ℕ) → Left i s r (Loses cid) → (u v w : Bool) → is_known cid i.outbox.session.conns ≡ u → is_lost r cid ≡ v → is_closed cid r.both.trace ≡ w → Meets i s r (Loses cid)
-    meets_loss cid left false v w known lost closed = inl (fit.leaves (outbox.Hears cid 0 0) refl, inl known)
-    meets_loss cid left true true w known lost closed = inl (fit.leaves (outbox.Hears cid 0 0) refl, inr lost)
-    meets_loss cid left true false true known lost closed = inr (inl (record { leaves = fit.leaves (outbox.Loses cid) refl; orderly = fit.orderly; closed = closed; known = known; kept = lost }))
-    meets_loss cid left true false false known lost closed = inr (inr (left known lost closed))
+    meets_loss : (cid : ℕ) → IsCallFit i r (Loses cid) → (u v w : Bool) → is_known cid i.outbox.session.conns ≡ u → is_lost r cid ≡ v → is_closed cid r.both.trace ≡ w → Meets i s r (Loses cid)
+    meets_loss cid call false v w known lost closed = inl (fit.leaves (outbox.Hears cid 0 0) refl, inl known)
+    meets_loss cid call true true w known lost closed = inl (fit.leaves (outbox.Hears cid 0 0) refl, inr lost)
+    meets_loss cid call true false true known lost closed = inr (inl (record { leaves = fit.leaves (outbox.Loses cid) refl; orderly = fit.orderly; closed = closed; known = known; kept = lost }))
+    meets_loss cid call true false false known lost closed = inr (inr (loss_holds i n r lasts opening told_is cid known lost closed (fit.leaves (outbox.Loses cid) refl) fit.orderly (call known lost closed)))
 
-    meets : (c : Call) → IsCallFit i r c → Left i s r c → Meets i s r c
-    meets (Arrives cid header cookie) call left = meets_arrival cid header cookie call left (refusal_of i r cid) refl
-    meets (Completes ticket status) call left = meets_completed ticket status call (is_going r ticket) refl
-    meets (Stops ticket) call left = meets_stopped ticket call (is_going r ticket && contains r.marked ticket) refl
-    meets (Nexts cid) call left = (fit.leaves (outbox.Nexts cid) refl, uses_few i opening n s r st z h, fit.sent)
-    meets (Puts p cookie) call left = (fit.leaves (outbox.Puts p) refl, fit.orderly, free i opening n s r st z h)
-    meets (Writes cid) call left = fit.leaves (outbox.Writes cid) refl
-    meets (Hears cid exp_stat_sn tag) call left = fit.leaves (outbox.Hears cid exp_stat_sn tag) refl
-    meets (Joins cid stat_sn) call left = fit.leaves (outbox.Joins cid stat_sn) refl
-    meets (Loses cid) call left = meets_loss cid left (is_known cid i.outbox.session.conns) (is_lost r cid) (is_closed cid r.both.trace) refl refl refl
-    meets (Clears unit) call left = record { fit = fit.fit; room = room_to_tell i opening n s r st z h }
-    meets (Cleared unit) call left = fit.leaves (outbox.Clears unit) refl
+    meets : (c : Call) → IsCallFit i r c → Meets i s r c
+    meets (Arrives cid header cookie) call = meets_arrival cid header cookie call (refusal_of i r cid) refl
+    meets (Completes ticket status) call = meets_completed ticket status call (is_going r ticket) refl
+    meets (Stops ticket) call = meets_stopped ticket call (is_going r ticket && contains r.marked ticket) refl
+    meets (Nexts cid) call = (fit.leaves (outbox.Nexts cid) refl, uses_few i opening n s r st z h, fit.sent)
+    meets (Puts p cookie) call = (fit.leaves (outbox.Puts p) refl, fit.orderly, free i opening n s r st z h)
+    meets (Writes cid) call = fit.leaves (outbox.Writes cid) refl
+    meets (Hears cid exp_stat_sn tag) call = fit.leaves (outbox.Hears cid exp_stat_sn tag) refl
+    meets (Joins cid stat_sn) call = fit.leaves (outbox.Joins cid stat_sn) refl
+    meets (Loses cid) call = meets_loss cid call (is_known cid i.outbox.session.conns) (is_lost r cid) (is_closed cid r.both.trace) refl refl refl
+    meets (Clears unit) call = record { fit = fit.fit; room = room_to_tell i opening n s r st z h }
+    meets (Cleared unit) call = fit.leaves (outbox.Clears unit) refl
 
-  alike_from : (n : ℕ) (s : StepsSide) (r : Side) (calls : List Call) → EachOf IsOfBytes calls → Stands i s r → AreSized i s.state → Lasts i n r → AreFitFrom i r calls → LeftFrom i s r calls → AreAlike i s r calls
-  alike_from n s r [] bytes st z h fit left = tt
-  alike_from n s r (c ∷ cs) bytes st z h fit left =
-      let g : GoesAlike i s r c = goes i s r c st (meets n s r st z h fit.0 c fit.1 left.0) in (
+  alike_from : (n : ℕ) (s : StepsSide) (r : Side) (calls : List Call) → EachOf IsOfBytes calls → Stands i s r → AreSized i s.state → Lasts i n r → AreFitFrom i r calls → AreAlike i s r calls
+  alike_from n s r [] bytes st z h fit = tt
+  alike_from n s r (c ∷ cs) bytes st z h fit =
+      let g : GoesAlike i s r c = goes i s r c st (meets n s r st z h fit.0 c fit.1) in (
         g.answer,
         g.tells,
-        alike_from (n + 1) (after (ended (called i c s).going)) (after_call i r c).told.side cs bytes.1 g.stands (sized_step i s c z) (on_call i (Lasts i) (lasts_walk i (limits i opening).distinct) n r c (of_call c bytes.0) h) fit.2 left.1,
+        alike_from (n + 1) (after (ended (called i c s).going)) (after_call i r c).told.side cs bytes.1 g.stands (sized_step i s c z) (on_call i (Lasts i) (lasts_walk i (limits i opening).distinct) n r c (of_call c bytes.0) h) fit.2,
       )
 
-pub all_alike : (i : Interface) (calls : List Call) → IsOpening i → IsShort i calls → EachOf IsOfBytes calls → LeftFrom i (begun i) (opened i) calls → AreAlike i (begun i) (opened i) calls
-all_alike i calls opening short bytes left = alike_from i opening 0 (begun i) (opened i) calls bytes (stands_begun i) (sized_begun i) (lasts_begun i) (all_fit i calls opening short bytes) left
+pub all_alike : (i : Interface) (calls : List Call) → IsOpening i → IsShort i calls → EachOf IsOfBytes calls → AreAlike i (begun i) (opened i) calls
+all_alike i calls opening short bytes = alike_from i opening 0 (begun i) (opened i) calls bytes (stands_begun i) (sized_begun i) (lasts_begun i) (all_fit i calls opening short bytes)

@@ -28,7 +28,7 @@ abbrev pub SameClosed : Link → Link → Type 0
 SameClosed l m = (m.conn ≡ l.conn) × (m.closed ≡ l.closed)
 
 pub same_closed : IsQueueRule SameClosed
-same_closed = record { same = λ l. (refl, refl); queued = λ l queue. (refl, refl); then = λ l m n f g. (g.0 ∙ f.0, g.1 ∙ f.1) }
+same_closed = record { same = λ l. (refl, refl); queued = λ l queue may. (refl, refl); then = λ l m n f g. (g.0 ∙ f.0, g.1 ∙ f.1) }
 
 -- these are closed, too
 abbrev Closing : List ℕ → Link → Link → Type 0

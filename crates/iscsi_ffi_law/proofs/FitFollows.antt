@@ -77,7 +77,7 @@ abbrev pub StaysCut : Link → Link → Type 0
 StaysCut l m = (l.cut ≡ true → l.closed ≡ true) → m.cut ≡ true → m.closed ≡ true
 
 cut_queue : IsQueueRule StaysCut
-cut_queue = record { same = λ l h. h; queued = λ l queue h. h; then = λ l m n f g h. g (f h) }
+cut_queue = record { same = λ l h. h; queued = λ l queue may h. h; then = λ l m n f g h. g (f h) }
 
 pub cut_close : IsCloseRule StaysCut
 cut_close = record { queue = cut_queue; closed = λ l h is. refl; cut = λ l h is. refl }

@@ -132,7 +132,7 @@ abbrev IsLess : Opening → Link → Link → Type 0
 IsLess o l m = (these : ℕ → Bool) → has_under_way o these m ≡ true → has_under_way o these l ≡ true
 
 less_rule : (o : Opening) → IsQueueRule (IsLess o)
-less_rule o = record { same = λ l these h. h; queued = λ l queue these h. h; then = λ l m n f g these h. f these (g these h) }
+less_rule o = record { same = λ l these h. h; queued = λ l queue may these h. h; then = λ l m n f g these h. f these (g these h) }
 
 any_drop : (p : Handed → Bool) (a b : ℕ) (xs : List Handed) → a ≤ b → list_any p (drop b xs) ≡ true → list_any p (drop a xs) ≡ true
 any_drop p zero zero xs le h = h
@@ -247,7 +247,7 @@ abbrev StaysLost : Link → Link → Type 0
 StaysLost l m = (m.conn ≡ l.conn) × (l.lost ≡ true → m.lost ≡ true)
 
 lost_rule : IsQueueRule StaysLost
-lost_rule = record { same = λ l. (refl, λ h. h); queued = λ l queue. (refl, λ h. h); then = λ l m n f g. (g.0 ∙ f.0, λ h. g.1 (f.1 h)) }
+lost_rule = record { same = λ l. (refl, λ h. h); queued = λ l queue may. (refl, λ h. h); then = λ l m n f g. (g.0 ∙ f.0, λ h. g.1 (f.1 h)) }
 
 still_lost : (conn : ℕ) (f : Link → Link) (links : List Link) → ((l : Link) → StaysLost l (f l)) → list_any (λ (l : Link). l.conn == conn && l.lost) links ≡ true → list_any (λ (l : Link). l.conn == conn && l.lost) (map f links) ≡ true
 still_lost conn f [] stays h = h

@@ -288,6 +288,6 @@ module _ (i : Interface) where
       calls = holds_simple;
       clears = λ k s unit h. record { good = h.good; together = h.together; served = h.served; placed = h.placed; earlier = h.earlier; turned = h.turned; wires = h.wires; told = h.told; marked = each-append (λ (j : ℕ). j ≤ length (entered s.both.trace)) s.marked (map (λ (c : Command). c.ticket) (left_to_clear s unit)) h.marked (clear_low i.outbox.session s.both.trace s.both.event h.together.forms (λ (c : Command). not (is_marked s c)) unit); asked = h.asked; answers = h.answers };
       forgets = λ k s p h. record { good = h.good; together = h.together; served = h.served; placed = h.placed; earlier = h.earlier; turned = h.turned; wires = h.wires; told = h.told; marked = h.marked; asked = each-filter (λ (a : Asked). a.event < s.both.event) p s.asked h.asked; answers = h.answers };
-      beside = λ k s noted awake over h. record { good = h.good; together = h.together; served = h.served; placed = h.placed; earlier = h.earlier; turned = h.turned; wires = h.wires; told = h.told; marked = h.marked; asked = h.asked; answers = h.answers };
+      beside = λ k s noted handed awake over h. record { good = h.good; together = h.together; served = h.served; placed = h.placed; earlier = h.earlier; turned = h.turned; wires = h.wires; told = h.told; marked = h.marked; asked = h.asked; answers = h.answers };
       more = λ k s h. record { good = good_more i.outbox k (k + 1) s.both (omega arith) h.good; together = h.together; served = h.served; placed = h.placed; earlier = h.earlier; turned = h.turned; wires = h.wires; told = h.told; marked = h.marked; asked = h.asked; answers = h.answers };
     }

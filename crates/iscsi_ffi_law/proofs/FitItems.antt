@@ -1,5 +1,5 @@
 -- Each item of an event by which a header arrives: the box holds together before it, and a reply goes out on a connection that takes it.
-use Rattle.std.proofs.Common.{◌≤◌, ◌≡◌, ℕ, ◌+◌, ◌-◌, ◌^◌, ◌<◌, ◌==◌, ◌&&◌, ◌||◌, not, nat_lt, Bool, true, false, List, [], ◌∷◌, ◌++◌, map, filter_map, length, count_by, Option, Some, None, refl, ap, sym, subst, ◌∙◌, ◌⊎◌, ⊎_elim, arith, eq-eqb}
+use Rattle.std.proofs.Common.{◌≤◌, ◌≡◌, ℕ, ◌+◌, ◌-◌, ◌^◌, ◌<◌, ◌==◌, ◌&&◌, ◌||◌, not, nat_lt, Bool, true, false, List, [], ◌∷◌, ◌++◌, map, filter_map, length, count_by, Option, Some, None, refl, ap, sym, subst, ◌∙◌, ◌⊎◌, ⊎_elim, arith, eq-eqb, length-append}
 use Rattle.std.specs.List.{flat_map, list_any}
 use Rattle.std.proofs.lemmas.Bool.{false≢true}
 use Rattle.std.proofs.lemmas.List.Folds.{list_any-append}
@@ -7,12 +7,13 @@ use Rattle.iscsi_wire.specs.declared.reply.Reply.{Reply}
 use Rattle.iscsi_wire.specs.Fields.{connection_of}
 use Rattle.iscsi_history.specs.declared.effect.Effect.{Effect}
 use Rattle.iscsi_history.specs.declared.effect.Effect.TheVariants.{Enable}
-use Rattle.iscsi_history.specs.rules.Run.{effects_of_item, effects_of_mark, newly_enabled}
+use Rattle.iscsi_history.specs.rules.Run.{effects_of, effects_of_item, effects_of_mark, newly_enabled}
+use Rattle.iscsi_history.specs.rules.Logout.{is_open}
 use Rattle.iscsi_history.specs.rules.Settings.{Setting, is_known}
-use Rattle.iscsi_history.specs.rules.Trace.{Admits, Arrival, ClosesConn, ClosesSession, Command, Delivers, Empties, Enters, Executes, Ignores, Leaves, Mark, Sends, Trace, Voids, Waits, after_items, entered, enters, first_of, has, is_among, is_closed, leaves_ticket}
+use Rattle.iscsi_history.specs.rules.Trace.{Admits, Arrival, ClosesConn, ClosesSession, Command, Delivers, Empties, Enters, Executes, Ignores, Leaves, Mark, Sends, Trace, Voids, Waits, after_items, entered, enters, first_of, has, is_among, is_closed, leaves_ticket, waiting}
 use Rattle.iscsi_history.proofs.BoolLemmas.{and_parts, not_true, or_first, or_none, or_second}
 use Rattle.iscsi_history.proofs.CloseLemmas.{Sound, is_at}
-use Rattle.iscsi_history.proofs.CloseRuns.{Sounds}
+use Rattle.iscsi_history.proofs.CloseRuns.{Sounds, clear_of}
 use Rattle.iscsi_history.proofs.ElementLemmas.{in-filter}
 use Rattle.iscsi_history.proofs.Forms.{AfterWaiting, AtArrival, AtTurn, Completed, Each, Executed, Form, HasForm, HaveForms, Ignored, IsFormed, Postponed, Received, Rejected, Start, marks_done, marks_of_form, start_mark}
 use Rattle.iscsi_history.proofs.LifeLemmas.{beyond_entered}
@@ -41,7 +42,7 @@ use Rattle.iscsi_ffi_law.proofs.FitFollows.{StaysCut, cut_close}
 use Rattle.iscsi_ffi_law.proofs.FitJoined.{IsOver, JoinsOn, SameLost, has_joined, joined_moved, joins_close, lost_close, over_same}
 use Rattle.iscsi_ffi_law.proofs.FitLinks.{moved_each, moved_item}
 use Rattle.iscsi_ffi_law.proofs.FitLives.{SameHomes, home_of_command, home_of_task, homes_item}
-use Rattle.iscsi_ffi_law.proofs.FitNumbers.{all_sends, item_sent}
+use Rattle.iscsi_ffi_law.proofs.FitNumbers.{all_sends, item_sent, one_sent}
 use Rattle.iscsi_ffi_law.proofs.FitOnce.{AreTickets, entered_more, none_beyond, unarrived}
 use Rattle.iscsi_outbox_law.proofs.PairLemmas.{each-weaken}
 use Rattle.iscsi_ffi_law.proofs.FitParting.{closed_on}
@@ -49,7 +50,9 @@ use Rattle.iscsi_ffi_law.proofs.FitPlaces.{AreHanded, handed_more, still_handed}
 use Rattle.iscsi_ffi_law.proofs.FitReady.{AreStepsReady}
 use Rattle.iscsi_ffi_law.proofs.FitReceived.{IsWired}
 use Rattle.iscsi_ffi_law.proofs.FitSides.{Stays, stays_close}
-use Rattle.iscsi_ffi_law.proofs.Members.{any_counted, any_in, each_in, in_any}
+use Rattle.std.proofs.lemmas.List.Elements.{filter_map-append}
+use Rattle.iscsi_outbox_rules.specs.rules.Calls.{Opening}
+use Rattle.iscsi_ffi_law.proofs.Members.{any_counted, any_in, each_in, in_any, in_each}
 
 -- ---- the reply of an item
 
@@ -93,6 +96,24 @@ at_reply (Ignores why ∷ ms) conn reply is = at_reply ms conn reply is
 
 abbrev replies_on : ℕ → Option Reply → List (ℕ × Reply)
 replies_on conn x = map (λ (r : Reply). (conn, r)) (to_list x)
+
+-- an item has one at the most
+one_mark : (o : Setting) (now : ℕ) (t : Trace) (form : Form) → IsFormed o now t form → length (filter_map mark_reply (marks_of_form form)) ≤ 1
+one_mark o now t (Ignored why) formed = omega arith
+one_mark o now t (Rejected a) formed = omega arith
+one_mark o now t (Received a) formed = omega arith
+one_mark o now t (Postponed a) formed = omega arith
+one_mark o now t (Completed c status) formed = omega arith
+one_mark o now t (Executed start a d) formed = by_start start (by_reply d.reply)
+  where
+    by_reply : (x : Option Reply) → length (replies_on (connection_of a.request) x) ≤ 1
+    by_reply None = omega arith
+    by_reply (Some r) = omega arith
+
+    by_start : (s : Start) → length (replies_on (connection_of a.request) d.reply) ≤ 1 → length (filter_map mark_reply (start_mark s a ∷ marks_done a d)) ≤ 1
+    by_start AtTurn few = (let same = ap length (done_replies a d) in omega (arith, same, few))
+    by_start AtArrival few = (let same = ap length (done_replies a d) in omega (arith, same, few))
+    by_start AfterWaiting few = (let same = ap length (done_replies a d) in omega (arith, same, few))
 
 -- it goes out on the connection of a request
 reply_conn : (o : Setting) (now : ℕ) (t : Trace) (C : ℕ → Type 0) → AllAre (λ (a : Arrival). C (connection_of a.request)) t → (form : Form) → IsFormed o now t form → OfForm (λ (a : Arrival). C (connection_of a.request)) form
@@ -233,10 +254,12 @@ module _ (i : Interface) where
               replies = ready.0.replies conn reply is;
               handed = mid.handed;
             };
+            one_reply = (let few = one_mark i.outbox.session f.0 t f.1.form f.1.formed in let same = ap (λ ms. length (filter_map mark_reply ms)) f.1.is in let sent = ap length (marks_reply i.outbox.session t item (newly_enabled i.outbox.session t item)) in omega (arith, few, same, sent));
             enters = λ c is. fresh r item c below.0 behind.0 below.1 f.0 f.1 mid told marked behind.1 is;
             waited = ready.0.waited;
             leaves = leaves.0;
             emptied = emptied_fit i.outbox.session f.0 t item f.1 wires.0;
+            waits = in_each (λ (a : Arrival). is_open i.outbox.session t (connection_of a.request) ≡ true) (waiting t) (clear_of i.outbox.session t (sound_below items (item ∷ t) sounds).1).waits;
           },
           steps_fit items (side_behind i r item) next forms sounds of.2 sound.1.1 fits.1 (mid_item f.0 t b item f.1 mid) (λ c k. joined_moved c b.links (after_item i.outbox b es).links (moved_item i.outbox JoinsOn joins_close b es) (joins c k))
               (λ c k. closed_on c (item ∷ []) t (closes c k)) (omega (arith, sent, more)) (still r.told told) (still r.marked marked) ready.1 leaves.1 wires.2,
@@ -245,3 +268,24 @@ module _ (i : Interface) where
         sound_below : (later : List (List Mark)) (u : Trace) → Sounds i.outbox.session (after_items later u) → Sounds i.outbox.session u
         sound_below [] u h = h
         sound_below (x ∷ later) u h = (sound_below later (x ∷ u) h).1
+
+-- ---- the replies of an event
+
+-- no more are sent than items send
+pub sends_few : (o : Opening) (items : List (List Mark)) (t : Trace) (next : ℕ) → HaveForms o.session next (after_items items t) → length (filter_map reply_sent (effects_of o.session t items)) ≤ all_sends (effects_each o.session t items)
+sends_few o [] t next forms = omega arith
+sends_few o (item ∷ items) t next forms =
+    let f = first_form o items item t next forms in
+    let es : List Effect = effects_of_item o.session t item in
+    let few = one_mark o.session f.0 t f.1.form f.1.formed in
+    let same = ap (λ ms. length (filter_map mark_reply ms)) f.1.is in
+    let sent = ap length (marks_reply o.session t item (newly_enabled o.session t item)) in
+    let both : length (filter_map reply_sent (es ++ effects_of o.session (item ∷ t) items)) ≡ length (filter_map reply_sent es) + length (filter_map reply_sent (effects_of o.session (item ∷ t) items))
+    = ap length (filter_map-append reply_sent es (effects_of o.session (item ∷ t) items)) ∙ length-append (filter_map reply_sent es) (filter_map reply_sent (effects_of o.session (item ∷ t) items)) in
+    let one = by_list (filter_map reply_sent es) (omega (arith, few, same, sent)) in
+    let rest = sends_few o items (item ∷ t) next forms in
+    omega (arith, both, one, rest)
+  where
+    by_list : (xs : List (ℕ × Reply)) → length xs ≤ 1 → length xs ≤ one_sent (first_of xs)
+    by_list [] few = omega arith
+    by_list (x ∷ xs) few = omega (arith, few)

@@ -29,7 +29,7 @@ abbrev pub JoinsOn : Link → Link → Type 0
 JoinsOn l m = (m.conn ≡ l.conn) × (l.joined ≡ true → m.joined ≡ true)
 
 joins_queue : IsQueueRule JoinsOn
-joins_queue = record { same = λ l. (refl, λ h. h); queued = λ l queue. (refl, λ h. h); then = λ l m n f g. (g.0 ∙ f.0, λ h. g.1 (f.1 h)) }
+joins_queue = record { same = λ l. (refl, λ h. h); queued = λ l queue may. (refl, λ h. h); then = λ l m n f g. (g.0 ∙ f.0, λ h. g.1 (f.1 h)) }
 
 pub joins_close : IsCloseRule JoinsOn
 joins_close = record { queue = joins_queue; closed = λ l. (refl, λ h. h); cut = λ l. (refl, λ h. h) }
@@ -88,7 +88,7 @@ abbrev pub SameLost : Link → Link → Type 0
 SameLost l m = (m.conn ≡ l.conn) × (m.lost ≡ l.lost)
 
 lost_queue : IsQueueRule SameLost
-lost_queue = record { same = λ l. (refl, refl); queued = λ l queue. (refl, refl); then = λ l m n f g. (g.0 ∙ f.0, g.1 ∙ f.1) }
+lost_queue = record { same = λ l. (refl, refl); queued = λ l queue may. (refl, refl); then = λ l m n f g. (g.0 ∙ f.0, g.1 ∙ f.1) }
 
 pub lost_close : IsCloseRule SameLost
 lost_close = record { queue = lost_queue; closed = λ l. (refl, refl); cut = λ l. (refl, refl) }

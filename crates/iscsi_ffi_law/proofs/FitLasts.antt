@@ -74,6 +74,6 @@ module _ (i : Interface) where
       calls = λ k s c simple h. lasts_other (k + 1) s c (simple_takes c simple) (w.calls k s c simple h.holds) h.replied h.freed;
       clears = λ k s unit h. record { holds = w.clears k s unit h.holds; replied = h.replied; freed = h.freed };
       forgets = λ k s p h. record { holds = w.forgets k s p h.holds; replied = h.replied; freed = h.freed };
-      beside = λ k s noted awake over h. record { holds = w.beside k s noted awake over h.holds; replied = h.replied; freed = h.freed };
+      beside = λ k s noted handed awake over h. record { holds = w.beside k s noted handed awake over h.holds; replied = h.replied; freed = h.freed };
       more = λ k s h. record { holds = w.more k s h.holds; replied = h.replied; freed = h.freed };
     }

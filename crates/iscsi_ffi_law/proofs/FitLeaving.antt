@@ -69,7 +69,7 @@ same_shown : (t : Trace) → shown admitted_by t ≡ shown admits_request t
 same_shown [] = refl
 same_shown (item ∷ t) = ap (λ xs. xs ++ filter_map admitted_by item) (same_shown t) ∙ ap (λ xs. shown admits_request t ++ xs) (same_admits item)
 
-unheld : (e : ℕ) (t : Trace) → count_by (is_of e) (owed t) ≡ 0 → is_held e t ≡ false
+pub unheld : (e : ℕ) (t : Trace) → count_by (is_of e) (owed t) ≡ 0 → is_held e t ≡ false
 unheld e t none = by_found (find (is_of e) (shown admitted_by t)) refl
   where
     by_tests : (a : Arrival) → is_owed t a ≡ false → (u v : Bool) → is_delivered t a.number ≡ u → is_emptied t a.number ≡ v → is_some (cond (u || v) None (admitted t a.number)) ≡ false

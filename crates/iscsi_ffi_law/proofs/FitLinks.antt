@@ -1,7 +1,7 @@
 -- What each part of an item, and each call, makes of the connections of a box, one by one.
-use Rattle.std.proofs.Common.{◌≡◌, ℕ, ◌==◌, ◌&&◌, cond, true, drop, List, [], ◌∷◌, ◌++◌, map, filter_map, Option, Some, None, refl, ap, sym, subst, ◌∙◌, ⊎_elim}
+use Rattle.std.proofs.Common.{◌≡◌, ℕ, ◌==◌, ◌&&◌, not, cond, Bool, true, false, drop, filter, List, [], ◌∷◌, ◌++◌, map, filter_map, Option, Some, None, refl, ap, sym, subst, ◌∙◌, ⊎_elim}
 use Rattle.std.specs.List.{list_any}
-use Rattle.std.proofs.lemmas.Bool.{cond_both}
+use Rattle.std.proofs.lemmas.Bool.{and_parts, cond_both, false≢true}
 use Rattle.iscsi_wire.specs.declared.reply.Reply.{Reply}
 use Rattle.iscsi_wire.specs.declared.request.Request.{Request}
 use Rattle.iscsi_wire.specs.Fields.{connection_of}
@@ -19,7 +19,7 @@ use Rattle.iscsi_outbox_rules.specs.rules.Items.{after_event, after_item, after_
 use Rattle.iscsi_outbox_rules.specs.rules.Own.{own_conn, own_outgoing, put_refusal}
 use Rattle.iscsi_outbox_rules.specs.rules.Queues.{append, at_link, drop_on, emptied, enter, takes_more, without}
 use Rattle.iscsi_outbox_rules.specs.rules.Run.{after_call, cleared, link_heard, link_joined, link_lost, may_join, one_written, phase_stopped}
-use Rattle.iscsi_outbox_rules.specs.rules.Words.{contains, is_running}
+use Rattle.iscsi_outbox_rules.specs.rules.Words.{contains, is_of, is_open, is_running}
 use Rattle.iscsi_outbox_rules.proofs.Cuts.{Hand, Idle, next}
 use Rattle.iscsi_outbox_law.specs.Pairs.{EachOf}
 use Rattle.iscsi_outbox_law.proofs.PairLemmas.{each-map}
@@ -60,10 +60,10 @@ moved_then R S T ls ms ns f v w = record {
   each = λ l. f l (v.by l) (w.by (v.by l)) (v.each l) (w.each (v.by l));
 }
 
--- what is so where a connection stays, where another queue comes, and where one change follows another
+-- what is so where a connection stays, where another queue comes, which is empty on one that is cut if it was, and where one change follows another
 pub record IsQueueRule (R : Link → Link → Type 0) : Type 0 where
   pub same : (l : Link) → R l l
-  pub queued : (l : Link) (queue : List Outgoing) → R l (record l { queue = queue })
+  pub queued : (l : Link) (queue : List Outgoing) → (l.cut ≡ true → l.queue ≡ [] → queue ≡ []) → R l (record l { queue = queue })
   pub then : (l m n : Link) → R l m → R m n → R l n
 
 -- an item before it closes connections, and behind that
@@ -88,7 +88,7 @@ module _ (o : Opening) (R : Link → Link → Type 0) (rule : IsQueueRule R) whe
   }
 
   appended : (out : Outgoing) (l : Link) → R l (append out l)
-  appended out l = cond_both (takes_more l) (record l { queue = l.queue ++ out ∷ [] }) l (R l) (λ may. rule.queued l (l.queue ++ out ∷ [])) (λ may. rule.same l)
+  appended out l = cond_both (takes_more l) (record l { queue = l.queue ++ out ∷ [] }) l (R l) (λ may. rule.queued l (l.queue ++ out ∷ []) (λ cut. absurd (false≢true (sym (ap not cut) ∙ (and_parts (is_open l) (not l.cut) may).1)))) (λ may. rule.same l)
 
   pub moved_entered : (conn : ℕ) (out : Outgoing) (b : Box) → Moves R b.links (enter conn out b).links
   moved_entered conn out b = moved_at conn (append (record out { time = b.time })) b.links (appended (record out { time = b.time }))
@@ -104,10 +104,10 @@ module _ (o : Opening) (R : Link → Link → Type 0) (rule : IsQueueRule R) whe
   moved_settled b = settled_from [] b.undue b
 
   pub moved_dropped : (conn : ℕ) (b : Box) → Moves R b.links (drop_on conn b).links
-  moved_dropped conn b = moved_at conn emptied b.links (λ l. rule.queued l [])
+  moved_dropped conn b = moved_at conn emptied b.links (λ l. rule.queued l [] (λ cut none. refl))
 
   pub moved_left : (r : Option Request) (tickets : List ℕ) (b : Box) → Moves R b.links (leave r tickets b).links
-  moved_left (Some r) tickets b = record { by = without (contains tickets); is = refl; each = λ l. rule.queued l (without (contains tickets) l).queue }
+  moved_left (Some r) tickets b = record { by = without (contains tickets); is = refl; each = λ l. rule.queued l (without (contains tickets) l).queue (λ cut none. ap (filter (λ (out : Outgoing). not (is_of (contains tickets) out))) none) }
   moved_left None tickets b = moved_none b.links
 
   pub moved_entering : (r : Option Request) (item : List Effect) (b : Box) → Moves R b.links (enter_tasks r item b).links
@@ -139,11 +139,23 @@ module _ (o : Opening) (R : Link → Link → Type 0) (rule : IsQueueRule R) whe
       moved_by closed.links sent.links (after_item o b item).links (moved_sent (executing item) (tickets_left item) (closed_in b item) (newly_closed b (closed_in b item)) (first_of (filter_map reply_sent item)) closed)
       (moved_settled (in_phase phase_enabled (filter_map ticket_enabled item) sent))
 
+-- one that is cut is emptied, too
+pub cut_twice : (conn : ℕ) (links : List Link) → at_link conn emptied (at_link conn (λ (l : Link). record l { closed = true; cut = true }) links) ≡ at_link conn (λ (l : Link). record l { closed = true; cut = true; queue = [] }) links
+cut_twice conn links = map_twice (λ (l : Link). cond (l.conn == conn) (record l { closed = true; cut = true }) l) (λ (l : Link). cond (l.conn == conn) (emptied l) l) links ∙ all links
+  where
+    one : (l : Link) (v : Bool) → (l.conn == conn) ≡ v → cond ((cond v (record l { closed = true; cut = true }) l).conn == conn) (emptied (cond v (record l { closed = true; cut = true }) l)) (cond v (record l { closed = true; cut = true }) l) ≡ cond v (record l { closed = true; cut = true; queue = [] }) l
+    one l true is = ap (λ w. cond w (record l { closed = true; cut = true; queue = [] }) (record l { closed = true; cut = true })) is
+    one l false is = ap (λ w. cond w (emptied l) l) is
+
+    all : (ls : List Link) → map (λ (l : Link). cond ((cond (l.conn == conn) (record l { closed = true; cut = true }) l).conn == conn) (emptied (cond (l.conn == conn) (record l { closed = true; cut = true }) l)) (cond (l.conn == conn) (record l { closed = true; cut = true }) l)) ls ≡ at_link conn (λ (l : Link). record l { closed = true; cut = true; queue = [] }) ls
+    all [] = refl
+    all (l ∷ ls) = ap (λ m. m ∷ map (λ (x : Link). cond ((cond (x.conn == conn) (record x { closed = true; cut = true }) x).conn == conn) (emptied (cond (x.conn == conn) (record x { closed = true; cut = true }) x)) (cond (x.conn == conn) (record x { closed = true; cut = true }) x)) ls) (one l (l.conn == conn) refl) ∙ ap (λ ms. cond (l.conn == conn) (record l { closed = true; cut = true; queue = [] }) l ∷ ms) (all ls)
+
 -- .. and where it is closed, too
 pub record IsCloseRule (R : Link → Link → Type 0) : Type 0 where
   pub queue : IsQueueRule R
   pub closed : (l : Link) → R l (record l { closed = true })
-  pub cut : (l : Link) → R l (record l { closed = true; cut = true })
+  pub cut : (l : Link) → R l (record l { closed = true; cut = true; queue = [] })
 
 module _ (o : Opening) (R : Link → Link → Type 0) (rule : IsCloseRule R) where
   moved_one : (by conn : ℕ) (b : Box) → Moves R b.links (close_one by conn b).links
@@ -151,7 +163,7 @@ module _ (o : Opening) (R : Link → Link → Type 0) (rule : IsCloseRule R) whe
       let cut : Box = record b { links = at_link conn (λ l. record l { closed = true; cut = true }) b.links } in
       cond_both (conn == by) (record b { links = at_link conn (λ l. record l { closed = true }) b.links }) (drop_on conn cut) (λ (x : Box). Moves R b.links x.links)
       (λ is. moved_at o R rule.queue conn (λ l. record l { closed = true }) b.links rule.closed)
-      (λ isnt. moved_by o R rule.queue b.links cut.links (drop_on conn cut).links (moved_at o R rule.queue conn (λ l. record l { closed = true; cut = true }) b.links rule.cut) (moved_dropped o R rule.queue conn cut))
+      (λ isnt. subst (Moves R b.links) (sym (cut_twice conn b.links)) (moved_at o R rule.queue conn (λ l. record l { closed = true; cut = true; queue = [] }) b.links rule.cut))
 
   moved_all : (by : ℕ) (conns : List ℕ) (b : Box) → Moves R b.links (close_all by conns b).links
   moved_all by [] b = moved_none o R rule.queue b.links
@@ -264,7 +276,7 @@ module _ (o : Opening) (R T : Link → Link → Type 0) (q : IsQueueRule R) (han
   moved_next b conn = ⊎_elim given (λ (k : Idle o b conn). subst (λ (x : Box). Moves T b.links x.links) (sym k.after_is) (moved_weaken R T b.links b.links stays (moved_none o R q b.links))) (next o b conn)
     where
       given : Hand o b conn → Moves T b.links (after_call o b (Nexts conn)).links
-      given k = subst (λ (x : Box). Moves T b.links x.links) (sym k.after_is) (pushed (moved_at o R q c (taken_from k.handed.out) b.links (λ l. cond_both (is_from_queue k.handed.out) (record l { queue = drop 1 l.queue }) l (R l) (λ is. q.queued l (drop 1 l.queue)) (λ is. q.same l))))
+      given k = subst (λ (x : Box). Moves T b.links x.links) (sym k.after_is) (pushed (moved_at o R q c (taken_from k.handed.out) b.links (λ l. cond_both (is_from_queue k.handed.out) (record l { queue = drop 1 l.queue }) l (R l) (λ is. q.queued l (drop 1 l.queue) (λ cut none. ap (drop 1) none)) (λ is. q.same l))))
         where
           c : ℕ
           c = k.handing.link.conn

@@ -46,7 +46,7 @@ module _ (o : Setting) (now : ℕ) (t : Trace) (conn : ℕ) (known : is_known co
   abbrev begun : Trace
   begun = (Executes a ∷ []) ∷ t
 
-  names_it : cid (request_of conn (parting conn)) ≡ conn
+  pub names_it : cid (request_of conn (parting conn)) ≡ conn
   names_it = both conn
     where
       both : (n : ℕ) → 256 * (256 * 0 + n / 256) + n % 256 ≡ n
@@ -60,7 +60,7 @@ module _ (o : Setting) (now : ℕ) (t : Trace) (conn : ℕ) (known : is_known co
       subst (λ k. list_any (closes_conn conn) (cond (is_open o begun k) (close_conn o begun a k) (parted a 1)) ≡ true) (sym names_it)
       (marks_are conn (and_both (is_known conn o.conns) (not (is_closed conn begun)) known (ap not unclosed)))
 
-  items_are : items_of o now t (Arrive conn (parting conn)) ≡ with_turns o t (execution o t (Executes a) a)
+  pub items_are : items_of o now t (Arrive conn (parting conn)) ≡ with_turns o t (execution o t (Executes a) a)
   items_are = ap (λ v. cond v (ignored Closed) (arrival_open o t a)) unclosed
 
   pub parting_closes : is_closed conn (after_event o now t (Arrive conn (parting conn))) ≡ true

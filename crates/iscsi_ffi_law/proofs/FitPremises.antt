@@ -51,9 +51,10 @@ use Rattle.iscsi_ffi_law.proofs.FitPrompt.{prompt_arrival}
 use Rattle.iscsi_ffi_law.proofs.FitReached.{fits_event, fits_reached, sound_event, sound_reached}
 use Rattle.iscsi_ffi_law.proofs.FitReplies.{completes_more}
 use Rattle.iscsi_ffi_law.proofs.FitShown.{max_reached}
-use Rattle.iscsi_ffi_law.proofs.FitSides.{IsGood, event_sends, good_event, good_other}
+use Rattle.iscsi_ffi_law.proofs.FitSides.{IsGood, each_sends, event_sends, good_event, good_other}
 use Rattle.iscsi_ffi_law.proofs.FitWalks.{later_walk, on_withholding, withheld_there}
 use Rattle.iscsi_ffi_law.proofs.FitCounts.{event_enables, items_short}
+use Rattle.iscsi_ffi_law.proofs.FitItems.{sends_few}
 use Rattle.iscsi_ffi_law.proofs.FitLimits.{few_reached}
 
 module _ (i : Interface) (opening : IsOpening i) where
@@ -71,6 +72,7 @@ module _ (i : Interface) (opening : IsOpening i) where
         some = (let x = l.some in let e = length-map i.outbox.session.conns (λ (c : ℕ × ℕ). c.0) in omega (arith, x, e));
         sound = s.0;
         sound_after = (sound_reached i.outbox distinct left h.reached).0;
+        emptied = h.emptied;
         fits = fits_reached i.outbox distinct found g.reached;
         time = (let a = g.spent_is in let b = g.sent_is in omega (arith, a, b, small, early));
         few = each-weaken (λ (x : Link). length x.handed ≤ n) (λ (x : Link). length x.handed < 2 ^ 63) found.box.links (λ x le. omega (arith, le, small)) g.few;
@@ -248,6 +250,12 @@ module _ (i : Interface) (opening : IsOpening i) where
           stale = (sound_reached i.outbox distinct s.both g.good.reached).1;
           sent = (let x = g.good.sent_is in omega (arith, x, early, later));
           replies = room_left (arrival_room i distinct n r cid header is h);
+          sends =
+              let left = two_left (arrival_room i distinct n r cid header is h) in
+              let sent = each_sends i.outbox s.both.event s.both.trace (Arrive cid header) in
+              let sends = sends_few i.outbox (items_then i s cid header) s.both.trace (s.both.event + 1) together.forms in
+              let most = few_reached i.outbox distinct s.both g.good.reached in
+              omega (arith, left, sent, sends, most);
           handed = g.placed.handed;
           short = taken_short i opening n r cid header is h;
           enabled = taken_enabled i opening n r cid header is h;
@@ -267,6 +275,11 @@ module _ (i : Interface) (opening : IsOpening i) where
           let parts = and_parts (nat_lt (replies_waiting (heard_in i r cid header).both.box) (room i.outbox)) (nat_lt (owing i.outbox (heard_in i r cid header).both.box) (room i.outbox)) may in
           let lt = ltb-true (replies_waiting (heard_in i r cid header).both.box) (room i.outbox) parts.0 in
           omega (arith, lt)
+
+      two_left : may_take i.outbox (heard_in i r cid header).both.box ≡ true → replies_waiting (heard_in i r cid header).both.box < room i.outbox
+      two_left may =
+          ltb-true (replies_waiting (heard_in i r cid header).both.box) (room i.outbox)
+          (and_parts (nat_lt (replies_waiting (heard_in i r cid header).both.box) (room i.outbox)) (nat_lt (owing i.outbox (heard_in i r cid header).both.box) (room i.outbox)) may).0
 
   -- ---- a connection that is lost
 

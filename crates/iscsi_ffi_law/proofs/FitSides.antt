@@ -22,6 +22,7 @@ use Rattle.iscsi_outbox_law.specs.Pairs.{EachOf}
 use Rattle.iscsi_outbox_law.proofs.PairLemmas.{each-new, each-weaken}
 use Rattle.iscsi_outbox_law.proofs.PlaceLemmas.{conns_of}
 use Rattle.iscsi_outbox_law.proofs.SoundCalls.{TakesNone}
+use Rattle.iscsi_ffi_law.proofs.FitFollows.{each_call}
 use Rattle.iscsi_ffi_law.proofs.FitLinks.{IsCallRule, IsCloseRule, IsPlain, IsQueueRule, moved_call, moved_each, moved_event, moved_next, moved_view}
 use Rattle.iscsi_ffi_law.proofs.FitNumbers.{all_sends, call_sent, call_spent, event_sent, event_spent, one_sent, spent}
 use Rattle.iscsi_ffi_law.proofs.FitReached.{Reached, reached_begun, reached_step}
@@ -43,14 +44,17 @@ module _ (o : Opening) where
       by_first (Some sent) = refl
       by_first None = refl
 
+  pub each_sends : (now : ℕ) (t : Trace) (e : Event) → all_sends (effects_each o.session t (items_of o.session now t e)) + at_once (after_items (items_of o.session now t e) t) ≤ at_once t + 1
+  each_sends now t e = omega (arith, all_sent (effects_each o.session t (items_of o.session now t e)), less)
+    where
+      less : at_once (after_items (items_of o.session now t e) t) + sending o.session never (effects_each o.session t (items_of o.session now t e)) ≤ at_once t + 1
+      less = (event_going o.session never now t e).less
+
   pub event_sends : (now : ℕ) (t : Trace) (e : Event) → all_sends (in_parts (entry_of o.session now t e).effects) + at_once (after_items (items_of o.session now t e) t) ≤ at_once t + 1
-  event_sends now t e = omega (arith, by_lead parts.lead (in_parts (entry_of o.session now t e).effects) parts.are, all_sent (effects_each o.session t (items_of o.session now t e)), less)
+  event_sends now t e = omega (arith, by_lead parts.lead (in_parts (entry_of o.session now t e).effects) parts.are, each_sends now t e)
     where
       going : Going o.session never 1 t (items_of o.session now t e)
       going = event_going o.session never now t e
-
-      less : at_once (after_items (items_of o.session now t e) t) + sending o.session never (effects_each o.session t (items_of o.session now t e)) ≤ at_once t + 1
-      less = going.less
 
       parts : Parts o.session t (items_of o.session now t e)
       parts = event_parts o.session (Formed o.session never) (λ u item x. x) now t e going.each
@@ -67,13 +71,14 @@ pub record IsGood (o : Opening) (n : ℕ) (b : Both) : Type 0 where
   pub sent_is : b.box.sent + at_once b.trace ≤ b.event
   pub few : EachOf (λ (l : Link). length l.handed ≤ n) b.box.links
   pub conns : conns_of b.box.links ≡ map (λ (c : ℕ × ℕ). c.0) o.session.conns
+  pub emptied : EachOf (λ (l : Link). l.cut ≡ true → l.queue ≡ []) b.box.links
 
 -- its CID, and what was handed out, stay
 abbrev pub Stays : Link → Link → Type 0
 Stays l m = (m.conn ≡ l.conn) × (m.handed ≡ l.handed)
 
 stays_queue : IsQueueRule Stays
-stays_queue = record { same = λ l. (refl, refl); queued = λ l queue. (refl, refl); then = λ l m n f g. (g.0 ∙ f.0, g.1 ∙ f.1) }
+stays_queue = record { same = λ l. (refl, refl); queued = λ l queue may. (refl, refl); then = λ l m n f g. (g.0 ∙ f.0, g.1 ∙ f.1) }
 
 pub stays_close : IsCloseRule Stays
 stays_close = record { queue = stays_queue; closed = λ l. (refl, refl); cut = λ l. (refl, refl) }
@@ -89,6 +94,27 @@ stays_call = record {
   lost = λ l. (refl, refl);
 }
 
+-- what is cut has nothing that waits, if it had none
+abbrev StaysEmptied : Link → Link → Type 0
+StaysEmptied l m = (l.cut ≡ true → l.queue ≡ []) → m.cut ≡ true → m.queue ≡ []
+
+emptied_queue : IsQueueRule StaysEmptied
+emptied_queue = record { same = λ l h. h; queued = λ l queue may h cut. may cut (h cut); then = λ l m n f g h. g (f h) }
+
+emptied_close : IsCloseRule StaysEmptied
+emptied_close = record { queue = emptied_queue; closed = λ l h. h; cut = λ l h cut. refl }
+
+emptied_call : IsCallRule StaysEmptied
+emptied_call = record {
+  kept = record {
+    queue = emptied_queue;
+    written = λ l. cond_both (nat_lt l.written (length l.handed)) (record l { written = l.written + 1 }) l (StaysEmptied l) (λ may h. h) (λ may h. h);
+    heard = λ exp_stat_sn tag l. cond_both (is_open l) (record l { arrived = max l.arrived (max (arrived_by_stat_sn l exp_stat_sn) (arrived_by_ping l tag)) }) l (StaysEmptied l) (λ may h. h) (λ may h. h);
+    joined = λ stat_sn l h. h;
+  };
+  lost = λ l h. h;
+}
+
 -- .. or one more was handed out
 abbrev OneMore : Link → Link → Type 0
 OneMore l m = (m.conn ≡ l.conn) × (length m.handed ≤ length l.handed + 1)
@@ -101,6 +127,7 @@ module _ (o : Opening) where
     sent_is = omega arith;
     few = each-new (λ (l : Link). length l.handed ≤ 0) (λ (c : ℕ × ℕ). new_link c.0) o.session.conns (λ c. omega arith);
     conns = new_conns o.session.conns;
+    emptied = each-new (λ (l : Link). l.cut ≡ true → l.queue ≡ []) (λ (c : ℕ × ℕ). new_link c.0) o.session.conns (λ c is. refl);
   }
     where
       new_conns : (cs : List (ℕ × ℕ)) → conns_of (map (λ (c : ℕ × ℕ). new_link c.0) cs) ≡ map (λ (c : ℕ × ℕ). c.0) cs
@@ -120,6 +147,7 @@ module _ (o : Opening) where
         sent_is = (let s = g.sent_is in omega (arith, more, sends, s));
         few = moved_each Stays (λ (l : Link). length l.handed ≤ n) (λ (l : Link). length l.handed ≤ n) b.box.links (after_step o b (Happens e)).box.links way (λ l m s le. (let same = ap length s.1 in omega (arith, same, le))) g.few;
         conns = moved_view Stays (λ (l : Link). l.conn) b.box.links (after_step o b (Happens e)).box.links way (λ l m s. s.0) ∙ g.conns;
+        emptied = moved_each StaysEmptied (λ (l : Link). l.cut ≡ true → l.queue ≡ []) (λ (l : Link). l.cut ≡ true → l.queue ≡ []) b.box.links (after_step o b (Happens e)).box.links (moved_event o StaysEmptied emptied_close b.box entry.effects entry.numbers) (λ l m f k. f k) g.emptied;
       }
 
   plain_few : (n : ℕ) (b : Both) (c : Call) → IsPlain c → IsGood o n b
@@ -168,6 +196,7 @@ module _ (o : Opening) where
         sent_is = (let s = g.sent_is in omega (arith, same, s));
         few = kept.0;
         conns = kept.1;
+        emptied = each_call o StaysEmptied emptied_call (λ (l : Link). l.cut ≡ true → l.queue ≡ []) (λ (l : Link). l.cut ≡ true → l.queue ≡ []) (λ l m f k. f k) (λ l m x f k. f k) b.box c (none_taken c other) g.emptied;
       }
 
   pub good_more : (n m : ℕ) (b : Both) → n ≤ m → IsGood o n b → IsGood o m b
@@ -177,4 +206,5 @@ module _ (o : Opening) where
     sent_is = g.sent_is;
     few = each-weaken (λ (l : Link). length l.handed ≤ n) (λ (l : Link). length l.handed ≤ m) b.box.links (λ l few. omega (arith, few, le)) g.few;
     conns = g.conns;
+    emptied = g.emptied;
   }

@@ -49,7 +49,7 @@ module _ (o : Setting) where
     pub four : (conn : ℕ) → waiting_on conn t ≤ MOST_WAITING
     pub turned : (k : ℕ) → k < n → held t k ≡ None
 
-  none_received : (item : List Mark) (t : Trace) → filter_map number_received item ≡ [] → exp_of o (item ∷ t) ≡ exp_of o t
+  pub none_received : (item : List Mark) (t : Trace) → filter_map number_received item ≡ [] → exp_of o (item ∷ t) ≡ exp_of o t
   none_received item t none = same_exp o (item ∷ t) t (ap (λ ns. received t ++ ns) none ∙ append-nil (received t))
 
   -- ---- the agenda

@@ -18,7 +18,8 @@ use Rattle.iscsi_ffi_rules.specs.declared.refusal.Refusal.TheVariants.{NotJoined
 use Rattle.iscsi_ffi_rules.specs.rules.Calls.{Arrives, Call, Cleared, Clears, Completes, Hears, Interface, Joins, Loses, Nexts, Puts, Stops, Writes}
 use Rattle.iscsi_ffi_rules.specs.rules.Clearing.{TASK_ABORTED, next_withheld, status_of}
 use Rattle.iscsi_ffi_rules.specs.rules.Happening.{Told, happening, happens, is_started, other, quiet, stop, withheld, withholding}
-use Rattle.iscsi_ffi_rules.specs.rules.Run.{Answered, Blocked, Goes, NoneGoes, NoneIsLeft, Refused, Stale, after_call, answers, arrive, asleep, called, clear, complete, cookie_handed, done, ended, heard_in, is_blocked, is_going, is_lost, lose, next, noted_with, parting, put, refusal_of, stopped, stops}
+use Rattle.iscsi_ffi_rules.specs.rules.Needs.{first_noted, is_noted, without_first}
+use Rattle.iscsi_ffi_rules.specs.rules.Run.{Answered, Blocked, Goes, NoneGoes, NoneIsLeft, Refused, Stale, after_call, answers, arrive, asleep, called, clear, complete, cookie_handed, done, ended, handed_on, heard_in, is_blocked, is_going, is_lost, lose, next, noted_with, parting, put, refusal_of, stopped, stops}
 use Rattle.iscsi_ffi_rules.specs.rules.Sides.{Asked, Noted, Side}
 use Rattle.iscsi_ffi_rules.specs.promises.Deeds.{side_after}
 use Rattle.iscsi_ffi_rules.proofs.SideWalks.{left_to_clear}
@@ -46,7 +47,7 @@ pub record SideWalk (i : Interface) (H : List ℕ → Type 0) (P : ℕ → Side 
   pub calls : (k : ℕ) (s : Side) (c : outbox.Call) → IsSimple c → P k s → P (k + 1) (other i s c)
   pub clears : (k : ℕ) (s : Side) (unit : ℕ) → P k s → P k (record s { marked = s.marked ++ map (λ (c : Command). c.ticket) (left_to_clear s unit) })
   pub forgets : (k : ℕ) (s : Side) (p : Asked → Bool) → P k s → P k (record s { asked = filter p s.asked })
-  pub beside : (k : ℕ) (s : Side) (noted : List Noted) (awake over : List ℕ) → P k s → P k (record s { noted = noted; awake = awake; over = over })
+  pub beside : (k : ℕ) (s : Side) (noted handed : List Noted) (awake over : List ℕ) → P k s → P k (record s { noted = noted; handed_notes = handed; awake = awake; over = over })
   pub more : (k : ℕ) (s : Side) → P k s → P (k + 1) s
 
 -- a command that is withheld is one that the session has
@@ -144,20 +145,23 @@ module _ (i : Interface) {H : List ℕ → Type 0} (P : ℕ → Side → Type 0)
       cond_both (is_blocked i s cid) (answers s Blocked) _ (λ (a : Answered). P (k + 1) a.told.side) (λ is. w.more k s h) (λ is. by_given (given i.outbox s.both.box cid))
     where
       by_given : (g : Given) → P (k + 1) (elim g as (λ y. Answered) [
-        | Hands h ↦ record { told = quiet (other i s (outbox.Nexts cid)); answer = Goes h (cookie_handed s cid h.out) }
+        | Hands h ↦ record { told = quiet (handed_on cid h.out (other i s (outbox.Nexts cid))); answer = Goes h (cookie_handed s cid h.out) }
         | Nothing ↦ answers (asleep cid s) NoneGoes
         | IsOver ↦ answers (asleep cid s) NoneIsLeft
       ]).told.side
-      by_given (Hands g) = w.calls k s (outbox.Nexts cid) tt h
-      by_given Nothing = w.beside (k + 1) s s.noted (asleep cid s).awake s.over (w.more k s h)
-      by_given IsOver = w.beside (k + 1) s s.noted (asleep cid s).awake s.over (w.more k s h)
+      by_given (Hands g) =
+          let s' : Side = other i s (outbox.Nexts cid) in
+          cond_both (is_noted g.out.pdu) (record s' { noted = without_first cid 1 s'.noted; handed_notes = s'.handed_notes ++ first_noted cid 1 s'.noted }) s' (P (k + 1))
+          (λ is. w.beside (k + 1) s' (without_first cid 1 s'.noted) (s'.handed_notes ++ first_noted cid 1 s'.noted) s'.awake s'.over (w.calls k s (outbox.Nexts cid) tt h)) (λ is. w.calls k s (outbox.Nexts cid) tt h)
+      by_given Nothing = w.beside (k + 1) s s.noted s.handed_notes (asleep cid s).awake s.over (w.more k s h)
+      by_given IsOver = w.beside (k + 1) s s.noted s.handed_notes (asleep cid s).awake s.over (w.more k s h)
 
   on_put : (k : ℕ) (s : Side) (p : OwnPdu) (cookie : ℕ) → P k s → P (k + 1) (put i s p cookie).told.side
   on_put k s p cookie h = by_refusal (put_refusal i.outbox s.both.box p)
     where
       by_refusal : (x : Option PutRefusal) → P (k + 1) (elim x as (λ y. Side) [ Some why ↦ other i s (outbox.Puts p) | None ↦ record (other i s (outbox.Puts p)) { noted = s.noted ++ noted_with p cookie } ])
       by_refusal (Some why) = w.calls k s (outbox.Puts p) tt h
-      by_refusal None = w.beside (k + 1) (other i s (outbox.Puts p)) (s.noted ++ noted_with p cookie) s.awake s.over (w.calls k s (outbox.Puts p) tt h)
+      by_refusal None = w.beside (k + 1) (other i s (outbox.Puts p)) (s.noted ++ noted_with p cookie) s.handed_notes s.awake s.over (w.calls k s (outbox.Puts p) tt h)
 
   on_called : (k : ℕ) (s : Side) (c : Call) → OfCall H c → P k s → P (k + 1) (called i s c).told.side
   on_called k s (Arrives cid header cookie) of h = on_arrive k s cid header cookie of h
@@ -176,7 +180,7 @@ module _ (i : Interface) {H : List ℕ → Type 0} (P : ℕ → Side → Type 0)
   on_call k s c of h =
       let t : Told = (called i s c).told in
       let left : Side = (ended i t).side in
-      w.beside (k + 1) (record t.side { asked = left.asked }) left.noted left.awake left.over (w.forgets (k + 1) t.side _ (on_called k s c of h))
+      w.beside (k + 1) (record t.side { asked = left.asked }) left.noted left.handed_notes left.awake left.over (w.forgets (k + 1) t.side _ (on_called k s c of h))
 
 -- ---- events don't come to fewer
 
@@ -205,7 +209,7 @@ later_walk i m = record {
   calls = λ k s c simple h. h;
   clears = λ k s unit h. h;
   forgets = λ k s p h. h;
-  beside = λ k s noted awake over h. h;
+  beside = λ k s noted handed awake over h. h;
   more = λ k s h. h;
 }
 

@@ -106,19 +106,19 @@ nothing_beyond [] (suc p) beyond = refl
 nothing_beyond (xs ∷ lists) zero beyond = absurd (let wrong : ⊥ = omega (arith, beyond) in wrong)
 nothing_beyond (xs ∷ lists) (suc p) beyond = nothing_beyond lists p (omega (arith, beyond))
 
-each_below : {A : Type 0} (m : ℕ) (lists : List (List A)) (p : ℕ) → EachOf (λ (xs : List A). length xs ≤ m) lists → length (of_conn p lists) ≤ m
+pub each_below : {A : Type 0} (m : ℕ) (lists : List (List A)) (p : ℕ) → EachOf (λ (xs : List A). length xs ≤ m) lists → length (of_conn p lists) ≤ m
 each_below m [] zero each = omega arith
 each_below m [] (suc p) each = omega arith
 each_below m (xs ∷ lists) zero each = each.0
 each_below m (xs ∷ lists) (suc p) each = each_below m lists p each.1
 
-more : (n m : ℕ) → 1 ≤ m → n ≤ n * m
+pub more : (n m : ℕ) → 1 ≤ m → n ≤ n * m
 more n zero some = absurd (let wrong : ⊥ = omega (arith, some) in wrong)
 more n (suc m) some = let product : n * suc m ≡ n * m + n = mul-suc n m in omega (arith, product)
 
 -- ---- PDUs
 
-noted_own : (x : Pdu) → is_noted x ≡ true → is_own x ≡ true
+pub noted_own : (x : Pdu) → is_noted x ≡ true → is_own x ≡ true
 noted_own (Replies reply) e = absurd (false≢true e)
 noted_own (Owns own) e = refl
 noted_own (Pings tag) e = absurd (false≢true e)
@@ -157,7 +157,7 @@ module _ (i : Interface) (s : StepsSide) (r : Side) (h : Stands i s r) (left : B
       (λ a k. sent_place place a.out (and_parts (a.conn == (link_in r.both.box.links p).conn) (is_sent_at place a.out) k).1) in
       omega (arith, (h.requests.conns p short).queued.sent place, parts, here, later, count_map (λ (out : Outgoing). out.sent) (is_place place) (link_in r.both.box.links p).queue, count_map (λ (a : Answer). a.out.sent) (is_place place) r.both.box.undue)
 
-  few_replies : (p : ℕ) → p < length r.both.box.links → length (of_conn p s.state.replies.waiting) ≤ replies_waiting r.both.box
+  pub few_replies : (p : ℕ) → p < length r.both.box.links → length (of_conn p s.state.replies.waiting) ≤ replies_waiting r.both.box
   few_replies p short =
       let all : length (of_conn p s.state.replies.waiting) ≤ count_by is_some (queued p ++ undue) = fewer (queued p ++ undue) (of_conn p s.state.replies.waiting)
       (λ place. omega (arith, lists_at (has_log_place place) s.state.replies.waiting p, h.requests.once place)) (found p short) in
@@ -168,7 +168,7 @@ module _ (i : Interface) (s : StepsSide) (r : Side) (h : Stands i s r) (left : B
       let sum = sum_at (λ (m : Link). count_by (λ (out : Outgoing). is_reply out.pdu) m.queue) r.both.box.links p short in
       omega (arith, all, parts, here, later, sum, count_map (λ (out : Outgoing). out.sent) is_some (link_in r.both.box.links p).queue, count_map (λ (a : Answer). a.out.sent) is_some r.both.box.undue)
 
-  few_noted : (p : ℕ) → p < length r.both.box.links → length (of_conn p s.state.noted.handed) ≤ i.outbox.own
+  pub few_noted : (p : ℕ) → p < length r.both.box.links → length (of_conn p s.state.noted.handed) ≤ i.outbox.own
   few_noted p short =
       let sound : IsLinkSound i.outbox r.both.box.tasks (link_in r.both.box.links p) = each-at (IsLinkSound i.outbox r.both.box.tasks) r.both.box.links p (new_link 0) short fit.sound.links in
       let owned = count-weaker (λ (o : Outgoing). is_noted o.pdu) (λ (o : Outgoing). is_own o.pdu) (link_in r.both.box.links p).queue (λ o noted. noted_own o.pdu noted) in

@@ -1,12 +1,10 @@
 -- Own PDUs that are of no command: those that the rules need no more are those whose places the steps use no more.
-use Rattle.std.proofs.Common.{◌≡◌, ℕ, ◌+◌, ◌<◌, ◌≤◌, ◌==◌, ◌&&◌, inl, inr, ⊎_elim, cond, nat_lt, Bool, true, false, List, [], ◌∷◌, ◌++◌, length, map, count_by, filter, replicate, Option, Some, None, refl, ap, sym, subst, ◌∙◌, arith, lt-ltb, le-ltb, length-append}
+use Rattle.std.proofs.Common.{◌≡◌, ℕ, ◌+◌, ◌<◌, ◌≤◌, ◌==◌, ◌&&◌, inl, inr, ⊎_elim, not, cond, nat_lt, Bool, true, false, List, [], ◌∷◌, ◌++◌, length, map, count_by, filter, replicate, Option, Some, None, refl, ap, sym, subst, ◌∙◌, arith, lt-ltb, le-ltb}
 use Rattle.std.proofs.lemmas.Bool.{false≢true, eqb-true, eq-eqb, cases_lt}
-use Rattle.std.proofs.lemmas.List.Sums.{sum_by-append}
-use Rattle.iscsi_history.proofs.CountLemmas.{one, count-cons, count-filter, count-weaker}
+use Rattle.iscsi_history.proofs.CountLemmas.{one, count-cons, count-weaker}
 use Rattle.iscsi_history.proofs.BoolLemmas.{and_second}
-use Rattle.iscsi_history.proofs.ElementLemmas.{In, append-in_first, append-in_second, in-append, in-filter}
-use Rattle.iscsi_history.proofs.ListLemmas.{count_by-map}
-use Rattle.iscsi_outbox_rules.specs.rules.Boxes.{Handed, Outgoing}
+use Rattle.iscsi_history.proofs.ElementLemmas.{In, append-in_first, append-in_second, in-append}
+use Rattle.iscsi_outbox_rules.specs.rules.Boxes.{Handed, Link}
 use Rattle.iscsi_outbox_law.specs.Commands.{link_in}
 use Rattle.iscsi_outbox_law.specs.Pairs.{EachOf, PairsOf}
 use Rattle.iscsi_outbox_law.proofs.PlaceLemmas.{AreApart as LinksApart, conns_of, one_place}
@@ -14,16 +12,17 @@ use Rattle.iscsi_history.specs.rules.Trace.{entered}
 use Rattle.iscsi_requests.specs.Conns.{of_conn}
 use Rattle.iscsi_requests.specs.declared.replies.WaitingReply.{WaitingReply}
 use Rattle.iscsi_ffi_commands.specs.declared.command.Command.{Command}
-use Rattle.iscsi_ffi_rules.specs.rules.Needs.{count_noted as count_noted_by_rules, is_noted, left_to_write}
+use Rattle.iscsi_ffi_rules.specs.rules.Needs.{is_noted, left_to_write, noted_unwritten, noted_waiting}
 use Rattle.iscsi_ffi_rules.specs.rules.Sides.{Side}
 use Rattle.iscsi_ffi_steps.specs.State.{State}
-use Rattle.iscsi_ffi_law.specs.Names.{Name, Note}
+use Rattle.iscsi_ffi_law.specs.Names.{Name, Note, handed_notes, note_places, waiting_notes}
 use Rattle.iscsi_ffi_law.specs.Parts.{AreCommands, IsAbout, IsAnswered, IsCommand, IsConn, IsNote, is_named, noted_in}
 use Rattle.iscsi_ffi_law.specs.Uses.{count_commands, count_noted, count_replies, count_unwritten, is_place, is_used, uses_of}
 use Rattle.iscsi_ffi_law.proofs.Lists.{lists_at}
 use Rattle.iscsi_ffi_law.proofs.Members.{CountedAt, Paired, Passing, counted_in, each_in, in_counted, lists_counted, pairs_in, two_counted}
 use Rattle.iscsi_ffi_law.proofs.NameLemmas.{Named, found_named}
-use Rattle.iscsi_ffi_law.proofs.Needs.{map_in, placed_some}
+use Rattle.iscsi_ffi_law.proofs.Needs.{placed_some}
+use Rattle.iscsi_ffi_law.proofs.NotePlaces.{note_there, notes_counted}
 use Rattle.iscsi_ffi_law.proofs.Notes.{HasFlags}
 use Rattle.iscsi_ffi_law.proofs.Replies.{AnswersIt, HaveConns, answers_it}
 
@@ -108,6 +107,10 @@ module _ (names : List Name) (notes : List Note) (gone : ℕ → List (Option �
   abbrev pub places_on : ℕ → List (Option ℕ)
   places_on p = noted_in (of_conn p s.unwritten.handed) (left_to_write (link_in r.both.box.links p)) ++ of_conn p s.noted.handed
 
+  -- an own PDU of a connection
+  of_note : (p : ℕ) → p < length r.both.box.links → (x : Option ℕ) → In x (gone p ++ places_on p) → (n : Note) × In n notes × (n.conn ≡ (link_in r.both.box.links p).conn) × (Some n.place ≡ x)
+  of_note p within = note_there notes (link_in r.both.box.links p).conn (gone p) (of_conn p s.noted.handed) (noted_in (of_conn p s.unwritten.handed) (left_to_write (link_in r.both.box.links p))) (h.conns p within).noted
+
   -- one that waits, or isn't written
   pub standing : (n : Note) → In n notes → 1 ≤ count_unwritten n.place s + count_noted n.place s → (p : ℕ) × (p < length r.both.box.links) × ((link_in r.both.box.links p).conn ≡ n.conn) × In (Some n.place) (places_on p)
   standing n there some =
@@ -130,11 +133,10 @@ module _ (names : List Name) (notes : List Note) (gone : ℕ → List (Option �
       let c : IsConn names notes (gone at.place) s r at.place (link_in r.both.box.links at.place) = h.conns at.place within in
       let x : Passing (is_place n.place) (of_conn at.place s.noted.handed) = counted_in (is_place n.place) (of_conn at.place s.noted.handed) at.some in
       let in_all : In x.x (places_on at.place) = append-in_second (noted_in (of_conn at.place s.unwritten.handed) (left_to_write (link_in r.both.box.links at.place))) (of_conn at.place s.noted.handed) x.x x.there in
-      let m = map_in (λ (y : Note). Some y.place) (filter (λ (y : Note). y.conn == (link_in r.both.box.links at.place).conn) notes) x.x (subst (In x.x) (sym c.noted) (append-in_second (gone at.place) (places_on at.place) x.x in_all)) in
-      let parts = in-filter (λ (y : Note). y.conn == (link_in r.both.box.links at.place).conn) notes m.0 m.1 in
-      let is : m.0.place ≡ n.place = (let same : Some m.0.place ≡ Some n.place = m.2 ∙ placed_some n.place x.x x.passes in cc) in
-      let same : m.0 ≡ n = open_note m.0 n parts.0 there is in
-      (at.place, within, sym (eqb-true m.0.conn (link_in r.both.box.links at.place).conn parts.1) ∙ ap (λ (y : Note). y.conn) same, subst (λ z. In z (places_on at.place)) (placed_some n.place x.x x.passes) in_all))
+      let m = of_note at.place within x.x (append-in_second (gone at.place) (places_on at.place) x.x in_all) in
+      let is : m.0.place ≡ n.place = (let same : Some m.0.place ≡ Some n.place = m.3 ∙ placed_some n.place x.x x.passes in cc) in
+      let same : m.0 ≡ n = open_note m.0 n m.1 there is in
+      (at.place, within, sym m.2 ∙ ap (λ (y : Note). y.conn) same, subst (λ z. In z (places_on at.place)) (placed_some n.place x.x x.passes) in_all))
       (cases_lt 0 (count_unwritten n.place s))
 
   -- ---- those that are needed no more
@@ -145,21 +147,18 @@ module _ (names : List Name) (notes : List Note) (gone : ℕ → List (Option �
       let c : IsConn names notes (gone p) s r p (link_in r.both.box.links p) = h.conns p within in
       let no_others : count_unwritten n.place s + count_noted n.place s ≡ 0 = none_or (count_unwritten n.place s + count_noted n.place s) (λ some.
       let at = standing n there some in
-      let m = map_in (λ (y : Note). Some y.place) (filter (λ (y : Note). y.conn == (link_in r.both.box.links p).conn) notes) (Some n.place) (subst (In (Some n.place)) (sym c.noted) (append-in_first (gone p) (places_on p) (Some n.place) k)) in
-      let parts = in-filter (λ (y : Note). y.conn == (link_in r.both.box.links p).conn) notes m.0 m.1 in
-      let is : m.0.place ≡ n.place = (let same : Some m.0.place ≡ Some n.place = m.2 in cc) in
-      let same : m.0 ≡ n = open_note m.0 n parts.0 there is in
-      let conn : n.conn ≡ (link_in r.both.box.links p).conn = ap (λ (y : Note). y.conn) (sym same) ∙ eqb-true m.0.conn (link_in r.both.box.links p).conn parts.1 in
+      let m = of_note p within (Some n.place) (append-in_first (gone p) (places_on p) (Some n.place) k) in
+      let is : m.0.place ≡ n.place = (let same : Some m.0.place ≡ Some n.place = m.3 in cc) in
+      let same : m.0 ≡ n = open_note m.0 n m.1 there is in
+      let conn : n.conn ≡ (link_in r.both.box.links p).conn = ap (λ (y : Note). y.conn) (sym same) ∙ m.2 in
       let here : at.0 ≡ p = one_place r.both.box.links at.0 p apart_links at.1 within (at.2 ∙ conn) in
       let one_gone : 1 ≤ count_by (is_place n.place) (gone p) = in_counted (is_place n.place) (gone p) (Some n.place) k (eq-eqb n.place n.place refl) in
       let one_stands : 1 ≤ count_by (is_place n.place) (places_on p) = in_counted (is_place n.place) (places_on p) (Some n.place) (subst (λ q. In (Some n.place) (places_on q)) here at.3) (eq-eqb n.place n.place refl) in
-      let all : count_by (is_place n.place) (map (λ (y : Note). Some y.place) (filter (λ (y : Note). y.conn == (link_in r.both.box.links p).conn) notes)) ≡ count_by (is_place n.place) (gone p) + count_by (is_place n.place) (places_on p)
-      = ap (count_by (is_place n.place)) c.noted ∙ sum_by-append (λ (y : Option ℕ). cond (is_place n.place y) 1 0) (gone p) (places_on p) in
-      let mapped : count_by (is_place n.place) (map (λ (y : Note). Some y.place) (filter (λ (y : Note). y.conn == (link_in r.both.box.links p).conn) notes)) ≡ count_by (λ (y : Note). (y.conn == (link_in r.both.box.links p).conn) && (y.place == n.place)) notes
-      = count_by-map (is_place n.place) (λ (y : Note). Some y.place) (filter (λ (y : Note). y.conn == (link_in r.both.box.links p).conn) notes) ∙ count-filter (λ (y : Note). y.place == n.place) (λ (y : Note). y.conn == (link_in r.both.box.links p).conn) notes in
+      let all : count_by (is_place n.place) (gone p) + count_by (is_place n.place) (places_on p) ≡ count_by (λ (y : Note). (y.conn == (link_in r.both.box.links p).conn) && (y.place == n.place)) notes
+      = notes_counted notes (link_in r.both.box.links p).conn (gone p) (of_conn p s.noted.handed) (noted_in (of_conn p s.unwritten.handed) (left_to_write (link_in r.both.box.links p))) c.noted (is_place n.place) in
       let fewer : count_by (λ (y : Note). (y.conn == (link_in r.both.box.links p).conn) && (y.place == n.place)) notes ≤ count_by (λ (y : Note). y.place == n.place) notes
       = count-weaker (λ (y : Note). (y.conn == (link_in r.both.box.links p).conn) && (y.place == n.place)) (λ (y : Note). y.place == n.place) notes (λ y both. and_second (y.conn == (link_in r.both.box.links p).conn) (y.place == n.place) both) in
-      omega (arith, one_gone, one_stands, all, mapped, fewer, h.apart.places n.place)) in
+      omega (arith, one_gone, one_stands, all, fewer, h.apart.places n.place)) in
       let q : IsNote s r.both.box.links n = each_in (IsNote s r.both.box.links) notes n there each in
       omega (arith, no_others, q.held, q.waiting, no_command n there, no_reply n there)
 
@@ -180,22 +179,16 @@ module _ (names : List Name) (notes : List Note) (gone : ℕ → List (Option �
   map_parts [] ys = refl
   map_parts (x ∷ xs) ys = ap (λ bs. flag_of x ∷ bs) (map_parts xs ys)
 
-  of_note : (p : ℕ) → p < length r.both.box.links → (x : Option ℕ) → In x (gone p ++ places_on p) → (n : Note) × In n notes × (Some n.place ≡ x)
-  of_note p within x k =
-      let c : IsConn names notes (gone p) s r p (link_in r.both.box.links p) = h.conns p within in
-      let m = map_in (λ (y : Note). Some y.place) (filter (λ (y : Note). y.conn == (link_in r.both.box.links p).conn) notes) x (subst (In x) (sym c.noted) k) in
-      (m.0, (in-filter (λ (y : Note). y.conn == (link_in r.both.box.links p).conn) notes m.0 m.1).0, m.2)
-
   pub unused_flag : (p : ℕ) → p < length r.both.box.links → (x : Option ℕ) → In x (gone p) → flag_of x ≡ false
   unused_flag p within x k =
       let n = of_note p within x (append-in_first (gone p) (places_on p) x k) in
-      ap flag_of (sym n.2) ∙ le-ltb 0 (uses_of n.0.place s) (omega (arith, gone_unused p within n.0 n.1 (subst (λ z. In z (gone p)) (sym n.2) k)))
+      ap flag_of (sym n.3) ∙ le-ltb 0 (uses_of n.0.place s) (omega (arith, gone_unused p within n.0 n.1 (subst (λ z. In z (gone p)) (sym n.3) k)))
 
   pub used_flag : (p : ℕ) → p < length r.both.box.links → (x : Option ℕ) → In x (places_on p) → flag_of x ≡ true
   used_flag p within x k =
       let n = of_note p within x (append-in_second (gone p) (places_on p) x k) in
-      let stands : In (Some n.0.place) (places_on p) = subst (λ z. In z (places_on p)) (sym n.2) k in
-      ap flag_of (sym n.2) ∙ lt-ltb 0 (uses_of n.0.place s)
+      let stands : In (Some n.0.place) (places_on p) = subst (λ z. In z (places_on p)) (sym n.3) k in
+      ap flag_of (sym n.3) ∙ lt-ltb 0 (uses_of n.0.place s)
       (⊎_elim
       (λ written.
       let one : 1 ≤ count_by (is_place n.0.place) (of_conn p s.unwritten.handed)
@@ -206,20 +199,27 @@ module _ (names : List Name) (notes : List Note) (gone : ℕ → List (Option �
       omega (arith, one, lists_at (is_place n.0.place) s.noted.handed p))
       (in-append (noted_in (of_conn p s.unwritten.handed) (left_to_write (link_in r.both.box.links p))) (of_conn p s.noted.handed) (Some n.0.place) stands))
 
-  pub flags_at : (p : ℕ) → p < length r.both.box.links → HasFlags (is_used_note s) notes (link_in r.both.box.links p)
-  flags_at p within =
+  -- the first ones of a kind aren't used
+  flags_kept : (p : ℕ) (left : Link → ℕ) (kind : Note → Bool) (over xs : List (Option ℕ)) → note_places (link_in r.both.box.links p).conn (filter kind notes) ≡ over ++ xs → ((x : Option ℕ) → In x over → flag_of x ≡ false)
+      → ((x : Option ℕ) → In x xs → flag_of x ≡ true) → length xs ≡ left (link_in r.both.box.links p) → HasFlags left (is_used_note s) (filter kind notes) (link_in r.both.box.links p)
+  flags_kept p left kind over xs are unused used long = record {
+    unused = length over;
+    flags =
+        map_places (filter (λ (n : Note). n.conn == (link_in r.both.box.links p).conn) (filter kind notes)) ∙ ap (map flag_of) are ∙ map_parts over xs ∙ ap (λ bs. bs ++ map flag_of xs) (map_flags false over unused)
+        ∙ ap (λ bs. replicate (length over) false ++ bs) (map_flags true xs used ∙ ap (λ k. replicate k true) long);
+  }
+
+  pub waiting_flags : (p : ℕ) → p < length r.both.box.links → HasFlags noted_waiting (is_used_note s) (waiting_notes notes) (link_in r.both.box.links p)
+  waiting_flags p within =
       let c : IsConn names notes (gone p) s r p (link_in r.both.box.links p) = h.conns p within in
-      let long : length (places_on p) ≡ count_noted_by_rules (link_in r.both.box.links p)
-      = length-append (noted_in (of_conn p s.unwritten.handed) (left_to_write (link_in r.both.box.links p))) (of_conn p s.noted.handed)
-      ∙ ap (λ k. k + length (of_conn p s.noted.handed)) (noted_long (IsAbout names notes r (link_in r.both.box.links p).conn) (of_conn p s.unwritten.handed) (left_to_write (link_in r.both.box.links p)) c.written)
-      ∙ ap (λ k. count_by (λ (g : Handed). is_noted g.out.pdu) (left_to_write (link_in r.both.box.links p)) + k) c.queued.noting ∙ swapped (count_by (λ (g : Handed). is_noted g.out.pdu) (left_to_write (link_in r.both.box.links p))) (count_by (λ (out : Outgoing). is_noted out.pdu) (link_in r.both.box.links p).queue) in
-      record {
-        unused = length (gone p);
-        flags =
-            map_places (filter (λ (n : Note). n.conn == (link_in r.both.box.links p).conn) notes) ∙ ap (map flag_of) c.noted ∙ map_parts (gone p) (places_on p)
-            ∙ ap (λ bs. bs ++ map flag_of (places_on p)) (map_flags false (gone p) (unused_flag p within))
-            ∙ ap (λ bs. replicate (length (gone p)) false ++ bs) (map_flags true (places_on p) (used_flag p within) ∙ ap (λ k. replicate k true) long);
-      }
-    where
-      swapped : (a b : ℕ) → a + b ≡ b + a
-      swapped a b = omega arith
+      flags_kept p noted_waiting (λ (n : Note). n.waits) c.noted.gone_waiting (of_conn p s.noted.handed) c.noted.waiting_are
+      (λ x k. unused_flag p within x (subst (In x) (sym c.noted.gone_are) (append-in_second c.noted.gone_handed c.noted.gone_waiting x k)))
+      (λ x k. used_flag p within x (append-in_second (noted_in (of_conn p s.unwritten.handed) (left_to_write (link_in r.both.box.links p))) (of_conn p s.noted.handed) x k)) c.queued.noting
+
+  pub handed_flags : (p : ℕ) → p < length r.both.box.links → HasFlags noted_unwritten (is_used_note s) (handed_notes notes) (link_in r.both.box.links p)
+  handed_flags p within =
+      let c : IsConn names notes (gone p) s r p (link_in r.both.box.links p) = h.conns p within in
+      flags_kept p noted_unwritten (λ (n : Note). not n.waits) c.noted.gone_handed (noted_in (of_conn p s.unwritten.handed) (left_to_write (link_in r.both.box.links p))) c.noted.handed_are
+      (λ x k. unused_flag p within x (subst (In x) (sym c.noted.gone_are) (append-in_first c.noted.gone_handed c.noted.gone_waiting x k)))
+      (λ x k. used_flag p within x (append-in_first (noted_in (of_conn p s.unwritten.handed) (left_to_write (link_in r.both.box.links p))) (of_conn p s.noted.handed) x k))
+      (noted_long (IsAbout names notes r (link_in r.both.box.links p).conn) (of_conn p s.unwritten.handed) (left_to_write (link_in r.both.box.links p)) c.written)

@@ -1,8 +1,9 @@
 -- A PDU is handed out: what the connection has then.
-use Rattle.std.proofs.Common.{◌≡◌, ℕ, zero, suc, ◌+◌, ◌<◌, ◌≤◌, ◌==◌, ◌&&◌, ⊎_elim, not, cond, Bool, true, false, List, [], ◌∷◌, ◌++◌, length, map, drop, filter, Option, Some, None, refl, ap, sym, subst, ◌∙◌, arith, ne_eqb, length-set, length-append}
+use Rattle.std.proofs.Common.{◌≡◌, ℕ, zero, suc, ◌+◌, ◌<◌, ◌≤◌, ◌==◌, ◌&&◌, ⊎_elim, not, cond, Bool, true, false, List, [], ◌∷◌, ◌++◌, length, map, drop, filter, Option, None, refl, ap, sym, subst, ◌∙◌, arith, ne_eqb, length-set, length-append}
 use Rattle.std.proofs.lemmas.Bool.{cond_both, eq-eqb, cases_eq, not-true}
 use Rattle.std.proofs.lemmas.List.{get_or-set_same, get_or-set_other, length-map}
 use Rattle.std.proofs.lemmas.List.Sums.{sum_by-append}
+use Rattle.iscsi_history.specs.rules.Trace.{entered}
 use Rattle.iscsi_history.proofs.BoolLemmas.{and_parts}
 use Rattle.iscsi_history.proofs.CountLemmas.{one, count-cons}
 use Rattle.iscsi_outbox_rules.specs.rules.Boxes.{Box, Handed, Link, Outgoing}
@@ -24,18 +25,20 @@ use Rattle.iscsi_requests.specs.declared.replies.WaitingReply.{WaitingReply}
 use Rattle.iscsi_ffi_commands.specs.Commands.{is_live}
 use Rattle.iscsi_ffi_rules.specs.rules.Calls.{Interface}
 use Rattle.iscsi_ffi_rules.specs.rules.Needs.{is_noted, left_to_write}
-use Rattle.iscsi_ffi_rules.specs.rules.Sides.{Side}
+use Rattle.iscsi_ffi_rules.specs.rules.Sides.{Noted, Side}
 use Rattle.iscsi_ffi_steps.specs.State.{State}
 use Rattle.iscsi_ffi_steps.specs.Steps.{Side as StepsSide}
-use Rattle.iscsi_ffi_law.specs.Names.{Note}
-use Rattle.iscsi_ffi_law.specs.Parts.{AreCounted, AreKept, IsAbout, IsAnswered, IsBefore, IsConn, IsOneUse, IsQueued, noted_in}
-use Rattle.iscsi_ffi_law.specs.Stands.{Stands}
+use Rattle.iscsi_ffi_law.specs.Names.{AreNoted, Note}
+use Rattle.iscsi_ffi_law.specs.Parts.{AreCounted, AreKept, AreNotesOn, IsAbout, IsAnswered, IsBefore, IsCommand, IsConn, IsNote, IsOneUse, IsQueued, IsRequest, is_named, noted_in}
+use Rattle.iscsi_ffi_law.specs.Stands.{AreRequests, Stands}
 use Rattle.iscsi_ffi_law.specs.Uses.{count_lists, is_place, uses_of}
-use Rattle.iscsi_ffi_law.proofs.Changed.{changed_to, requests_changed}
+use Rattle.iscsi_ffi_law.proofs.Changed.{changed_to}
 use Rattle.iscsi_ffi_law.proofs.Ends.{EndsAlike, IsLeft, ends_alike}
 use Rattle.iscsi_ffi_law.proofs.Finish.{as_many_links}
 use Rattle.iscsi_ffi_law.proofs.Lists.{lists_set}
-use Rattle.iscsi_ffi_law.proofs.Moved.{uses_run, with_box}
+use Rattle.iscsi_ffi_law.proofs.Moved.{same_homes, uses_run, with_box}
+use Rattle.iscsi_ffi_law.proofs.NoteMoves.{AreRenoted, about_renoted, apart_renoted, each_renoted, kept_renoted}
+use Rattle.iscsi_ffi_law.proofs.NotePlaces.{notes_same}
 use Rattle.iscsi_ffi_law.proofs.Queued.{link_map}
 use Rattle.iscsi_ffi_law.proofs.Quiet.{queued_same}
 
@@ -76,8 +79,8 @@ module _ (i : Interface) (s : StepsSide) (r : Side) (h : Stands i s r) (p : ℕ)
   abbrev pub box_after : Box
   box_after = after_given i.outbox r.both.box (link_in r.both.box.links p) g
 
-  -- what is handed out, and what waits then
-  pub record IsHandedOn (x : Option ℕ) (v : Cookies) (replies : WaitingReplies) (noted : Unwritten) : Type 0 where
+  -- what is handed out, and what waits then; by the rules these words are of own PDUs that wait then, and of those that were handed out
+  pub record IsHandedOn (x : Option ℕ) (v : Cookies) (replies : WaitingReplies) (noted : Unwritten) (notes : List Note) (waiting handed : List Noted) : Type 0 where
     pub about : IsAbout h.names h.notes r (link_in r.both.box.links p).conn x g
     pub kept : AreKept h.names h.notes v
     pub counted : AreCounted v
@@ -91,9 +94,11 @@ module _ (i : Interface) (s : StepsSide) (r : Side) (h : Stands i s r) (p : ℕ)
     pub answered : (q : ℕ) → EachOf (λ (y : WaitingReply). IsAnswered h.names r.answers y.log_place y.request) (of_conn q replies.waiting)
     pub queued_here : IsQueued h.names r.both.trace r.answers r.both.box.undue (of_conn p replies.waiting) (length (of_conn p noted.handed)) (taken_from g.out (link_in r.both.box.links p))
     pub queued_others : (q : ℕ) → q < length r.both.box.links → (q ≡ p → ⊥) → IsQueued h.names r.both.trace r.answers r.both.box.undue (of_conn q replies.waiting) (length (of_conn q noted.handed)) (link_in r.both.box.links q)
-    pub noted_here : map (λ (n : Note). Some n.place) (filter (λ (n : Note). n.conn == (link_in r.both.box.links p).conn) h.notes)
-        ≡ noted_in (of_conn p s.state.unwritten.handed ++ x ∷ []) (left_to_write (link_in r.both.box.links p) ++ g ∷ []) ++ of_conn p noted.handed
-    pub noted_others : (q : ℕ) → (q ≡ p → ⊥) → of_conn q noted.handed ≡ of_conn q s.state.noted.handed
+    pub renoted : AreRenoted h.notes notes
+    pub are_noted : AreNoted notes waiting handed
+    pub noted_here : AreNotesOn notes (link_in r.both.box.links p).conn [] (of_conn p noted.handed) (noted_in (of_conn p s.state.unwritten.handed ++ x ∷ []) (left_to_write (link_in r.both.box.links p) ++ g ∷ []))
+    pub noted_others : (q : ℕ) → q < length r.both.box.links → (q ≡ p → ⊥)
+        → AreNotesOn notes (link_in r.both.box.links q).conn [] (of_conn q noted.handed) (noted_in (of_conn q s.state.unwritten.handed) (left_to_write (link_in r.both.box.links q)))
 
   unlost : (link_in r.both.box.links p).lost ≡ false
   unlost = not-true (link_in r.both.box.links p).lost (and_parts (link_in r.both.box.links p).joined (not (link_in r.both.box.links p).lost) opens).1
@@ -118,10 +123,14 @@ module _ (i : Interface) (s : StepsSide) (r : Side) (h : Stands i s r) (p : ℕ)
       (eq-eqb (taken_from g.out (link_in r.both.box.links p)).conn (link_in r.both.box.links p).conn (taken_conn g.out (link_in r.both.box.links p)))
 
   module _ (left : IsLeft i (after_given i.outbox r.both.box (link_in r.both.box.links p) g)) (o : OutboxState) (stands : OutboxStands i.outbox o (after_given i.outbox r.both.box (link_in r.both.box.links p) g)) (tracked : o.tracked.last ≤ length (after_given i.outbox r.both.box (link_in r.both.box.links p) g).tasks)
-      (runs : (ticket : ℕ) → is_running_ticket ticket o ≡ is_running_ticket ticket s.state.outbox) (x : Option ℕ) (v : Cookies) (replies : WaitingReplies) (noted : Unwritten) (c : IsHandedOn x v replies noted)
+      (runs : (ticket : ℕ) → is_running_ticket ticket o ≡ is_running_ticket ticket s.state.outbox) (x : Option ℕ) (v : Cookies) (replies : WaitingReplies) (noted : Unwritten)
+      (notes : List Note) (waiting handed : List Noted) (c : IsHandedOn x v replies noted notes waiting handed)
       (free : length (of_conn p s.state.unwritten.handed) < i.unwritten) where
     abbrev b' : Box
     b' = after_given i.outbox r.both.box (link_in r.both.box.links p) g
+
+    abbrev r' : Side
+    r' = record (with_box r (after_given i.outbox r.both.box (link_in r.both.box.links p) g)) { noted = waiting; handed_notes = handed }
 
     abbrev s' : State
     s' = changed_to s.state o v replies noted (pushed p x s.state.unwritten)
@@ -154,40 +163,72 @@ module _ (i : Interface) (s : StepsSide) (r : Side) (h : Stands i s r) (p : ℕ)
     conn_here : (link_in (after_given i.outbox r.both.box (link_in r.both.box.links p) g).links p).conn ≡ (link_in r.both.box.links p).conn
     conn_here = ap (λ (m : Link). m.conn) link_here ∙ taken_conn g.out (link_in r.both.box.links p)
 
-    now_here : IsConn h.names h.notes [] s' (with_box r (after_given i.outbox r.both.box (link_in r.both.box.links p) g)) p (link_in (after_given i.outbox r.both.box (link_in r.both.box.links p) g).links p)
+    about_now : (q : ℕ) (y : Option ℕ) (z : Handed) → IsAbout h.names h.notes r (link_in r.both.box.links q).conn y z → IsAbout h.names notes r' (link_in r.both.box.links q).conn y z
+    about_now q y z k = let a = about_renoted h.names h.notes notes c.renoted r (link_in r.both.box.links q).conn y z k in record { named = a.named; noted = a.noted }
+
+    now_here : IsConn h.names notes [] s' r' p (link_in (after_given i.outbox r.both.box (link_in r.both.box.links p) g).links p)
     now_here = record {
       replies = c.answered p;
       queued = queued_same h.names r.both.trace r.answers (λ q. of_conn q replies.waiting) (λ q. length (of_conn q noted.handed)) r.both.box.undue (of_conn p replies.waiting) (length (of_conn p noted.handed))
           (taken_from g.out (link_in r.both.box.links p)) (link_in b'.links p) (ap (λ (m : Link). m.conn) link_here) (ap (λ (m : Link). m.queue) link_here) c.queued_here;
-      written = subst (λ hs. PairsOf (IsAbout h.names h.notes (with_box r b') (link_in b'.links p).conn) (of_conn p (pushed p x s.state.unwritten).handed) hs) (sym left_here)
-          (subst (λ ys. PairsOf (IsAbout h.names h.notes (with_box r b') (link_in b'.links p).conn) ys (left_to_write (link_in r.both.box.links p) ++ g ∷ [])) (sym here_pushed)
-          (subst (λ k. PairsOf (IsAbout h.names h.notes (with_box r b') k) (of_conn p s.state.unwritten.handed ++ x ∷ []) (left_to_write (link_in r.both.box.links p) ++ g ∷ [])) (sym conn_here)
-          (pairs-weaken (IsAbout h.names h.notes r (link_in r.both.box.links p).conn) (IsAbout h.names h.notes (with_box r b') (link_in r.both.box.links p).conn) (of_conn p s.state.unwritten.handed ++ x ∷ []) (left_to_write (link_in r.both.box.links p) ++ g ∷ [])
-          (λ y z k. record { named = k.named; noted = k.noted })
+      written = subst (λ hs. PairsOf (IsAbout h.names notes r' (link_in b'.links p).conn) (of_conn p (pushed p x s.state.unwritten).handed) hs) (sym left_here)
+          (subst (λ ys. PairsOf (IsAbout h.names notes r' (link_in b'.links p).conn) ys (left_to_write (link_in r.both.box.links p) ++ g ∷ [])) (sym here_pushed)
+          (subst (λ k. PairsOf (IsAbout h.names notes r' k) (of_conn p s.state.unwritten.handed ++ x ∷ []) (left_to_write (link_in r.both.box.links p) ++ g ∷ [])) (sym conn_here)
+          (pairs-weaken (IsAbout h.names h.notes r (link_in r.both.box.links p).conn) (IsAbout h.names notes r' (link_in r.both.box.links p).conn) (of_conn p s.state.unwritten.handed ++ x ∷ []) (left_to_write (link_in r.both.box.links p) ++ g ∷ [])
+          (about_now p)
           (pairs-append (IsAbout h.names h.notes r (link_in r.both.box.links p).conn) (of_conn p s.state.unwritten.handed) (x ∷ []) (left_to_write (link_in r.both.box.links p)) (g ∷ []) (h.requests.conns p within).written (c.about, tt)))));
-      noted =
-          ap (λ k. map (λ (n : Note). Some n.place) (filter (λ (n : Note). n.conn == k) h.notes)) conn_here ∙ c.noted_here
-          ∙ ap (λ hs. noted_in (of_conn p s.state.unwritten.handed ++ x ∷ []) hs ++ of_conn p noted.handed) (sym left_here)
-          ∙ ap (λ ys. noted_in ys (left_to_write (link_in b'.links p)) ++ of_conn p noted.handed) (sym here_pushed);
+      noted = notes_same notes [] (link_in r.both.box.links p).conn (link_in b'.links p).conn (of_conn p noted.handed) (of_conn p noted.handed) (noted_in (of_conn p s.state.unwritten.handed ++ x ∷ []) (left_to_write (link_in r.both.box.links p) ++ g ∷ []))
+          (noted_in (of_conn p (pushed p x s.state.unwritten).handed) (left_to_write (link_in b'.links p))) conn_here refl
+          (ap (λ ys. noted_in ys (left_to_write (link_in b'.links p))) here_pushed ∙ ap (noted_in (of_conn p s.state.unwritten.handed ++ x ∷ [])) left_here) c.noted_here;
     }
 
-    now_elsewhere : (q : ℕ) → q < length r.both.box.links → (q ≡ p → ⊥) → IsConn h.names h.notes [] s' (with_box r (after_given i.outbox r.both.box (link_in r.both.box.links p) g)) q (link_in (after_given i.outbox r.both.box (link_in r.both.box.links p) g).links q)
+    now_elsewhere : (q : ℕ) → q < length r.both.box.links → (q ≡ p → ⊥) → IsConn h.names notes [] s' r' q (link_in (after_given i.outbox r.both.box (link_in r.both.box.links p) g).links q)
     now_elsewhere q short other =
         let k : IsConn h.names h.notes [] s.state r q (link_in r.both.box.links q) = h.requests.conns q short in
-        subst (IsConn h.names h.notes [] s' (with_box r b') q) (sym (link_other q short other)) (record {
+        subst (IsConn h.names notes [] s' r' q) (sym (link_other q short other)) (record {
           replies = c.answered q;
           queued = c.queued_others q short other;
-          written = subst (λ ys. PairsOf (IsAbout h.names h.notes (with_box r b') (link_in r.both.box.links q).conn) ys (left_to_write (link_in r.both.box.links q))) (sym (others_pushed q other))
-              (pairs-weaken (IsAbout h.names h.notes r (link_in r.both.box.links q).conn) (IsAbout h.names h.notes (with_box r b') (link_in r.both.box.links q).conn) (of_conn q s.state.unwritten.handed) (left_to_write (link_in r.both.box.links q))
-              (λ y z n. record { named = n.named; noted = n.noted }) k.written);
-          noted =
-              k.noted ∙ ap (λ ys. noted_in ys (left_to_write (link_in r.both.box.links q)) ++ of_conn q s.state.noted.handed) (sym (others_pushed q other))
-              ∙ ap (λ ys. noted_in (of_conn q (pushed p x s.state.unwritten).handed) (left_to_write (link_in r.both.box.links q)) ++ ys) (sym (c.noted_others q other));
+          written = subst (λ ys. PairsOf (IsAbout h.names notes r' (link_in r.both.box.links q).conn) ys (left_to_write (link_in r.both.box.links q))) (sym (others_pushed q other))
+              (pairs-weaken (IsAbout h.names h.notes r (link_in r.both.box.links q).conn) (IsAbout h.names notes r' (link_in r.both.box.links q).conn) (of_conn q s.state.unwritten.handed) (left_to_write (link_in r.both.box.links q)) (about_now q) k.written);
+          noted = notes_same notes [] (link_in r.both.box.links q).conn (link_in r.both.box.links q).conn (of_conn q noted.handed) (of_conn q noted.handed) (noted_in (of_conn q s.state.unwritten.handed) (left_to_write (link_in r.both.box.links q)))
+              (noted_in (of_conn q (pushed p x s.state.unwritten).handed) (left_to_write (link_in r.both.box.links q))) refl refl (ap (λ ys. noted_in ys (left_to_write (link_in r.both.box.links q))) (others_pushed q other)) (c.noted_others q short other);
         })
 
-    pub handed_ends : EndsAlike i (record { event = s.event; trace = s.trace; doing = record { state = s'; actions = []; forgets = [] } }) (with_box r (after_given i.outbox r.both.box (link_in r.both.box.links p) g)) []
+    same_conn : (q : ℕ) → q < length r.both.box.links → (link_in (after_given i.outbox r.both.box (link_in r.both.box.links p) g).links q).conn ≡ (link_in r.both.box.links q).conn
+    same_conn q short = ⊎_elim
+        (λ (same : q ≡ p). subst (λ k. (link_in b'.links k).conn ≡ (link_in r.both.box.links k).conn) (sym same) conn_here)
+        (λ (other : q ≡ p → ⊥). ap (λ (m : Link). m.conn) (link_other q short other)) (cases_eq q p)
+
+    requests_now : AreRequests h.names notes (λ place. 0) (λ q. []) s' r'
+    requests_now = record {
+      asked = h.requests.asked;
+      noted = c.are_noted;
+      apart = apart_renoted h.names h.notes notes c.renoted h.requests.apart;
+      kept = kept_renoted h.names h.notes notes c.renoted v c.kept;
+      counted = c.counted;
+      uses = uses_now;
+      named = each-weaken (IsRequest s.state r.both.trace) (IsRequest s' r.both.trace) h.names (λ n q. record { held = q.held; waiting = q.waiting }) h.requests.named;
+      noted_apart = each-weaken (IsNote s.state r.both.box.links) (IsNote s' b'.links) notes
+          (λ n q. record { held = q.held; waiting = q.waiting; home = same_homes r.both.box.links b'.links n.conn many (λ q' short. same_conn q' (omega (arith, short, many))) q.home })
+          (each_renoted h.names h.notes notes c.renoted s.state r.both.box.links h.requests.noted_apart);
+      tickets = h.requests.tickets;
+      commands = pairs-weaken (IsCommand h.names r) (IsCommand h.names r') s.state.commands.items (filter (is_named h.names) (entered r.both.trace))
+          (λ y d k. record { ticket = k.ticket; unit = k.unit; attr = k.attr; request = k.request; live = k.live; going = k.going; marked = k.marked; freed = k.freed }) h.requests.commands;
+      live_named = h.requests.live_named;
+      one_use = each-weaken (IsOneUse s.state.outbox) (IsOneUse o) s.state.commands.items (λ y k. ap (λ w. is_live y && w) (runs y.ticket) ∙ k) h.requests.one_use;
+      numbered = h.requests.numbered;
+      answers = h.requests.answers;
+      once = c.once;
+      last = subst (IsBefore (length r.answers)) (sym c.replies_last) h.requests.last;
+      conns = λ q short. ⊎_elim
+          (λ (same : q ≡ p). subst (λ k. IsConn h.names notes [] s' r' k (link_in b'.links k)) (sym same) now_here)
+          (λ (other : q ≡ p → ⊥). now_elsewhere q (omega (arith, short, many)) other) (cases_eq q p);
+      undue = h.requests.undue;
+    }
+
+    pub handed_ends : EndsAlike i (record { event = s.event; trace = s.trace; doing = record { state = s'; actions = []; forgets = [] } }) r' []
     handed_ends =
-        ends_alike i h.names h.notes (λ q. []) None s' (with_box r b') (record {
+        ends_alike i h.names notes (λ q. []) None s' r' (record {
           outbox = stands;
           sound = left.sound;
           few = left.few;
@@ -206,23 +247,7 @@ module _ (i : Interface) (s : StepsSide) (r : Side) (h : Stands i s r) (p : ℕ)
                 (let e = length-append (of_conn p s.state.unwritten.handed) (x ∷ []) in let less : length (of_conn p s.state.unwritten.handed ++ x ∷ []) ≤ i.unwritten = omega (arith, e, free) in less) h.sizes.few;
           };
           flags = record { awake = h.flags.awake; over = h.flags.over };
-          requests = requests_changed h.names h.notes (λ place. 0) (λ place. 0) (λ q. []) (λ q. []) s.state r h.requests o v replies noted (pushed p x s.state.unwritten) b' (record {
-            kept = c.kept;
-            counted = c.counted;
-            uses = uses_now;
-            once = c.once;
-            last = subst (IsBefore (length r.answers)) (sym c.replies_last) h.requests.last;
-            one_use = each-weaken (IsOneUse s.state.outbox) (IsOneUse o) s.state.commands.items (λ y k. ap (λ w. is_live y && w) (runs y.ticket) ∙ k) h.requests.one_use;
-            sent = refl;
-            long = many;
-            conn = λ q short. ⊎_elim
-                (λ (same : q ≡ p). subst (λ k. (link_in b'.links k).conn ≡ (link_in r.both.box.links k).conn) (sym same) conn_here)
-                (λ (other : q ≡ p → ⊥). ap (λ (m : Link). m.conn) (link_other q (omega (arith, short, many)) other)) (cases_eq q p);
-            conns = λ q short. ⊎_elim
-                (λ (same : q ≡ p). subst (λ k. IsConn h.names h.notes [] s' (with_box r b') k (link_in b'.links k)) (sym same) now_here)
-                (λ (other : q ≡ p → ⊥). now_elsewhere q (omega (arith, short, many)) other) (cases_eq q p);
-            undue = h.requests.undue;
-          });
+          requests = requests_now;
           counts = record { units = h.counts.units; last = h.counts.last; tracked = tracked };
           withheld = h.withheld;
           calm = h.calm;

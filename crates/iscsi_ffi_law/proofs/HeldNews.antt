@@ -35,7 +35,7 @@ enters_once item = one_at_most (filter_map enters item)
 -- ---- who was told to start
 
 -- no command was that enters by these items
-fresh_untold : (i : Interface) (items : List (List Mark)) (r : Side) → AreStepsFit i r items → list_all enters_once items ≡ true → (c : Command) → In c (entered_by items) → contains r.told c.ticket ≡ false
+pub fresh_untold : (i : Interface) (items : List (List Mark)) (r : Side) → AreStepsFit i r items → list_all enters_once items ≡ true → (c : Command) → In c (entered_by items) → contains r.told c.ticket ≡ false
 fresh_untold i [] r fit once c there = absurd there
 fresh_untold i (item ∷ items) r fit once c there =
     let parts = and_parts (enters_once item) (list_all enters_once items) once in
@@ -47,13 +47,13 @@ fresh_untold i (item ∷ items) r fit once c there =
     by_entering (d ∷ []) is here few = ⊎_elim (λ (same : d ≡ c). (let k : IsFreshCommand r d = fit.0.enters d is in ap (λ (x : Command). contains r.told x.ticket) (sym same) ∙ k.untold)) (λ none. absurd none) here
 
 -- one that is live behind the items was just where it was free before them
-pub told_free : (i : Interface) (items : List (List Mark)) (r : Side) → AreStepsFit i r items → list_all enters_once items ≡ true → are_apart (entered (after_items items r.both.trace)) ≡ true → next_withheld r ≡ None
+pub told_free : (i : Interface) (items : List (List Mark)) (r : Side) → ((c : Command) → In c (entered_by items) → contains r.told c.ticket ≡ false) → are_apart (entered (after_items items r.both.trace)) ≡ true → next_withheld r ≡ None
     → ((c : Command) → In c (entered r.both.trace) → has (leaves_ticket c.ticket) r.both.trace ≡ false → contains r.told c.ticket ≡ true → was_free c r.both.trace ≡ true)
     → (c : Command) → In c (entered (after_items items r.both.trace)) → has (leaves_ticket c.ticket) (after_items items r.both.trace) ≡ false → contains r.told c.ticket ≡ was_free c r.both.trace
-told_free i items r fit once apart calm freed c there lives =
+told_free i items r untold apart calm freed c there lives =
     ⊎_elim
     (λ before. by_tests before (contains r.told c.ticket) refl (was_free c r.both.trace) refl)
-    (λ later. fresh_untold i items r fit once c later ∙ sym (never_free c r.both.trace (apart_both (entered r.both.trace) (entered_by items) (ap are_apart (sym (entered_is items r.both.trace)) ∙ apart) c later)))
+    (λ later. untold c later ∙ sym (never_free c r.both.trace (apart_both (entered r.both.trace) (entered_by items) (ap are_apart (sym (entered_is items r.both.trace)) ∙ apart) c later)))
     (in-append (entered r.both.trace) (entered_by items) c (subst (In c) (entered_is items r.both.trace) there))
   where
     lived : has (leaves_ticket c.ticket) r.both.trace ≡ false

@@ -1,5 +1,5 @@
 -- Commands leave as a request executes, whatever else it does: what holds behind them, before it is answered, or is over.
-use Rattle.std.proofs.Common.{◌≡◌, ℕ, ◌+◌, ◌≤◌, ◌==◌, ◌&&◌, ◌||◌, inl, inr, ⊎_elim, not, cond, Bool, true, false, List, [], ◌∷◌, ◌++◌, length, map, count_by, filter, filter_map, Option, Some, None, nat_lt, refl, ap, sym, subst, ◌∙◌, arith, length-append}
+use Rattle.std.proofs.Common.{◌≡◌, ℕ, ◌+◌, ◌≤◌, ◌==◌, ◌&&◌, ◌||◌, inl, inr, ⊎_elim, not, cond, Bool, true, false, List, [], ◌∷◌, ◌++◌, length, map, count_by, filter, filter_map, Option, Some, None, nat_lt, refl, ap, sym, subst, ◌∙◌, arith, length-append, is_some, find, option_map}
 use Rattle.iscsi_history.specs.promises.Replies.{executed_in}
 use Rattle.iscsi_requests.specs.Numbers.{HeldNumbers}
 use Rattle.iscsi_requests.specs.Functions.{WaitingFunctions}
@@ -15,7 +15,6 @@ use Rattle.iscsi_history.proofs.ApartLemmas.{apart-filter}
 use Rattle.iscsi_history.proofs.BoolLemmas.{and_parts}
 use Rattle.iscsi_history.proofs.CountLemmas.{one, count-cons, count-weaker}
 use Rattle.iscsi_history.proofs.ElementLemmas.{In}
-use Rattle.iscsi_history.proofs.ListLemmas.{list_any-map}
 use Rattle.iscsi_outbox_rules.specs.rules.Boxes.{Box}
 use Rattle.iscsi_outbox_rules.specs.rules.Items.{after_item}
 use Rattle.iscsi_outbox_rules.specs.rules.Words.{contains}
@@ -34,15 +33,16 @@ use Rattle.iscsi_ffi_rules.specs.declared.action.StopReason.TheVariants.{Aborted
 use Rattle.iscsi_ffi_rules.specs.rules.Calls.{Interface}
 use Rattle.iscsi_ffi_rules.specs.rules.Happening.{is_asked, is_started, leaving, reason_of, stop as stop_there, stops_in}
 use Rattle.iscsi_ffi_rules.specs.rules.Needs.{is_held, is_waiting}
-use Rattle.iscsi_ffi_rules.specs.rules.Sides.{Asked, Side}
+use Rattle.iscsi_ffi_rules.specs.rules.Sides.{Side}
 use Rattle.iscsi_ffi_steps.specs.State.{State}
 use Rattle.iscsi_ffi_steps.specs.Walk.{on_effects, reason_by}
-use Rattle.iscsi_ffi_law.specs.Arrived.{IsLeavingFit, IsStepFit, effects_by, side_behind}
-use Rattle.iscsi_ffi_law.specs.Names.{Name, Note, asked_of, place_named}
+use Rattle.iscsi_ffi_law.specs.Arrived.{IsItemFit, IsLeavingFit, effects_by, side_behind}
+use Rattle.iscsi_ffi_law.specs.Names.{Name, Note, asked_of, is_of_event, place_named}
 use Rattle.iscsi_ffi_law.specs.Parts.{IsRequest}
 use Rattle.iscsi_ffi_law.specs.Stands.{AreRequests}
 use Rattle.iscsi_ffi_law.specs.Uses.{count_commands, count_lists, is_place, is_used}
-use Rattle.iscsi_ffi_law.proofs.Between.{IsBetween}
+use Rattle.iscsi_ffi_law.proofs.Between.{IsBetween, pending_of}
+use Rattle.iscsi_ffi_law.proofs.Unswept.{unswept_at}
 use Rattle.iscsi_ffi_law.proofs.DonePhases.{runs_at}
 use Rattle.iscsi_ffi_law.proofs.DoneShape.{tickets_of}
 use Rattle.iscsi_ffi_law.proofs.Kept.{count_nothing}
@@ -107,21 +107,31 @@ ended_in names r (d ∷ cs) q some = by_told (λ more. let x = ended_in names r 
 nothing_there : (n : ℕ) → nat_lt 0 n ≡ false → n ≡ 0
 nothing_there n none = let few : n ≤ 0 = ltb-false 0 n none in omega (arith, few)
 
+-- a request is asked where it has a name
+named_asked : (names : List Name) (event : ℕ) → is_asked (map asked_of names) event ≡ is_some (place_named names event)
+named_asked [] event = refl
+named_asked (n ∷ names) event = by_test (named_asked names event) (n.event == event)
+  where
+    by_test : is_asked (map asked_of names) event ≡ is_some (place_named names event) → (v : Bool)
+        → (v || is_asked (map asked_of names) event) ≡ is_some (option_map (λ (m : Name). m.place) (cond v (Some n) (find (is_of_event event) names)))
+    by_test rest true = refl
+    by_test rest false = rest
+
 -- ---- the item
 
 -- what such an item does; `zs`: the other uses that end by it
-pub record LeavesBy (i : Interface) (names : List Name) (notes : List Note) (s : State) (r : Side) (own : Option ℕ) (xs : List (Option ℕ)) (item : List Mark) (a : Arrival) (cs : List RulesCommand) (place : ℕ) (by : StopReason) (v : HeldNumbers) (fs : WaitingFunctions) (zs : List (Option ℕ)) : Type 0 where
+pub record LeavesBy (i : Interface) (names : List Name) (notes : List Note) (s : State) (r : Side) (own : Option ℕ) (xs : List (Option ℕ)) (item : List Mark) (a : Arrival) (cs : List RulesCommand) (place : Option ℕ) (by : StopReason) (v : HeldNumbers) (fs : WaitingFunctions) (zs : List (Option ℕ)) : Type 0 where
   pub none_enters : filter_map enters item ≡ []
   pub left_by : (n : ℕ) → list_any (leaves_ticket n) item ≡ is_among n cs
   pub leaving_is : filter_map leaving item ≡ cs
   pub executed : executed_in item ≡ Some a
   pub others_run : (n : ℕ) → contains (tickets_of cs) n ≡ false → list_any (runs_at n) (after_item i.outbox r.both.box (effects_by i r item)).tasks ≡ list_any (runs_at n) r.both.box.tasks
-  pub named : place_named names a.event ≡ Some place
-  pub why : by ≡ reason_by a.request (Some place)
+  pub named : place_named names a.event ≡ place
+  pub why : by ≡ reason_by a.request place
   pub out : IsOut i names notes s r own xs (item ∷ r.both.trace) place (xs ++ zs) v fs
 
-module _ (i : Interface) (names : List Name) (notes : List Note) (s : State) (r : Side) (own : Option ℕ) (xs : List (Option ℕ)) (k : IsBetween i names notes s r own xs) (item : List Mark) (a : Arrival) (cs : List RulesCommand) (place : ℕ) (by : StopReason) (v : HeldNumbers) (fs : WaitingFunctions) (zs : List (Option ℕ))
-    (fit : IsStepFit i r item) (distinct : are_distinct i.outbox.session.conns ≡ true) (sound : IsSound i.outbox (side_behind i r item).both.box) (h : LeavesBy i names notes s r own xs item a cs place by v fs zs) (each : (p : RulesCommand → Bool) → count_by p cs ≤ count_by p (live r.both.trace)) where
+module _ (i : Interface) (names : List Name) (notes : List Note) (s : State) (r : Side) (own : Option ℕ) (xs : List (Option ℕ)) (k : IsBetween i names notes s r own xs) (item : List Mark) (a : Arrival) (cs : List RulesCommand) (place : Option ℕ) (by : StopReason) (v : HeldNumbers) (fs : WaitingFunctions) (zs : List (Option ℕ))
+    (fit : IsItemFit i.outbox r.both.box (effects_by i r item)) (leaves : EachOf (IsLeavingFit i r item) (filter_map leaving item)) (distinct : are_distinct i.outbox.session.conns ≡ true) (sound : IsSound i.outbox (side_behind i r item).both.box) (h : LeavesBy i names notes s r own xs item a cs place by v fs zs) (each : (p : RulesCommand → Bool) → count_by p cs ≤ count_by p (live r.both.trace)) where
   abbrev pub dropped : Box
   dropped = left_box r.both.box a.request cs
 
@@ -131,7 +141,7 @@ module _ (i : Interface) (names : List Name) (notes : List Note) (s : State) (r 
   -- ---- those that leave
 
   leaves_fit : (d : RulesCommand) → In d cs → IsLeavingFit i r item d
-  leaves_fit d there = each_in (IsLeavingFit i r item) cs d there (subst (EachOf (IsLeavingFit i r item)) h.leaving_is fit.leaves)
+  leaves_fit d there = each_in (IsLeavingFit i r item) cs d there (subst (EachOf (IsLeavingFit i r item)) h.leaving_is leaves)
 
   once : AreOnce cs
   once n = let few = each (λ (d : RulesCommand). d.ticket == n) in let most = apart_once (live r.both.trace) (apart-filter (λ (c : RulesCommand). not (has (leaves_ticket c.ticket) r.both.trace)) (entered r.both.trace) k.requests.tickets) n in omega (arith, few, most)
@@ -147,7 +157,7 @@ module _ (i : Interface) (names : List Name) (notes : List Note) (s : State) (r 
     others = λ n other.
         stops_answered i.outbox outbox' (side_behind i r item).both.box (stands_then i names notes s r own xs k item fit distinct sound) sound distinct n
         ∙ h.others_run n (among_tickets cs n ∙ other)
-        ∙ sym (stops_answered i.outbox s.outbox r.both.box k.outbox fit.fit.sound distinct n);
+        ∙ sym (stops_answered i.outbox s.outbox r.both.box k.outbox fit.sound distinct n);
   }
 
   -- ---- what is kept, as what waits of them is dropped
@@ -158,15 +168,15 @@ module _ (i : Interface) (names : List Name) (notes : List Note) (s : State) (r 
   abbrev pub r2 : Side
   r2 = record r { both = record r.both { trace = item ∷ r.both.trace; box = dropped } }
 
-  pub requests2 : AreRequests names notes (λ q. one (place == q) + (endings (xs ++ ended_by names r cs) q + endings zs q)) (λ q. []) s2 r2
-  requests2 = requests_left names notes (λ q. ending own q + endings xs q) (λ q. []) s r k.requests item outbox' cs those dropped refl refl refl v fs (λ q. one (place == q) + (endings (xs ++ ended_by names r cs) q + endings zs q))
+  pub requests2 : AreRequests names notes (λ q. ending place q + (endings (xs ++ ended_by names r cs) q + endings zs q) + unswept_at k.unswept q) k.gone s2 r2
+  requests2 = requests_left names notes (pending_of k.unswept own xs) k.gone s r k.requests item outbox' cs those dropped refl refl refl v fs (λ q. ending place q + (endings (xs ++ ended_by names r cs) q + endings zs q) + unswept_at k.unswept q)
       (λ q. let used = h.out.uses q in omega (arith, used, endings_append xs (ended_by names r cs) q, endings_append xs zs q)) h.out.requests h.out.noted
 
   pub queued2 : AllQueued names (item ∷ r.both.trace) r.answers (λ q. of_conn q s.replies.waiting) (λ q. length (of_conn q s.noted.handed)) dropped.links r.both.box.undue
   queued2 = all_left names r.both.trace (item ∷ r.both.trace) r.answers (tickets_of cs) (entered_left r.both.trace item cs those.none_enters those.left_by)
       (λ n other. live_ticket_left r.both.trace item cs those.none_enters those.left_by n (sym (among_tickets cs n) ∙ other))
-      (λ q. of_conn q s.replies.waiting) (λ q. length (of_conn q s.noted.handed)) r.both.box.links r.both.box.undue (silent names notes (λ q. ending own q + endings xs q) (λ q. []) s r k.requests item outbox' cs those)
-      (all_queued i names notes (λ q. ending own q + endings xs q) (λ q. []) s r k.requests k.outbox distinct fit.fit.sound)
+      (λ q. of_conn q s.replies.waiting) (λ q. length (of_conn q s.noted.handed)) r.both.box.links r.both.box.undue (silent names notes (pending_of k.unswept own xs) k.gone s r k.requests item outbox' cs those)
+      (all_queued i names notes (pending_of k.unswept own xs) k.gone s r k.requests k.outbox distinct fit.sound)
 
   -- uses that have ended are of requests that aren't held
   pub over2 : (q : ℕ) → 1 ≤ endings (xs ++ ended_by names r cs) q + endings zs q → count_by (is_place q) v.places + count_lists (λ (f : WaitingFunction). f.request == q) fs.waiting ≡ 0
@@ -185,11 +195,8 @@ module _ (i : Interface) (names : List Name) (notes : List Note) (s : State) (r 
 
   -- ---- what stops
 
-  asked_there : is_asked r.asked a.event ≡ true
-  asked_there =
-      let f : Named names a.event place = found_named names a.event place h.named in
-      ap (λ (as' : List Asked). is_asked as' a.event) (sym k.requests.asked)
-      ∙ list_any-map (λ (x : Asked). x.event == a.event) asked_of names ∙ in_any (λ (n : Name). (asked_of n).event == a.event) names f.name f.there (eq-eqb f.name.event a.event f.event_is)
+  asked_there : is_asked r.asked a.event ≡ is_some place
+  asked_there = ap (λ as'. is_asked as' a.event) (sym k.requests.asked) ∙ named_asked names a.event ∙ ap (λ (x : Option ℕ). is_some x) h.named
 
   reason_is : reason_of r.asked a ≡ by
   reason_is = ap (λ u. cond (opcode a.request == 6) (cond u LoggedOut Lost) Aborted) asked_there ∙ sym h.why
@@ -202,7 +209,7 @@ module _ (i : Interface) (names : List Name) (notes : List Note) (s : State) (r 
 
   pub few2 : (length (xs ++ ended_by names r cs) + count_by is_live (map (gone_by cs) s.commands.items) ≤ length xs + count_by is_live s.commands.items) × (length (stops_in r item) + count_by is_going (map (gone_by cs) s.commands.items) ≤ count_by is_going s.commands.items)
   few2 =
-      let few = few_leave names r cs s.commands.items k.requests.numbered (leavers names notes (λ q. ending own q + endings xs q) (λ q. []) s r k.requests item outbox' cs those) once in
+      let few = few_leave names r cs s.commands.items k.requests.numbered (leavers names notes (pending_of k.unswept own xs) k.gone s r k.requests item outbox' cs those) once in
       let lives = few.0 in
       let going = few.1 in
       let stops = ap length stops_are in
@@ -219,7 +226,7 @@ module _ (i : Interface) (names : List Name) (notes : List Note) (s : State) (r 
     may acts room = record {
       counted = k.requests.counted;
       numbered = k.requests.numbered;
-      leavers = leavers names notes (λ q. ending own q + endings xs q) (λ q. []) s r k.requests item outbox' cs those;
+      leavers = leavers names notes (pending_of k.unswept own xs) k.gone s r k.requests item outbox' cs those;
       once = once;
       words = λ event at named. cookie_named names notes s.cookies r.asked k.requests.apart k.requests.kept k.requests.counted k.requests.asked event at (found_named names event at named);
       uses = λ p.
@@ -236,8 +243,8 @@ module _ (i : Interface) (names : List Name) (notes : List Note) (s : State) (r 
         used_so false w x both = absurd (false≢true both)
 
     pub leaves_on : (o : OutboxState) (acts : List Action) → length acts + length (stops_in r item) ≤ s.room → (rest : List Effect)
-        → on_effects false (leave_effects cs ++ rest) (walk_in o (record s { held = v0; functions = fs0 }) acts xs (Some place) None (Some by) r.both.box.sent)
-        ≡ on_effects false rest (walk_in o (record s { held = v0; functions = fs0; commands = record s.commands { items = map (gone_by cs) s.commands.items } }) (acts ++ stops_in r item) (xs ++ ended_by names r cs) (Some place) None (Some by) r.both.box.sent)
+        → on_effects false (leave_effects cs ++ rest) (walk_in o (record s { held = v0; functions = fs0 }) acts xs place None (Some by) r.both.box.sent)
+        ≡ on_effects false rest (walk_in o (record s { held = v0; functions = fs0; commands = record s.commands { items = map (gone_by cs) s.commands.items } }) (acts ++ stops_in r item) (xs ++ ended_by names r cs) place None (Some by) r.both.box.sent)
     leaves_on o acts room rest =
-        leaves_walk names r by o (Some place) None r.both.box.sent cs s1 acts xs (may acts room) rest
-        ∙ ap (λ as'. on_effects false rest (walk_in o (record s1 { commands = record s.commands { items = map (gone_by cs) s.commands.items } }) (acts ++ as') (xs ++ ended_by names r cs) (Some place) None (Some by) r.both.box.sent)) (sym stops_are)
+        leaves_walk names r by o place None r.both.box.sent cs s1 acts xs (may acts room) rest
+        ∙ ap (λ as'. on_effects false rest (walk_in o (record s1 { commands = record s.commands { items = map (gone_by cs) s.commands.items } }) (acts ++ as') (xs ++ ended_by names r cs) place None (Some by) r.both.box.sent)) (sym stops_are)

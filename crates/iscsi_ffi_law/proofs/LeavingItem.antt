@@ -16,7 +16,7 @@ use Rattle.iscsi_outbox_rules.specs.rules.Boxes.{Box}
 use Rattle.iscsi_outbox_rules.specs.rules.Due.{settle}
 use Rattle.iscsi_outbox_rules.specs.rules.Items.{after_item, in_phase, phase_enabled, send}
 use Rattle.iscsi_outbox_law.specs.Sound.{IsSound}
-use Rattle.iscsi_outbox_steps.specs.State.{State as OutboxState, limits_of}
+use Rattle.iscsi_outbox_steps.specs.State.{State as OutboxState}
 use Rattle.iscsi_outbox_steps.specs.Steps.{after_item as steps_after_item}
 use Rattle.iscsi_requests.specs.Conns.{of_conn}
 use Rattle.iscsi_requests.specs.declared.functions.WaitingFunction.{WaitingFunction}
@@ -31,7 +31,8 @@ use Rattle.iscsi_ffi_law.specs.Arrived.{IsStepFit, effects_by, is_late, side_beh
 use Rattle.iscsi_ffi_law.specs.Names.{Name, Note}
 use Rattle.iscsi_ffi_law.specs.Stands.{AreRequests}
 use Rattle.iscsi_ffi_law.specs.Uses.{count_lists, is_place}
-use Rattle.iscsi_ffi_law.proofs.Between.{IsBetween, IsHeaded, pending_as}
+use Rattle.iscsi_ffi_law.proofs.Between.{IsBetween, IsFound, IsHeaded, pending_as}
+use Rattle.iscsi_ffi_law.proofs.Unswept.{unswept_at}
 use Rattle.iscsi_ffi_law.proofs.DonePhases.{runs_at}
 use Rattle.iscsi_ffi_law.proofs.DoneShape.{enables, tickets_of}
 use Rattle.iscsi_ffi_law.proofs.Leaving.{effects_left, enters_left, executed_left, leave_effects, leaving_left, left_effects, left_item, tickets_left_by}
@@ -77,7 +78,7 @@ module _ (i : Interface) (names : List Name) (notes : List Note) (s : State) (r 
   abbrev pub outbox' : OutboxState
   outbox' = steps_after_item (effects_by i r (left_item start a void cs reply)) s.outbox
 
-  leaves_by : LeavesBy i names notes s r own xs (left_item start a void cs reply) a cs h.place h.by h.held h.functions []
+  leaves_by : LeavesBy i names notes s r own xs (left_item start a void cs reply) a cs (Some (h.place)) h.by h.held h.functions []
   leaves_by = record {
     none_enters = enters_left start a void cs reply;
     left_by = λ n. tickets_left_by n start a void cs reply;
@@ -86,7 +87,7 @@ module _ (i : Interface) (names : List Name) (notes : List Note) (s : State) (r 
     others_run = λ n other. ap (λ (b : Box). list_any (runs_at n) b.tasks) (ap (after_item i.outbox r.both.box) effects_are) ∙ leaves_runs i.outbox r.both.box a.request cs ns (option_map (λ (x : Reply). (connection_of a.request, x)) reply) es part n other;
     named = h.named;
     why = h.why;
-    out = subst (λ (ys : List (Option ℕ)). IsOut i names notes s r own xs (item ∷ r.both.trace) h.place ys h.held h.functions) (sym (append-nil xs)) (record {
+    out = subst (λ (ys : List (Option ℕ)). IsOut i names notes s r own xs (item ∷ r.both.trace) (Some (h.place)) ys h.held h.functions) (sym (append-nil xs)) (record {
       long = h.long;
       long_functions = h.long_functions;
       functions_are = h.functions_are;
@@ -101,7 +102,7 @@ module _ (i : Interface) (names : List Name) (notes : List Note) (s : State) (r 
   }
 
   pub those : AreLeaving names s r (left_item start a void cs reply) outbox' cs
-  those = those_by i names notes s r own xs k item a cs h.place h.by h.held h.functions [] fit distinct sound leaves_by each
+  those = those_by i names notes s r own xs k item a cs (Some (h.place)) h.by h.held h.functions [] fit.fit fit.leaves distinct sound leaves_by each
 
   abbrev pub s2 : State
   s2 = record s { held = h.held; functions = h.functions; commands = record s.commands { items = map (gone_by cs) s.commands.items }; outbox = outbox' }
@@ -109,20 +110,20 @@ module _ (i : Interface) (names : List Name) (notes : List Note) (s : State) (r 
   abbrev pub r2 : Side
   r2 = record r { both = record r.both { trace = item ∷ r.both.trace; box = dropped } }
 
-  pub requests2 : AreRequests names notes (λ q. one (h.place == q) + endings (xs ++ ended_by names r cs) q) (λ q. []) s2 r2
-  requests2 = pending_as names notes (λ q. one (h.place == q) + (endings (xs ++ ended_by names r cs) q + endings [] q)) (λ q. one (h.place == q) + endings (xs ++ ended_by names r cs) q) (λ q. []) s2 r2 (λ q. omega arith)
-      (requests_by i names notes s r own xs k item a cs h.place h.by h.held h.functions [] fit distinct sound leaves_by each)
+  pub requests2 : AreRequests names notes (λ q. one (h.place == q) + endings (xs ++ ended_by names r cs) q + unswept_at k.unswept q) k.gone s2 r2
+  requests2 = pending_as names notes (λ q. one (h.place == q) + (endings (xs ++ ended_by names r cs) q + endings [] q) + unswept_at k.unswept q) (λ q. one (h.place == q) + endings (xs ++ ended_by names r cs) q + unswept_at k.unswept q) k.gone s2 r2 (λ q. omega arith)
+      (requests_by i names notes s r own xs k item a cs (Some (h.place)) h.by h.held h.functions [] fit.fit fit.leaves distinct sound leaves_by each)
 
   pub queued2 : AllQueued names (item ∷ r.both.trace) r.answers (λ q. of_conn q s.replies.waiting) (λ q. length (of_conn q s.noted.handed)) dropped.links r.both.box.undue
-  queued2 = queued_by i names notes s r own xs k item a cs h.place h.by h.held h.functions [] fit distinct sound leaves_by each
+  queued2 = queued_by i names notes s r own xs k item a cs (Some (h.place)) h.by h.held h.functions [] fit.fit fit.leaves distinct sound leaves_by each
 
   -- uses that have ended are of requests that aren't held
   pub over2 : (q : ℕ) → 1 ≤ endings (xs ++ ended_by names r cs) q → count_by (is_place q) h.held.places + count_lists (λ (f : WaitingFunction). f.request == q) h.functions.waiting ≡ 0
-  over2 q some = over_by i names notes s r own xs k item a cs h.place h.by h.held h.functions [] fit distinct sound leaves_by each q (omega (arith, some))
+  over2 q some = over_by i names notes s r own xs k item a cs (Some (h.place)) h.by h.held h.functions [] fit.fit fit.leaves distinct sound leaves_by each q (omega (arith, some))
 
   pub few2 : (length (xs ++ ended_by names r cs) + count_by is_live (map (gone_by cs) s.commands.items) ≤ length xs + count_by is_live s.commands.items)
       × (length (stops_in r (left_item start a void cs reply)) + count_by is_going (map (gone_by cs) s.commands.items) ≤ count_by is_going s.commands.items)
-  few2 = few_by i names notes s r own xs k item a cs h.place h.by h.held h.functions [] fit distinct sound leaves_by each
+  few2 = few_by i names notes s r own xs k item a cs (Some (h.place)) h.by h.held h.functions [] fit.fit fit.leaves distinct sound leaves_by each
 
   -- ---- the walk up to there
 
@@ -132,7 +133,7 @@ module _ (i : Interface) (names : List Name) (notes : List Note) (s : State) (r 
   abbrev pub last : List Effect
   last = send_effects (connection_of a.request) sn reply ++ enables ns
 
-  pub leaves_past : (o : OutboxState) → o.limits ≡ limits_of i.outbox → (acts : List Action) (first : Bool) → (first && is_late r.both.event item) ≡ false → length acts + length (stops_in r item) ≤ s.room → (rest : List Effect)
+  pub leaves_past : (o : OutboxState) → IsFound i o → (acts : List Action) (first : Bool) → (first && is_late r.both.event item) ≡ false → length acts + length (stops_in r item) ≤ s.room → (rest : List Effect)
       → on_effects first (effects_by i r (left_item start a void cs reply) ++ rest) (walk_at o s acts xs own r.both.box.sent)
       ≡ on_effects false (last ++ rest) (walk_in o s1' (acts ++ stops_in r (left_item start a void cs reply)) (xs ++ ended_by names r cs) (Some (h.place)) None (Some (h.by)) r.both.box.sent)
   leaves_past o limits acts first late room rest =
@@ -140,7 +141,7 @@ module _ (i : Interface) (names : List Name) (notes : List Note) (s : State) (r 
       ∙ ap (λ w. on_effects false ((void_effects void ++ (leave_effects cs ++ last)) ++ rest) w) (h.walk o limits acts first r.both.box.sent late)
       ∙ ap (λ fs. on_effects false fs after_head) (append_assoc (void_effects void) (leave_effects cs ++ last) rest ∙ ap (λ fs. void_effects void ++ fs) (append_assoc (leave_effects cs) last rest))
       ∙ voids_past void (leave_effects cs ++ (last ++ rest)) after_head
-      ∙ leaves_on i names notes s r own xs k item a cs h.place h.by h.held h.functions [] fit distinct sound leaves_by each h.held h.functions o acts room (last ++ rest)
+      ∙ leaves_on i names notes s r own xs k item a cs (Some (h.place)) h.by h.held h.functions [] fit.fit fit.leaves distinct sound leaves_by each h.held h.functions o acts room (last ++ rest)
     where
       after_head : Walk
       after_head = walk_in o (record s { held = h.held; functions = h.functions }) acts xs (Some (h.place)) None (Some (h.by)) r.both.box.sent

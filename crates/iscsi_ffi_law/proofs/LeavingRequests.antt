@@ -43,7 +43,7 @@ use Rattle.iscsi_ffi_law.proofs.Queued.{any_map, link_map}
 use Rattle.iscsi_ffi_law.proofs.Releases.{endings}
 use Rattle.iscsi_ffi_law.proofs.Stopping.{count_sum}
 
-nth_in : (n : ℕ) (xs : List ℕ) (x : ℕ) → nth n xs ≡ Some x → contains xs x ≡ true
+pub nth_in : (n : ℕ) (xs : List ℕ) (x : ℕ) → nth n xs ≡ Some x → contains xs x ≡ true
 nth_in n [] x is = absurd (let no : ⊥ = cc in no)
 nth_in zero (y ∷ xs) x is = let same : y ≡ x = cc in ap (λ v. v || contains xs x) (eq-eqb y x same)
 nth_in (suc n) (y ∷ xs) x is = by_test (y == x) (nth_in n xs x is)

@@ -1,5 +1,7 @@
 mod Lists
 mod Members
+mod NotePlaces
+mod NoteMoves
 mod NameLemmas
 mod Commands
 mod Replies
@@ -35,7 +37,6 @@ mod Putting
 mod Refusing
 mod Releases
 mod Dropping
-mod CutNotes
 mod Core
 mod Clearing
 mod Marking
@@ -67,6 +68,7 @@ mod KeptCounts
 mod Between
 mod Waited
 mod DroppingFunctions
+mod DroppingEach
 mod Stepping
 mod TailOver
 mod TailSends
@@ -76,6 +78,10 @@ mod ReplyPlace
 mod Leaving
 mod LeavingBox
 mod ClosingBox
+mod ClosingTrace
+mod ClosingOther
+mod ClosingEach
+mod ClosingPlaces
 mod Parting
 mod PartingOut
 mod LeavingQueues
@@ -88,6 +94,14 @@ mod LeavingBy
 mod LeavingItem
 mod TailLeaves
 mod TailParts
+mod TailLost
+mod LossGoes
+mod LossFit
+mod LossHead
+mod LossEvent
+mod LossOver
+mod LossLaw
+mod FitLoss
 mod StartsOver
 mod EventNews
 mod TailEnters
@@ -97,6 +111,10 @@ mod ItemsGo
 mod StartsAfter
 mod EventRules
 mod HeldNews
+mod Aside
+mod Unswept
+mod Framing
+mod Sweeping
 mod EventGoes
 mod EventEnds
 mod EventLaw
@@ -128,6 +146,8 @@ mod FitArrivals
 mod FitFollows
 mod FitPlaces
 mod FitParting
+mod LossItem
+mod Unanswered
 mod FitJoined
 mod FitReplies
 mod FitRefusals

@@ -37,22 +37,23 @@ use Rattle.iscsi_ffi_rules.specs.rules.Sides.{Side}
 use Rattle.iscsi_ffi_steps.specs.State.{State}
 use Rattle.iscsi_ffi_steps.specs.Steps.{Side as StepsSide, Answered, Refused, drop_unwritten, lose, lose_on, says, changed, done, going, happens as steps_happen}
 use Rattle.iscsi_ffi_law.specs.Fit.{IsFit, IsOrderly}
-use Rattle.iscsi_ffi_law.specs.Names.{Note}
+use Rattle.iscsi_ffi_law.specs.Names.{handed_notes, note_places, waiting_notes}
 use Rattle.iscsi_ffi_law.specs.Parts.{IsConn, IsOneUse, IsQueued, IsUndue, is_sent_at, noted_in, IsAbout, IsAnswered}
 use Rattle.iscsi_ffi_law.specs.Stands.{Stands}
 use Rattle.iscsi_ffi_law.specs.Uses.{is_place, uses_of}
 use Rattle.iscsi_ffi_law.proofs.Changed.{IsChanged, changed_to, conn_kept, requests_changed}
 use Rattle.iscsi_ffi_law.proofs.Dropping.{all_dropped, all_of, endings_append, endings_places, endings_replies, without_handed, without_replies}
 use Rattle.iscsi_ffi_law.proofs.Ends.{EndsAlike, GoesTo, all_end, found_fit}
-use Rattle.iscsi_ffi_law.proofs.Finish.{as_many_links}
+use Rattle.iscsi_ffi_law.proofs.Finish.{IsAtEnd, as_many_links}
 use Rattle.iscsi_ffi_law.proofs.Fitting.{IsRoomy, roomy}
 use Rattle.iscsi_ffi_law.proofs.Kept.{count_members, count_nothing}
 use Rattle.iscsi_ffi_law.proofs.Lists.{lists_set}
 use Rattle.iscsi_ffi_law.proofs.Members.{PassingAt, any_at, at_any, each_in, in_each}
 use Rattle.iscsi_ffi_law.proofs.Moved.{all_queued, run_same, uses_run, with_box}
+use Rattle.iscsi_ffi_law.proofs.NotePlaces.{handed_whole, waiting_whole}
 use Rattle.iscsi_ffi_law.proofs.Queued.{AllQueued, SettledTo, is_taking, link_map, settled_to}
 use Rattle.iscsi_ffi_law.proofs.Quiet.{runs_by_tasks, settled_sent, settled_tasks}
-use Rattle.iscsi_ffi_law.proofs.Releases.{endings}
+use Rattle.iscsi_ffi_law.proofs.Releases.{endings, releases}
 use Rattle.iscsi_requests.specs.Unwritten.{Unwritten}
 use Rattle.iscsi_ffi_law.proofs.Refusing.{unknown}
 use Rattle.iscsi_ffi_law.specs.Alike.{GoesAlike}
@@ -204,13 +205,13 @@ module _ (i : Interface) (s : StepsSide) (r : Side) (h : Stands i s r) (cid : �
   runs : (ticket : ℕ) → is_running_ticket ticket (lost cid s.state.outbox) ≡ is_running_ticket ticket s.state.outbox
   runs = run_same i s.state r (lost cid s.state.outbox) b' h.outbox fit.sound stands fit.sound_after fit.distinct (runs_by_tasks r.both.box b' (settled_tasks i.outbox [] undue' dropped))
 
-  abbrev s' : State
-  s' = changed_to s.state (lost cid s.state.outbox) s.state.cookies (without_replies p s.state.replies) (without_handed p s.state.noted) (without_handed p s.state.unwritten)
+  abbrev pub state_lost : State
+  state_lost = changed_to s.state (lost cid s.state.outbox) s.state.cookies (without_replies p s.state.replies) (without_handed p s.state.noted) (without_handed p s.state.unwritten)
 
-  abbrev gone : ℕ → List (Option ℕ)
+  abbrev pub gone : ℕ → List (Option ℕ)
   gone q = cond (q == p) (noted_in (of_conn p s.state.unwritten.handed) (left_to_write (link_in r.both.box.links p)) ++ of_conn p s.state.noted.handed) []
 
-  uses_now : (place : ℕ) → uses_at place s.state.cookies ≡ uses_of place s' + endings (all_of p s.state) place
+  uses_now : (place : ℕ) → uses_at place s.state.cookies ≡ uses_of place state_lost + endings (all_of p s.state) place
   uses_now place =
       let moved = uses_run place s.state (lost cid s.state.outbox) runs in
       let replies_set = lists_set (λ (x : WaitingReply). x.request == place) s.state.replies.waiting p [] (omega (arith, at.within, long_replies)) in
@@ -238,25 +239,32 @@ module _ (i : Interface) (s : StepsSide) (r : Side) (h : Stands i s r) (cid : �
   conn_now : (q : ℕ) → q < length b'.links → (link_in b'.links q).conn ≡ (link_in r.both.box.links q).conn
   conn_now q within = let short : q < length r.both.box.links = short_of q within in (settled.same q (omega (arith, short, many))).conn ∙ conn_lost q short
 
-  here : p < length b'.links → IsConn h.names h.notes (noted_in (of_conn p s.state.unwritten.handed) (left_to_write (link_in r.both.box.links p)) ++ of_conn p s.state.noted.handed) s' (with_box r b') p (link_in b'.links p)
+  here : p < length b'.links → IsConn h.names h.notes (noted_in (of_conn p s.state.unwritten.handed) (left_to_write (link_in r.both.box.links p)) ++ of_conn p s.state.noted.handed) state_lost (with_box r b') p (link_in b'.links p)
   here within =
+      let unwritten : List (Option ℕ) = noted_in (of_conn p s.state.unwritten.handed) (left_to_write (link_in r.both.box.links p)) in
       let left : left_to_write (link_in b'.links p) ≡ [] = (settled.same p (omega (arith, at.within, many))).left ∙ ap left_to_write link_here in
       record {
         replies = subst (λ xs. EachOf (λ (x : WaitingReply). IsAnswered h.names r.answers x.log_place x.request) xs) (sym replies_here) tt;
         queued = settled.all.queued p within;
         written = subst (λ hs. PairsOf (IsAbout h.names h.notes (with_box r b') (link_in b'.links p).conn) (of_conn p unwritten'.handed) hs) (sym left)
             (subst (λ xs. PairsOf (IsAbout h.names h.notes (with_box r b') (link_in b'.links p).conn) xs []) (sym unwritten_here) tt);
-        noted =
-            ap (λ c. map (λ (n : Note). Some n.place) (filter (λ (n : Note). n.conn == c) h.notes)) (conn_now p within) ∙ (h.requests.conns p at.within).noted
-            ∙ sym (append-nil (noted_in (of_conn p s.state.unwritten.handed) (left_to_write (link_in r.both.box.links p)) ++ of_conn p s.state.noted.handed))
-            ∙ ap (λ xs. (noted_in (of_conn p s.state.unwritten.handed) (left_to_write (link_in r.both.box.links p)) ++ of_conn p s.state.noted.handed) ++ xs)
-            (sym (ap (λ xs. noted_in xs (left_to_write (link_in b'.links p)) ++ of_conn p noted'.handed) unwritten_here ∙ ap (λ hs. noted_in [] hs ++ of_conn p noted'.handed) left ∙ noted_here));
+        noted = record {
+          gone_handed = noted_in (of_conn p s.state.unwritten.handed) (left_to_write (link_in r.both.box.links p));
+          gone_waiting = of_conn p s.state.noted.handed;
+          gone_are = refl;
+          waiting_are =
+              ap (λ c. note_places c (waiting_notes h.notes)) (conn_now p within) ∙ waiting_whole h.notes (link_in r.both.box.links p).conn (of_conn p s.state.noted.handed) unwritten (h.requests.conns p at.within).noted
+              ∙ sym (append-nil (of_conn p s.state.noted.handed)) ∙ ap (λ xs. of_conn p s.state.noted.handed ++ xs) (sym noted_here);
+          handed_are =
+              ap (λ c. note_places c (handed_notes h.notes)) (conn_now p within) ∙ handed_whole h.notes (link_in r.both.box.links p).conn (of_conn p s.state.noted.handed) unwritten (h.requests.conns p at.within).noted
+              ∙ sym (append-nil unwritten) ∙ ap (λ xs. unwritten ++ xs) (sym (ap (λ xs. noted_in xs (left_to_write (link_in b'.links p))) unwritten_here ∙ ap (noted_in []) left));
+        };
       }
 
-  elsewhere : (q : ℕ) → q < length b'.links → (q ≡ p → ⊥) → IsConn h.names h.notes [] s' (with_box r b') q (link_in b'.links q)
+  elsewhere : (q : ℕ) → q < length b'.links → (q ≡ p → ⊥) → IsConn h.names h.notes [] state_lost (with_box r b') q (link_in b'.links q)
   elsewhere q within other' =
       let short : q < length r.both.box.links = short_of q within in
-      conn_kept h.names h.notes [] s.state s' r b' q (link_in r.both.box.links q) (link_in b'.links q) (h.requests.conns q short) (get_or-set_other s.state.replies.waiting p q [] [] other') (get_or-set_other s.state.noted.handed p q [] [] other')
+      conn_kept h.names h.notes [] s.state state_lost r b' q (link_in r.both.box.links q) (link_in b'.links q) (h.requests.conns q short) (get_or-set_other s.state.replies.waiting p q [] [] other') (get_or-set_other s.state.noted.handed p q [] [] other')
       (get_or-set_other s.state.unwritten.handed p q [] [] other') (conn_now q within) ((settled.same q (omega (arith, short, many))).left ∙ ap left_to_write (link_other q short other')) (settled.all.queued q within)
 
   changed_now : IsChanged h.names h.notes (endings (all_of p s.state)) gone s.state r (lost cid s.state.outbox) s.state.cookies replies' noted' unwritten' b'
@@ -271,82 +279,113 @@ module _ (i : Interface) (s : StepsSide) (r : Side) (h : Stands i s r) (cid : �
     long = settled.long ∙ many;
     conn = conn_now;
     conns = λ q within. ⊎_elim
-        (λ (same : q ≡ p). subst (λ k. (k < length b'.links) → IsConn h.names h.notes (gone k) s' (with_box r b') k (link_in b'.links k)) (sym same)
-        (λ there. subst (λ v. IsConn h.names h.notes (cond v (noted_in (of_conn p s.state.unwritten.handed) (left_to_write (link_in r.both.box.links p)) ++ of_conn p s.state.noted.handed) []) s' (with_box r b') p (link_in b'.links p)) (sym (eq-eqb p p refl)) (here there)) within)
-        (λ (other' : q ≡ p → ⊥). subst (λ v. IsConn h.names h.notes (cond v (noted_in (of_conn p s.state.unwritten.handed) (left_to_write (link_in r.both.box.links p)) ++ of_conn p s.state.noted.handed) []) s' (with_box r b') q (link_in b'.links q)) (sym (ne_eqb q p other')) (elsewhere q within other'))
+        (λ (same : q ≡ p). subst (λ k. (k < length b'.links) → IsConn h.names h.notes (gone k) state_lost (with_box r b') k (link_in b'.links k)) (sym same)
+        (λ there. subst (λ v. IsConn h.names h.notes (cond v (noted_in (of_conn p s.state.unwritten.handed) (left_to_write (link_in r.both.box.links p)) ++ of_conn p s.state.noted.handed) []) state_lost (with_box r b') p (link_in b'.links p)) (sym (eq-eqb p p refl)) (here there)) within)
+        (λ (other' : q ≡ p → ⊥). subst (λ v. IsConn h.names h.notes (cond v (noted_in (of_conn p s.state.unwritten.handed) (left_to_write (link_in r.both.box.links p)) ++ of_conn p s.state.noted.handed) []) state_lost (with_box r b') q (link_in b'.links q)) (sym (ne_eqb q p other')) (elsewhere q within other'))
         (cases_eq q p);
     undue = settled.all.undue_are;
   }
 
-  -- what is dropped ends
+  -- nothing goes out on it any more
+  pub none_taken : list_any (λ (l : Link). l.conn == cid && takes_more l) b'.links ≡ false
+  none_taken = by_any (list_any (λ (l : Link). l.conn == cid && takes_more l) b'.links) refl
+    where
+      lost_takes : (u v : Bool) → ((u && not true) && v) ≡ false
+      lost_takes true v = refl
+      lost_takes false v = refl
+
+      by_any : (w : Bool) → list_any (λ (l : Link). l.conn == cid && takes_more l) b'.links ≡ w → w ≡ false
+      by_any false is = refl
+      by_any true is =
+          let x : PassingAt (λ (l : Link). l.conn == cid && takes_more l) b'.links (new_link 0) = any_at (λ (l : Link). l.conn == cid && takes_more l) b'.links (new_link 0) is in
+          let short : x.place < length r.both.box.links = short_of x.place x.within in
+          let passes = and_parts ((link_in b'.links x.place).conn == cid) (takes_more (link_in b'.links x.place)) x.passes in
+          let here : x.place ≡ p = one_place r.both.box.links x.place p apart short at.within (sym (conn_now x.place x.within) ∙ eqb-true (link_in b'.links x.place).conn cid passes.0 ∙ sym at.is) in
+          let takes : takes_more (link_in lost_links x.place) ≡ true = sym (settled.same x.place (omega (arith, short, many))).takes ∙ passes.1 in
+          absurd (false≢true (sym (ap takes_more link_here ∙ lost_takes (link_in r.both.box.links p).joined (not (link_in r.both.box.links p).cut)) ∙ subst (λ k. takes_more (link_in lost_links k) ≡ true) here takes))
+
+  -- as the call ends, with the uses that have ended
+  pub losing_end : IsAtEnd i h.names h.notes (endings (all_of p s.state)) gone state_lost (with_box r b')
+  losing_end = record {
+    outbox = stands;
+    sound = fit.sound_after;
+    few = fit.short.handed;
+    distinct = fit.distinct;
+    sizes = record {
+      room = h.sizes.room;
+      functions = h.sizes.functions;
+      replies = length-set s.state.replies.waiting p [] ∙ h.sizes.replies;
+      noted = length-set s.state.noted.handed p [] ∙ h.sizes.noted;
+      unwritten = length-set s.state.unwritten.handed p [] ∙ h.sizes.unwritten;
+      noted_room = h.sizes.noted_room;
+      unwritten_room = h.sizes.unwritten_room;
+      replies_room = h.sizes.replies_room;
+      slots = h.sizes.slots;
+      few = each-set (λ (ys : List (Option ℕ)). length ys ≤ i.unwritten) s.state.unwritten.handed p [] (omega arith) h.sizes.few;
+    };
+    flags = record { awake = h.flags.awake; over = h.flags.over };
+    requests = requests_changed h.names h.notes (λ place. 0) (endings (all_of p s.state)) (λ q. []) gone s.state r h.requests (lost cid s.state.outbox) s.state.cookies replies' noted' unwritten' b' changed_now;
+    counts = record { units = h.counts.units; last = h.counts.last; tracked = call_last i.outbox s.state.outbox r.both.box (outbox.Loses cid) h.counts.tracked tt };
+    withheld = h.withheld;
+    calm = h.calm;
+    slots = h.slots;
+    functions = h.functions;
+  }
+
+  -- what is dropped on it
+  pub losing_dropped : (let d' = drop_waiting p (record { state = record s.state { outbox = lost cid s.state.outbox }; actions = []; forgets = [] }) in drop_unwritten (length (of_conn p d'.state.unwritten.handed)) p d') ≡ releases (all_of p s.state) (record { state = state_lost; actions = []; forgets = [] })
+  losing_dropped = all_dropped p (record { state = record s.state { outbox = lost cid s.state.outbox }; actions = []; forgets = [] }) (omega (arith, at.within, long_replies)) (omega (arith, at.within, long_noted)) (omega (arith, at.within, long_unwritten))
+
+  -- .. ends
   pub losing_ends : IsRoomy s.state → EndsAlike i (record { event = s.event; trace = s.trace; doing = (let d' = drop_waiting p (record { state = record s.state { outbox = lost cid s.state.outbox }; actions = []; forgets = [] }) in drop_unwritten (length (of_conn p d'.state.unwritten.handed)) p d') }) (with_box r b') []
   losing_ends room =
       let all = length-append (map (λ (x : WaitingReply). Some x.request) (of_conn p s.state.replies.waiting)) (of_conn p s.state.noted.handed ++ of_conn p s.state.unwritten.handed) in
       let others = length-append (of_conn p s.state.noted.handed) (of_conn p s.state.unwritten.handed) in
       let mapped = length-map (of_conn p s.state.replies.waiting) (λ (x : WaitingReply). Some x.request) in
-      all_end i h.names h.notes gone (all_of p s.state) s' (with_box r b') (record {
-        outbox = stands;
-        sound = fit.sound_after;
-        few = fit.short.handed;
-        distinct = fit.distinct;
-        sizes = record {
-          room = h.sizes.room;
-          functions = h.sizes.functions;
-          replies = length-set s.state.replies.waiting p [] ∙ h.sizes.replies;
-          noted = length-set s.state.noted.handed p [] ∙ h.sizes.noted;
-          unwritten = length-set s.state.unwritten.handed p [] ∙ h.sizes.unwritten;
-          noted_room = h.sizes.noted_room;
-          unwritten_room = h.sizes.unwritten_room;
-          replies_room = h.sizes.replies_room;
-          slots = h.sizes.slots;
-          few = each-set (λ (ys : List (Option ℕ)). length ys ≤ i.unwritten) s.state.unwritten.handed p [] (omega arith) h.sizes.few;
-        };
-        flags = record { awake = h.flags.awake; over = h.flags.over };
-        requests = requests_changed h.names h.notes (λ place. 0) (endings (all_of p s.state)) (λ q. []) gone s.state r h.requests (lost cid s.state.outbox) s.state.cookies replies' noted' unwritten' b' changed_now;
-        counts = record { units = h.counts.units; last = h.counts.last; tracked = call_last i.outbox s.state.outbox r.both.box (outbox.Loses cid) h.counts.tracked tt };
-        withheld = h.withheld;
-        calm = h.calm;
-        slots = h.slots;
-        functions = h.functions;
-      }) (omega (arith, all, others, mapped, room p))
+      all_end i h.names h.notes gone (all_of p s.state) state_lost (with_box r b') losing_end (omega (arith, all, others, mapped, room p))
       (record { event = s.event; trace = s.trace; doing = (let d' = drop_waiting p (record { state = record s.state { outbox = lost cid s.state.outbox }; actions = []; forgets = [] }) in drop_unwritten (length (of_conn p d'.state.unwritten.handed)) p d') })
-      (all_dropped p (record { state = record s.state { outbox = lost cid s.state.outbox }; actions = []; forgets = [] }) (omega (arith, at.within, long_replies)) (omega (arith, at.within, long_noted)) (omega (arith, at.within, long_unwritten))) h.event h.trace
+      losing_dropped h.event h.trace
 
 -- ---- the call
 
-module _ (i : Interface) (s : StepsSide) (r : Side) (h : Stands i s r) (cid : ℕ) (fit : IsFit i r.both.box (after_call i.outbox r.both.box (outbox.Loses cid))) (orderly : IsOrderly r) (over : is_closed cid r.both.trace ≡ true) where
-  closed_there : (p : ℕ) (at : IsPlace r.both.box.links cid p) → is_lost r cid ≡ false → is_known cid i.outbox.session.conns ≡ true → GoesTo i (lose_on i cid p s) (rules.lose i r cid)
-  closed_there p at kept known =
-      let e = losing_ends i s r h cid fit p at (roomy i s r h (after_call i.outbox r.both.box (outbox.Loses cid)) fit) in
+module _ (i : Interface) (s : StepsSide) (r : Side) (h : Stands i s r) (cid : ℕ) (fit : IsFit i r.both.box (after_call i.outbox r.both.box (outbox.Loses cid))) (orderly : IsOrderly r) where
+  -- what is dropped, and what the session hears then if it isn't closed
+  abbrev pub lost_on : ℕ → Bool → Answered
+  lost_on p v =
+      let g = changed (λ d.
+      let d' = drop_waiting p (in_state (λ t. record t { outbox = lost cid t.outbox }) d) in
+      drop_unwritten (length (of_conn p d'.state.unwritten.handed)) p d') (going s) in
+      done (cond v g (steps_happen i None (Arrive cid (parting cid)) g))
+
+  abbrev pub lost_there : Bool → rules.Answered
+  lost_there v = let x = other i r (outbox.Loses cid) in rules.done (cond v (quiet x) (happens i x (Arrive cid (parting cid))))
+
+  at_place : (v : Bool) → is_closed cid r.both.trace ≡ v → (p : ℕ) (at : IsPlace r.both.box.links cid p) → is_lost r cid ≡ false → is_known cid i.outbox.session.conns ≡ true → GoesTo i (lost_on p v) (lost_there v) → GoesTo i (lose_on i cid p s) (rules.lose i r cid)
+  at_place v over p at kept known goes =
       let found : link_of r.both.box cid ≡ Some (link_in r.both.box.links p) = found_at r.both.box.links cid p (links_apart (is_under_way i.outbox r.both.box.links) i.outbox s.state.outbox r.both.box h.outbox fit.distinct) at.within at.is in
       let st = counts_at (is_under_way i.outbox r.both.box.links) i.outbox s.state.outbox r.both.box h.outbox p at.within in
       let unlost : (link_at s.state.outbox p).lost ≡ false = st.lost ∙ sym (ap (λ (x : Option Link). elim x [ Some l ↦ l.lost | None ↦ true ]) found) ∙ kept in
-      let shut : (link_at s.state.outbox p).closed ≡ true
+      let shut : (link_at s.state.outbox p).closed ≡ v
       = st.closed ∙ each-at (λ (l : Link). l.closed ≡ is_closed l.conn r.both.trace) r.both.box.links p (new_link 0) at.within orderly.closed ∙ ap (λ c. is_closed c r.both.trace) at.is ∙ over in
-      subst (λ v. GoesTo i (cond v (says s (Refused NotJoined)) (losing (link_at s.state.outbox p).closed)) (rules.lose i r cid)) (sym unlost)
-      (subst (λ v. GoesTo i (losing v) (rules.lose i r cid)) (sym shut)
-      (subst (λ v. GoesTo i (losing true) (by_rules v (is_lost r cid) (is_closed cid r.both.trace))) (sym known)
-      (subst (λ v. GoesTo i (losing true) (by_rules true v (is_closed cid r.both.trace))) (sym kept)
-      (subst (λ v. GoesTo i (losing true) (by_rules true false v)) (sym over) (record { answer = refl; tells = e.tells; stands = e.stands })))))
+      subst (λ w. GoesTo i (cond w (says s (Refused NotJoined)) (lost_on p (link_at s.state.outbox p).closed)) (rules.lose i r cid)) (sym unlost)
+      (subst (λ w. GoesTo i (lost_on p w) (rules.lose i r cid)) (sym shut)
+      (subst (λ w. GoesTo i (lost_on p v) (by_rules w (is_lost r cid) (is_closed cid r.both.trace))) (sym known)
+      (subst (λ w. GoesTo i (lost_on p v) (by_rules true w (is_closed cid r.both.trace))) (sym kept)
+      (subst (λ w. GoesTo i (lost_on p v) (by_rules true false w)) (sym over) goes))))
     where
-      losing : Bool → Answered
-      losing v =
-          let g = changed (λ d.
-          let d' = drop_waiting p (in_state (λ t. record t { outbox = lost cid t.outbox }) d) in
-          drop_unwritten (length (of_conn p d'.state.unwritten.handed)) p d') (going s) in
-          done (cond v g (steps_happen i None (Arrive cid (parting cid)) g))
-
       by_rules : Bool → Bool → Bool → rules.Answered
-      by_rules u v w =
-          cond (not u) (rules.answers r (rules.Refused UnknownConnection)) (cond v (rules.answers r (rules.Refused NotJoined))
-          (let x = other i r (outbox.Loses cid) in rules.done (cond w (quiet x) (happens i x (Arrive cid (parting cid))))))
+      by_rules u w y = cond (not u) (rules.answers r (rules.Refused UnknownConnection)) (cond w (rules.answers r (rules.Refused NotJoined)) (lost_there y))
 
-  pub loses_closed : is_known cid i.outbox.session.conns ≡ true → is_lost r cid ≡ false → GoesAlike i s r (Loses cid)
-  loses_closed known kept = by_place (place_of s.state.outbox cid) refl
+  -- where both go on alike from its place on, so does the call
+  pub loses_by : (v : Bool) → is_closed cid r.both.trace ≡ v → is_known cid i.outbox.session.conns ≡ true → is_lost r cid ≡ false → ((p : ℕ) (at : IsPlace r.both.box.links cid p) → GoesTo i (lost_on p v) (lost_there v)) → GoesAlike i s r (Loses cid)
+  loses_by v over known kept goes = by_place (place_of s.state.outbox cid) refl
     where
       by_place : (y : Option ℕ) → place_of s.state.outbox cid ≡ y → GoesAlike i s r (Loses cid)
       by_place None none = absurd (false≢true (sym (unknown i s r h (found_fit i r.both.box (after_call i.outbox r.both.box (outbox.Loses cid)) fit) cid none) ∙ known))
       by_place (Some p) found =
-          let g : GoesTo i (lose i cid s) (rules.lose i r cid) = subst (λ (x : Option ℕ). GoesTo i (elim x [ Some conn ↦ lose_on i cid conn s | None ↦ says s (Refused UnknownConnection) ]) (rules.lose i r cid)) (sym found)
-          (closed_there p (stands_there (is_under_way i.outbox r.both.box.links) i.outbox s.state.outbox r.both.box h.outbox cid p found) kept known) in
+          let at = stands_there (is_under_way i.outbox r.both.box.links) i.outbox s.state.outbox r.both.box h.outbox cid p found in
+          let g : GoesTo i (lose i cid s) (rules.lose i r cid) = subst (λ (x : Option ℕ). GoesTo i (elim x [ Some conn ↦ lose_on i cid conn s | None ↦ says s (Refused UnknownConnection) ]) (rules.lose i r cid)) (sym found) (at_place v over p at kept known (goes p at)) in
           record { answer = g.answer; tells = g.tells; stands = g.stands }
+
+  pub loses_closed : is_closed cid r.both.trace ≡ true → is_known cid i.outbox.session.conns ≡ true → is_lost r cid ≡ false → GoesAlike i s r (Loses cid)
+  loses_closed over known kept = loses_by true over known kept (λ p at. let e = losing_ends i s r h cid fit p at (roomy i s r h (after_call i.outbox r.both.box (outbox.Loses cid)) fit) in record { answer = refl; tells = e.tells; stands = e.stands })

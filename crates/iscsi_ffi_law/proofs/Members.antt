@@ -1,5 +1,5 @@
 -- Elements of lists: one that passes, and how many do.
-use Rattle.std.proofs.Common.{◌≡◌, ℕ, zero, suc, ◌+◌, ◌<◌, ◌≤◌, ◌||◌, ◌⊎◌, inl, inr, ⊎_elim, cond, nat_lt, Bool, true, false, List, [], ◌∷◌, length, count_by, find, get_or, Some, refl, ap, sym, subst, ◌∙◌, arith, lt-ltb}
+use Rattle.std.proofs.Common.{◌≡◌, ℕ, zero, suc, ◌+◌, ◌<◌, ◌≤◌, ◌||◌, ◌⊎◌, inl, inr, ⊎_elim, cond, nat_lt, Bool, true, false, List, [], ◌∷◌, length, map, count_by, find, get_or, Some, refl, ap, sym, subst, ◌∙◌, arith, lt-ltb}
 use Rattle.std.specs.List.{list_any}
 use Rattle.std.proofs.lemmas.Bool.{false≢true, or_left, or_right, cases_lt}
 use Rattle.iscsi_history.proofs.CountLemmas.{one, count-cons}
@@ -155,3 +155,7 @@ in_pairs R (x ∷ xs) (z ∷ ys) y h all =
     ⊎_elim
     (λ same. (x, inl refl, subst (λ w. R x w) same all.0))
     (λ later. let rest = in_pairs R xs ys y later all.1 in (rest.0, inr rest.1, rest.2)) h
+
+pub map_in : {A B : Type 0} (f : A → B) (xs : List A) (y : B) → In y (map f xs) → (x : A) × In x xs × (f x ≡ y)
+map_in f [] y h = absurd h
+map_in f (x ∷ xs) y h = ⊎_elim (λ same. (x, inl refl, same)) (λ later. let rest = map_in f xs y later in (rest.0, inr rest.1, rest.2)) h

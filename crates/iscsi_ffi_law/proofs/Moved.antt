@@ -1,5 +1,5 @@
 -- A call that changes the outbox alone, and nothing of what isn't written.
-use Rattle.std.proofs.Common.{◌≡◌, ℕ, ◌<◌, ◌≤◌, ◌==◌, ◌&&◌, ◌||◌, true, List, ◌++◌, length, map, count_by, filter, Option, Some, refl, ap, sym, subst, ◌∙◌, arith}
+use Rattle.std.proofs.Common.{◌≡◌, ℕ, ◌<◌, ◌≤◌, ◌==◌, ◌&&◌, ◌||◌, true, List, length, count_by, filter, Option, refl, ap, sym, subst, ◌∙◌, arith}
 use Rattle.std.specs.List.{list_any}
 use Rattle.std.proofs.lemmas.Bool.{eq-eqb, eqb-true}
 use Rattle.iscsi_history.specs.rules.Trace.{entered}
@@ -35,6 +35,7 @@ use Rattle.iscsi_ffi_law.proofs.Cookies.{there_used}
 use Rattle.iscsi_ffi_law.proofs.Kept.{count_members}
 use Rattle.iscsi_ffi_law.proofs.Members.{Paired, Passing, counted_in, in_counted, pairs_in, at_any, any_at, PassingAt}
 use Rattle.iscsi_ffi_law.proofs.NameLemmas.{Named, found_named}
+use Rattle.iscsi_ffi_law.proofs.NotePlaces.{notes_same}
 use Rattle.iscsi_ffi_law.proofs.Queued.{AllQueued, is_taking}
 
 -- the side with another box
@@ -114,9 +115,8 @@ module _ (names : List Name) (notes : List Note) (pending : ℕ → ℕ) (gone :
               (subst (λ k. PairsOf (IsAbout names notes (with_box r b) k) (of_conn p s.unwritten.handed) (left_to_write (link_in r.both.box.links p))) (sym (m.conn p within))
               (pairs-weaken (IsAbout names notes r (link_in r.both.box.links p).conn) (IsAbout names notes (with_box r b) (link_in r.both.box.links p).conn) (of_conn p s.unwritten.handed) (left_to_write (link_in r.both.box.links p))
               (λ x y k. record { named = k.named; noted = k.noted }) c.written));
-          noted =
-              ap (λ k. map (λ (n : Note). Some n.place) (filter (λ (n : Note). n.conn == k) notes)) (m.conn p within) ∙ c.noted
-              ∙ ap (λ hs. gone p ++ (noted_in (of_conn p s.unwritten.handed) hs ++ of_conn p s.noted.handed)) (sym (m.left p within));
+          noted = notes_same notes (gone p) (link_in r.both.box.links p).conn (link_in b.links p).conn (of_conn p s.noted.handed) (of_conn p s.noted.handed) (noted_in (of_conn p s.unwritten.handed) (left_to_write (link_in r.both.box.links p)))
+              (noted_in (of_conn p s.unwritten.handed) (left_to_write (link_in b.links p))) (m.conn p within) refl (ap (noted_in (of_conn p s.unwritten.handed)) (m.left p within)) c.noted;
         };
     undue = m.undue;
   }

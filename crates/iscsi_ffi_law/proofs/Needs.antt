@@ -1,8 +1,8 @@
 -- A request is needed by the rules just where its place is used by the steps.
-use Rattle.std.proofs.Common.{◌≡◌, ℕ, ◌<◌, ◌≤◌, ◌==◌, ◌||◌, ◌⊎◌, inl, inr, ⊎_elim, nat_lt, Bool, true, false, List, [], ◌∷◌, ◌++◌, length, map, count_by, filter, Option, Some, None, refl, ap, sym, subst, ◌∙◌, arith, lt-ltb}
+use Rattle.std.proofs.Common.{◌≡◌, ℕ, ◌<◌, ◌≤◌, ◌==◌, ◌||◌, ◌⊎◌, inl, inr, ⊎_elim, nat_lt, Bool, true, false, List, ◌++◌, length, count_by, Option, Some, None, refl, ap, sym, ◌∙◌, arith, lt-ltb}
 use Rattle.std.specs.List.{list_any}
 use Rattle.std.proofs.lemmas.Bool.{false≢true, eqb-true, eq-eqb, ltb-true, or_cases, or_left, or_right, cases_lt, cases_Bool, le-ltb}
-use Rattle.iscsi_history.proofs.ElementLemmas.{In, append-in_second, in-filter}
+use Rattle.iscsi_history.proofs.ElementLemmas.{In, append-in_second}
 use Rattle.iscsi_outbox_rules.specs.rules.Boxes.{Handed, Link}
 use Rattle.iscsi_outbox_rules.specs.rules.Run.{new_link}
 use Rattle.iscsi_outbox_law.specs.Commands.{link_in}
@@ -16,11 +16,8 @@ use Rattle.iscsi_ffi_law.specs.Parts.{IsAbout, IsConn, IsRequest, noted_in}
 use Rattle.iscsi_ffi_law.specs.Uses.{count_commands, count_functions, count_held, count_noted, count_replies, count_unwritten, is_place, uses_of}
 use Rattle.iscsi_ffi_law.proofs.Lists.{lists_at}
 use Rattle.iscsi_ffi_law.proofs.Members.{CountedAt, Passing, PassingAt, any_at, any_counted, at_any, counted_in, each_in, in_counted, lists_counted}
+use Rattle.iscsi_ffi_law.proofs.NotePlaces.{note_there}
 use Rattle.iscsi_ffi_law.proofs.Replies.{HaveConns, counted_waits, waits_counted}
-
-pub map_in : {A B : Type 0} (f : A → B) (xs : List A) (y : B) → In y (map f xs) → (x : A) × In x xs × (f x ≡ y)
-map_in f [] y h = absurd h
-map_in f (x ∷ xs) y h = ⊎_elim (λ same. (x, inl refl, same)) (λ later. let rest = map_in f xs y later in (rest.0, inr rest.1, rest.2)) h
 
 pub placed_some : (place : ℕ) (x : Option ℕ) → is_place place x ≡ true → x ≡ Some place
 placed_some place None h = absurd (false≢true h)
@@ -63,12 +60,11 @@ module _ (names : List Name) (notes : List Note) (gone : ℕ → List (Option �
       let l : Link = link_in r.both.box.links at.place in
       let c : IsConn names notes (gone at.place) s r at.place (link_in r.both.box.links at.place) = h.conns at.place within in
       let x : Passing (is_place n.place) (of_conn at.place s.noted.handed) = counted_in (is_place n.place) (of_conn at.place s.noted.handed) at.some in
-      let all : In x.x (gone at.place ++ (noted_in (of_conn at.place s.unwritten.handed) (left_to_write (link_in r.both.box.links at.place)) ++ of_conn at.place s.noted.handed))
-      = append-in_second (gone at.place) (noted_in (of_conn at.place s.unwritten.handed) (left_to_write (link_in r.both.box.links at.place)) ++ of_conn at.place s.noted.handed) x.x
-      (append-in_second (noted_in (of_conn at.place s.unwritten.handed) (left_to_write (link_in r.both.box.links at.place))) (of_conn at.place s.noted.handed) x.x x.there) in
-      let m = map_in (λ (y : Note). Some y.place) (filter (λ (y : Note). y.conn == (link_in r.both.box.links at.place).conn) notes) x.x (subst (In x.x) (sym c.noted) all) in
-      let is : m.0.place ≡ n.place = (let same : Some m.0.place ≡ Some n.place = m.2 ∙ placed_some n.place x.x x.passes in cc) in
-      let one : 1 ≤ count_by (λ (y : Note). y.place == n.place) notes = in_counted (λ (y : Note). y.place == n.place) notes m.0 (in-filter (λ (y : Note). y.conn == (link_in r.both.box.links at.place).conn) notes m.0 m.1).0 (eq-eqb m.0.place n.place is) in
+      let m = note_there notes (link_in r.both.box.links at.place).conn (gone at.place) (of_conn at.place s.noted.handed) (noted_in (of_conn at.place s.unwritten.handed) (left_to_write (link_in r.both.box.links at.place))) c.noted x.x
+      (append-in_second (gone at.place) (noted_in (of_conn at.place s.unwritten.handed) (left_to_write (link_in r.both.box.links at.place)) ++ of_conn at.place s.noted.handed) x.x
+      (append-in_second (noted_in (of_conn at.place s.unwritten.handed) (left_to_write (link_in r.both.box.links at.place))) (of_conn at.place s.noted.handed) x.x x.there)) in
+      let is : m.0.place ≡ n.place = (let same : Some m.0.place ≡ Some n.place = m.3 ∙ placed_some n.place x.x x.passes in cc) in
+      let one : 1 ≤ count_by (λ (y : Note). y.place == n.place) notes = in_counted (λ (y : Note). y.place == n.place) notes m.0 m.1 (eq-eqb m.0.place n.place is) in
       let two : 1 ≤ count_by (λ (y : Name). y.place == n.place) names = in_counted (λ (y : Name). y.place == n.place) names n there (eq-eqb n.place n.place refl) in
       absurd (let none : ⊥ = omega (arith, one, two, h.apart.places n.place) in none))
       (λ none. omega (arith, none))

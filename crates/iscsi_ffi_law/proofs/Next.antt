@@ -1,5 +1,5 @@
 -- The next PDU of a connection is asked for.
-use Rattle.std.proofs.Common.{◌≡◌, ℕ, zero, suc, ◌+◌, ◌*◌, ◌^◌, ◌%◌, ◌<◌, ◌≤◌, ◌&&◌, ⊎_elim, cond, nat_lt, true, false, List, [], ◌∷◌, length, Option, Some, None, refl, ap, sym, subst, ◌∙◌, arith, lt-ltb, mul-suc}
+use Rattle.std.proofs.Common.{◌≡◌, ℕ, zero, suc, ◌+◌, ◌*◌, ◌^◌, ◌%◌, ◌<◌, ◌≤◌, ◌&&◌, ⊎_elim, cond, nat_lt, Bool, true, false, List, [], ◌∷◌, ◌++◌, length, Option, Some, None, refl, ap, sym, subst, ◌∙◌, arith, lt-ltb, mul-suc}
 use Rattle.std.proofs.lemmas.Bool.{false≢true}
 use Rattle.iscsi_outbox_rules.specs.declared.own_pdu.OwnPdu.TheVariants.{OfCommand, OfConnection}
 use Rattle.iscsi_outbox_rules.specs.rules.Calls as outbox
@@ -26,13 +26,14 @@ use Rattle.iscsi_requests.specs.Unwritten.{Unwritten, popped, pushed}
 use Rattle.iscsi_ffi_commands.specs.declared.command.Command.{Command}
 use Rattle.iscsi_ffi_rules.specs.rules.Calls.{Interface}
 use Rattle.iscsi_ffi_rules.specs.rules.Happening.{quiet}
-use Rattle.iscsi_ffi_rules.specs.rules.Needs.{is_noted}
+use Rattle.iscsi_ffi_rules.specs.rules.Needs.{first_noted as rules_first, is_noted, without_first}
 use Rattle.iscsi_ffi_rules.specs.rules.Run as rules
 use Rattle.iscsi_ffi_rules.specs.rules.Run.{cids}
-use Rattle.iscsi_ffi_rules.specs.rules.Sides.{Side, cookie_of}
+use Rattle.iscsi_ffi_rules.specs.rules.Sides.{Noted, Side, cookie_of}
 use Rattle.iscsi_ffi_steps.specs.State.{State}
 use Rattle.iscsi_ffi_steps.specs.Steps.{Answered, Goes, Side as StepsSide, going, hand_out, leaves_queue, pushed_with_room, request_handed, used_again}
 use Rattle.iscsi_ffi_law.specs.Fit.{IsFit}
+use Rattle.iscsi_ffi_law.specs.Names.{Note}
 use Rattle.iscsi_ffi_law.specs.Parts.{IsKnownOut, IsOwnOut}
 use Rattle.iscsi_ffi_law.specs.Stands.{Stands}
 use Rattle.iscsi_ffi_law.proofs.Changed.{changed_to}
@@ -40,7 +41,7 @@ use Rattle.iscsi_ffi_law.proofs.Cookies.{place_used}
 use Rattle.iscsi_ffi_law.proofs.Ends.{EndsAlike, GoesTo, IsLeft, found_fit, left_fit, moved_ends}
 use Rattle.iscsi_ffi_law.proofs.Handing.{IsHandedOn, handed_ends}
 use Rattle.iscsi_ffi_law.proofs.Moved.{run_same, with_box}
-use Rattle.iscsi_ffi_law.proofs.Noting.{FirstNoted, first_noted, noted_handed, noted_word}
+use Rattle.iscsi_ffi_law.proofs.Noting.{FirstNoted, first_noted, noted_handed, noted_word, notes_now}
 use Rattle.iscsi_ffi_law.proofs.Replying.{ItsRequest, its_request, reply_handed, reply_word}
 use Rattle.iscsi_ffi_law.proofs.Sources.{ItsCommand, command_handed, command_word, its_command, nop_handed, used_place}
 use Rattle.iscsi_ffi_commands.specs.Commands.{find_ticket}
@@ -123,16 +124,28 @@ module _ (i : Interface) (s : StepsSide) (r : Side) (h : Stands i s r) (cid : �
     }
 
     abbrev by_rules : rules.Answered
-    by_rules = record { told = quiet (with_box r (after_given i.outbox r.both.box (link_in r.both.box.links p) g)); answer = rules.Goes g (rules.cookie_handed r cid g.out) }
+    by_rules = record { told = quiet (rules.handed_on cid g.out (with_box r (after_given i.outbox r.both.box (link_in r.both.box.links p) g))); answer = rules.Goes g (rules.cookie_handed r cid g.out) }
 
-    handed_goes : (x : Option ℕ) (v : Cookies) (replies : WaitingReplies) (noted : Unwritten) → IsHandedOn i s r h p at.within opens g x v replies noted → elim x [ Some place ↦ Some (cookie_at place s.state.cookies) | None ↦ None ] ≡ rules.cookie_handed r cid g.out
+    handed_goes : (x : Option ℕ) (v : Cookies) (replies : WaitingReplies) (noted : Unwritten) (notes : List Note) (waiting handed : List Noted) → IsHandedOn i s r h p at.within opens g x v replies noted notes waiting handed
+        → rules.handed_on cid g.out (with_box r (after_given i.outbox r.both.box (link_in r.both.box.links p) g)) ≡ record (with_box r (after_given i.outbox r.both.box (link_in r.both.box.links p) g)) { noted = waiting; handed_notes = handed }
+        → elim x [ Some place ↦ Some (cookie_at place s.state.cookies) | None ↦ None ] ≡ rules.cookie_handed r cid g.out
         → GoesTo i (handing x (changed_to s.state s.state.outbox v replies noted s.state.unwritten)) by_rules
-    handed_goes x v replies noted c word =
-        let e = handed_ends i s r h p at.within opens g left (handed_out cid s.state.outbox) stands tracked runs x v replies noted c free in
+    handed_goes x v replies noted notes waiting handed c same word =
+        let e = handed_ends i s r h p at.within opens g left (handed_out cid s.state.outbox) stands tracked runs x v replies noted notes waiting handed c free in
         subst (λ (u : Unwritten). GoesTo i (record {
           going = record { event = s.event; trace = s.trace; doing = record { state = changed_to s.state (handed_out cid s.state.outbox) v replies noted u; actions = []; forgets = [] } };
           answer = Goes (handed_said g) (elim x [ Some place ↦ Some (cookie_at place s.state.cookies) | None ↦ None ]);
-        }) by_rules) (sym (room_free x)) (record { answer = ap (Goes (handed_said g)) word; tells = e.tells; stands = e.stands })
+        }) by_rules) (sym (room_free x))
+        (subst (λ (t : Side). GoesTo i (record {
+          going = record { event = s.event; trace = s.trace; doing = record { state = changed_to s.state (handed_out cid s.state.outbox) v replies noted (pushed p x s.state.unwritten); actions = []; forgets = [] } };
+          answer = Goes (handed_said g) (elim x [ Some place ↦ Some (cookie_at place s.state.cookies) | None ↦ None ]);
+        }) (record { told = quiet t; answer = rules.Goes g (rules.cookie_handed r cid g.out) })) (sym same) (record { answer = ap (Goes (handed_said g)) word; tells = e.tells; stands = e.stands }))
+
+    -- what is no own PDU, or of a command, leaves their words
+    words_same : is_noted g.out.pdu ≡ false → rules.handed_on cid g.out (with_box r (after_given i.outbox r.both.box (link_in r.both.box.links p) g)) ≡ with_box r (after_given i.outbox r.both.box (link_in r.both.box.links p) g)
+    words_same plain =
+        ap (λ v. cond v (record (with_box r (after_given i.outbox r.both.box (link_in r.both.box.links p) g)) { noted = without_first cid 1 r.noted; handed_notes = r.handed_notes ++ rules_first cid 1 r.noted })
+        (with_box r (after_given i.outbox r.both.box (link_in r.both.box.links p) g))) plain
 
     -- ---- where it comes from
 
@@ -143,7 +156,7 @@ module _ (i : Interface) (s : StepsSide) (r : Side) (h : Stands i s r) (cid : �
         ∙ ap (λ v. cond v (rules.cookie_noted r cid) None) plain)
 
     nop_goes : g.out.sent ≡ None → g.out.ticket ≡ None → is_noted g.out.pdu ≡ false → is_from_queue g.out ≡ false → GoesTo i (handing None s.state) by_rules
-    nop_goes sent ticket plain aside = handed_goes None s.state.cookies s.state.replies s.state.noted (nop_handed i s r h p at.within opens g sent ticket plain aside) (word_of None sent ticket plain)
+    nop_goes sent ticket plain aside = handed_goes None s.state.cookies s.state.replies s.state.noted h.notes r.noted r.handed_notes (nop_handed i s r h p at.within opens g sent ticket plain aside) (words_same plain) (word_of None sent ticket plain)
 
     module _ (rest : List Outgoing) (queue : (link_in r.both.box.links p).queue ≡ g.out ∷ rest) where
       known_first : IsKnownOut h.names r.both.trace r.answers g.out
@@ -157,7 +170,7 @@ module _ (i : Interface) (s : StepsSide) (r : Side) (h : Stands i s r) (cid : �
           let same : k % 2 ^ 64 ≡ k = omega (arith, small) in
           subst (λ m. GoesTo i (handing (find_log_place m s.state.replies) (record s.state { replies = taken m s.state.replies })) by_rules) (sym same)
           (subst (λ (y : Option ℕ). GoesTo i (handing y (record s.state { replies = taken k s.state.replies })) by_rules) (sym c.found)
-          (handed_goes (Some c.place) s.state.cookies (taken k s.state.replies) s.state.noted (reply_handed i s r h p at.within opens g k sent plain from rest queue c)
+          (handed_goes (Some c.place) s.state.cookies (taken k s.state.replies) s.state.noted h.notes r.noted r.handed_notes (reply_handed i s r h p at.within opens g k sent plain from rest queue c) (words_same plain)
           (sym (ap (λ (y : Option ℕ). elim y [ Some place ↦ elim (nth place r.answers) [ Some event ↦ Some (cookie_of r.asked event) | None ↦ None ] | None ↦ elim (g.out.ticket) [ Some t ↦ rules.cookie_of_ticket r t | None ↦ cond (is_noted g.out.pdu) (rules.cookie_noted r cid) None ] ]) sent
           ∙ reply_word i s r h p at.within opens g k sent plain from rest queue c))))
 
@@ -171,7 +184,7 @@ module _ (i : Interface) (s : StepsSide) (r : Side) (h : Stands i s r) (cid : �
           ∙ ap (λ v. cond v (record s.state { cookies = used_more c.c.request s.state.cookies }) s.state) (lt-ltb (uses_at c.c.request s.state.cookies) 4294967295 (few_uses c.c.request)) in
           subst (λ (x : Option Command). GoesTo i (let y : Option ℕ = elim x [ Some d ↦ Some d.request | None ↦ None ] in handing y (elim y [ Some place ↦ used_again place s.state | None ↦ s.state ])) by_rules) (sym c.found)
           (subst (λ (t : State). GoesTo i (handing (Some c.c.request) t) by_rules) (sym again)
-          (handed_goes (Some c.c.request) (used_more c.c.request s.state.cookies) s.state.replies s.state.noted (command_handed i s r h p at.within opens g k sent ticket plain from rest queue c)
+          (handed_goes (Some c.c.request) (used_more c.c.request s.state.cookies) s.state.replies s.state.noted h.notes r.noted r.handed_notes (command_handed i s r h p at.within opens g k sent ticket plain from rest queue c) (words_same plain)
           (sym (ap (λ (y : Option ℕ). elim y [ Some place ↦ elim (nth place r.answers) [ Some event ↦ Some (cookie_of r.asked event) | None ↦ None ] | None ↦ elim (g.out.ticket) [ Some t ↦ rules.cookie_of_ticket r t | None ↦ cond (is_noted g.out.pdu) (rules.cookie_noted r cid) None ] ]) sent
           ∙ ap (λ (y : Option ℕ). elim y [ Some t ↦ rules.cookie_of_ticket r t | None ↦ cond (is_noted g.out.pdu) (rules.cookie_noted r cid) None ]) ticket
           ∙ command_word i s r h p at.within opens g k sent ticket plain from rest queue c))))
@@ -179,13 +192,21 @@ module _ (i : Interface) (s : StepsSide) (r : Side) (h : Stands i s r) (cid : �
       noted_goes : g.out.sent ≡ None → g.out.ticket ≡ None → is_noted g.out.pdu ≡ true → is_from_queue g.out ≡ true
           → GoesTo i (handing (elim (oldest (of_conn p s.state.noted.handed)) [ Some request ↦ request | None ↦ None ]) (record s.state { noted = popped p s.state.noted })) by_rules
       noted_goes sent ticket own from =
-          let f : FirstNoted i s r h p at.within opens g sent ticket own from rest queue = first_noted i s r h p at.within opens g sent ticket own from rest queue in
+          let f : FirstNoted i s r h p at.within opens g apart_links sent ticket own from rest queue = first_noted i s r h p at.within opens g apart_links sent ticket own from rest queue in
           subst (λ (ys : List (Option ℕ)). GoesTo i (handing (elim (oldest ys) [ Some request ↦ request | None ↦ None ]) (record s.state { noted = popped p s.state.noted })) by_rules) (sym f.waiting)
-          (handed_goes (Some f.place) s.state.cookies s.state.replies (popped p s.state.noted) (noted_handed i s r h p at.within opens g sent ticket own from rest queue f)
+          (handed_goes (Some f.place) s.state.cookies s.state.replies (popped p s.state.noted) (notes_now i s r h p at.within opens g apart_links sent ticket own from rest queue f) (without_first (link_in r.both.box.links p).conn 1 r.noted) (r.handed_notes ++ rules_first (link_in r.both.box.links p).conn 1 r.noted)
+          (noted_handed i s r h p at.within opens g apart_links sent ticket own from rest queue f) words_move
           (sym (ap (λ (y : Option ℕ). elim y [ Some place ↦ elim (nth place r.answers) [ Some event ↦ Some (cookie_of r.asked event) | None ↦ None ] | None ↦ elim (g.out.ticket) [ Some t ↦ rules.cookie_of_ticket r t | None ↦ cond (is_noted g.out.pdu) (rules.cookie_noted r cid) None ] ]) sent
           ∙ ap (λ (y : Option ℕ). elim y [ Some t ↦ rules.cookie_of_ticket r t | None ↦ cond (is_noted g.out.pdu) (rules.cookie_noted r cid) None ]) ticket
           ∙ ap (λ v. cond v (rules.cookie_noted r cid) None) own
-          ∙ noted_word i s r h p at.within opens g sent ticket own from rest queue f cid at.is found)))
+          ∙ ap (rules.cookie_noted r) (sym at.is) ∙ noted_word i s r h p at.within opens g apart_links sent ticket own from rest queue f)))
+        where
+          moves : Bool → ℕ → Side
+          moves v conn = cond v (record (with_box r (after_given i.outbox r.both.box (link_in r.both.box.links p) g)) { noted = without_first conn 1 r.noted; handed_notes = r.handed_notes ++ rules_first conn 1 r.noted })
+              (with_box r (after_given i.outbox r.both.box (link_in r.both.box.links p) g))
+
+          words_move : rules.handed_on cid g.out (with_box r (after_given i.outbox r.both.box (link_in r.both.box.links p) g)) ≡ moves true (link_in r.both.box.links p).conn
+          words_move = ap (λ v. moves v cid) own ∙ ap (moves true) (sym at.is)
 
       -- by its kind
       queue_goes : (P : Pdu) → g.out.pdu ≡ P → (sn : Option ℕ) → g.out.sent ≡ sn → (tk : Option ℕ) → g.out.ticket ≡ tk → IsOwnOut P tk sn

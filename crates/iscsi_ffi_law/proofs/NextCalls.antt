@@ -55,7 +55,7 @@ module _ (i : Interface) (s : StepsSide) (r : Side) (h : Stands i s r) (cid : �
   -- what the rules do, by what is found
   abbrev rest_of : Given → rules.Answered
   rest_of x = elim x [
-    | Hands g ↦ record { told = quiet (other i r (outbox.Nexts cid)); answer = rules.Goes g (rules.cookie_handed r cid g.out) }
+    | Hands g ↦ record { told = quiet (rules.handed_on cid g.out (other i r (outbox.Nexts cid))); answer = rules.Goes g (rules.cookie_handed r cid g.out) }
     | Nothing ↦ rules.answers (rules.asleep cid r) rules.NoneGoes
     | IsOver ↦ rules.answers (rules.asleep cid r) rules.NoneIsLeft
   ]
@@ -136,7 +136,7 @@ module _ (i : Interface) (s : StepsSide) (r : Side) (h : Stands i s r) (cid : �
         let opens : is_open (link_in r.both.box.links p) ≡ true = (chosen_from i.outbox r.both.box (link_in r.both.box.links p) g.out picks).open_is in
         let few : nat_le i.unwritten (length (unwritten (link_in r.both.box.links p))) ≡ false = sym (ap (λ v. v && nat_le i.unwritten (length (unwritten (link_in r.both.box.links p)))) opens) ∙ free in
         let less : length (unwritten (link_in r.both.box.links p)) < i.unwritten = leb-false i.unwritten (length (unwritten (link_in r.both.box.links p))) few in
-        subst (λ (b : Box). GoesTo i (hand_out cid p (handed_said g) s) (record { told = quiet (with_box r b); answer = rules.Goes g (rules.cookie_handed r cid g.out) }))
+        subst (λ (b : Box). GoesTo i (hand_out cid p (handed_said g) s) (record { told = quiet (rules.handed_on cid g.out (with_box r b)); answer = rules.Goes g (rules.cookie_handed r cid g.out) }))
         (sym (box_is i s r h cid fit few_uses few_replies p at opens (omega (arith, less, many_same opens)) g is picks))
         (hand_out_goes i s r h cid fit few_uses few_replies p at opens (omega (arith, less, many_same opens)) g is picks)
 

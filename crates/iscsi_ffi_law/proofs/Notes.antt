@@ -1,4 +1,4 @@
--- The own PDUs that are of no command: which ones the rules need no more.
+-- The own PDUs that are of no command: which ones the rules need no more, by how many of each connection are left.
 use Rattle.std.proofs.Common.{◌≡◌, ℕ, zero, suc, ◌+◌, ◌-◌, ◌==◌, ◌&&◌, ◌||◌, ⊎_elim, not, cond, Bool, true, false, List, [], ◌∷◌, ◌++◌, length, map, filter, replicate, refl, ap, sym, ◌∙◌, arith, length-append, ne_eqb}
 use Rattle.std.specs.List.{list_any}
 use Rattle.std.proofs.lemmas.Bool.{false≢true, eqb-true, eqb-false, eq-eqb, or_parts, cases_eq}
@@ -6,7 +6,7 @@ use Rattle.std.proofs.lemmas.List.{length-map, length-replicate}
 use Rattle.iscsi_outbox_rules.specs.rules.Boxes.{Link}
 use Rattle.iscsi_outbox_law.specs.Pairs.{EachOf}
 use Rattle.iscsi_outbox_law.proofs.PlaceLemmas.{AreApart, conns_of}
-use Rattle.iscsi_ffi_rules.specs.rules.Needs.{count_noted, needless_on, noted_on, without_first}
+use Rattle.iscsi_ffi_rules.specs.rules.Needs.{needless_on, noted_on, without_first}
 use Rattle.iscsi_ffi_rules.specs.rules.Run.{parted}
 use Rattle.iscsi_ffi_rules.specs.rules.Sides.{Noted}
 use Rattle.iscsi_ffi_law.specs.Names.{Note, noted_of}
@@ -20,7 +20,7 @@ noted_here conn (n ∷ notes) = by_test (noted_here conn notes) (n.conn == conn)
     by_test later true = ap (λ ns. noted_of n ∷ ns) later
     by_test later false = later
 
-module _ (used : Note → Bool) where
+module _ (left : Link → ℕ) (used : Note → Bool) where
   is_out : ℕ → Note → Bool
   is_out conn n = n.conn == conn && not (used n)
 
@@ -58,14 +58,14 @@ module _ (used : Note → Bool) where
   -- those of a connection, as the rules count them
   pub record HasFlags (notes : List Note) (l : Link) : Type 0 where
     pub unused : ℕ
-    pub flags : map used (filter (λ (n : Note). n.conn == l.conn) notes) ≡ replicate unused false ++ replicate (count_noted l) true
+    pub flags : map used (filter (λ (n : Note). n.conn == l.conn) notes) ≡ replicate unused false ++ replicate (left l) true
 
-  needless_flags : (notes : List Note) (l : Link) (f : HasFlags notes l) → needless_on l (map noted_of notes) ≡ f.unused
+  needless_flags : (notes : List Note) (l : Link) (f : HasFlags notes l) → needless_on left l (map noted_of notes) ≡ f.unused
   needless_flags notes l f =
       let long : length (noted_on l.conn (map noted_of notes)) ≡ length (filter (λ (n : Note). n.conn == l.conn) notes)
       = ap length (noted_here l.conn notes) ∙ length-map (filter (λ (n : Note). n.conn == l.conn) notes) noted_of in
-      let many : length (map used (filter (λ (n : Note). n.conn == l.conn) notes)) ≡ f.unused + count_noted l
-      = ap length f.flags ∙ length-append (replicate f.unused false) (replicate (count_noted l) true) ∙ ap (λ k. k + length (replicate (count_noted l) true)) (length-replicate f.unused false) ∙ ap (λ k. f.unused + k) (length-replicate (count_noted l) true) in
+      let many : length (map used (filter (λ (n : Note). n.conn == l.conn) notes)) ≡ f.unused + left l
+      = ap length f.flags ∙ length-append (replicate f.unused false) (replicate (left l) true) ∙ ap (λ k. k + length (replicate (left l) true)) (length-replicate f.unused false) ∙ ap (λ k. f.unused + k) (length-replicate (left l) true) in
       omega (arith, long, many, length-map (filter (λ (n : Note). n.conn == l.conn) notes) used)
 
   -- of connections that were passed
@@ -117,16 +117,16 @@ module _ (used : Note → Bool) where
       by_test later true is = ap (λ xs. cond (p n) (n ∷ xs) xs) later ∙ ap (λ v. cond v (n ∷ filter both notes) (filter both notes)) (sym (same n ∙ ap (λ v. v && p n) is))
       by_test later false is = later ∙ ap (λ v. cond v (n ∷ filter both notes) (filter both notes)) (sym (same n ∙ ap (λ v. v && p n) is))
 
-  pub parted_needed : (links : List Link) (notes : List Note) → AreApart (conns_of links) → EachOf (HasFlags notes) links → (parted links (map noted_of notes)).needed ≡ map noted_of (filter (is_left links) notes)
+  pub parted_needed : (links : List Link) (notes : List Note) → AreApart (conns_of links) → EachOf (HasFlags notes) links → (parted left links (map noted_of notes)).needed ≡ map noted_of (filter (is_left links) notes)
   parted_needed [] notes apart all = ap (map noted_of) (sym (every notes))
     where
       every : (ns : List Note) → filter (is_left []) ns ≡ ns
       every [] = refl
       every (n ∷ ns) = ap (λ xs. n ∷ xs) (every ns)
   parted_needed (l ∷ links) notes apart all =
-      let here : without_first l.conn (needless_on l (map noted_of notes)) (map noted_of notes) ≡ map noted_of (filter (λ (n : Note). not (n.conn == l.conn && not (used n))) notes)
-      = ap (λ k. without_first l.conn k (map noted_of notes)) (needless_flags notes l all.0) ∙ without_unused l.conn all.0.unused (count_noted l) notes all.0.flags in
-      ap (λ ns. (parted links ns).needed) here
+      let here : without_first l.conn (needless_on left l (map noted_of notes)) (map noted_of notes) ≡ map noted_of (filter (λ (n : Note). not (n.conn == l.conn && not (used n))) notes)
+      = ap (λ k. without_first l.conn k (map noted_of notes)) (needless_flags notes l all.0) ∙ without_unused l.conn all.0.unused (left l) notes all.0.flags in
+      ap (λ ns. (parted left links ns).needed) here
       ∙ parted_needed links (filter (λ (n : Note). not (n.conn == l.conn && not (used n))) notes) apart.1 (flags_on links l.conn notes apart.0 all.1)
       ∙ ap (map noted_of) (filter_twice (is_left links) (λ (n : Note). not (n.conn == l.conn && not (used n))) (is_left (l ∷ links)) notes both)
     where

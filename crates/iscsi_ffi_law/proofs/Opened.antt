@@ -1,5 +1,5 @@
 -- What the steps begin with.
-use Rattle.std.proofs.Common.{◌≡◌, ℕ, ◌+◌, ◌<◌, ◌==◌, cond, find, nat_le, unwrap_or, Bool, true, false, List, [], ◌∷◌, ◌++◌, length, map, count_by, replicate, get_or, Option, Some, None, refl, ap, sym, subst, arith, ◌≤◌, zero, suc}
+use Rattle.std.proofs.Common.{◌≡◌, ℕ, ◌+◌, ◌<◌, ◌==◌, cond, find, nat_le, unwrap_or, Bool, true, false, List, [], ◌∷◌, length, map, count_by, replicate, get_or, Option, Some, None, refl, ap, sym, subst, arith, ◌≤◌, zero, suc}
 use Rattle.std.proofs.lemmas.List.{get_or-map, length-map, length-replicate}
 use Rattle.iscsi_outbox_rules.specs.rules.Run.{new_link}
 use Rattle.iscsi_outbox_law.specs.Pairs.{EachOf, PairsOf}
@@ -19,14 +19,15 @@ use Rattle.iscsi_ffi_law.specs.Parts.{IsAbout, IsAnswered, IsConn, IsFunctionAt,
 use Rattle.iscsi_ffi_law.specs.Stands.{Stands}
 use Rattle.iscsi_ffi_law.specs.Uses.{count_held, count_functions, count_replies, count_noted, count_unwritten, is_place, uses_of}
 use Rattle.iscsi_ffi_law.proofs.Lists.{conn_new, lists_new, none_placed}
+use Rattle.iscsi_ffi_law.proofs.NotePlaces.{notes_whole}
 
 none_told : {A : Type 0} (xs : List A) → replicate (length xs) false ≡ map (λ (x : A). false) xs
 none_told [] = refl
 none_told (x ∷ xs) = ap (λ (bs : List Bool). false ∷ bs) (none_told xs)
 
-noted_none : (xs ys : List (Option ℕ)) → ys ≡ [] → noted_in xs [] ++ ys ≡ []
-noted_none [] ys none = none
-noted_none (x ∷ xs) ys none = none
+noted_none : (xs : List (Option ℕ)) → noted_in xs [] ≡ []
+noted_none [] = refl
+noted_none (x ∷ xs) = refl
 
 -- there is a place for a number
 some_size : (sizes : List ℕ) (window : ℕ) → EachOf (λ (n : ℕ). 0 < n) sizes → 0 < unwrap_or (find (λ n. nat_le window n) sizes) 1024
@@ -71,7 +72,7 @@ module _ (i : Interface) where
           covered = tt;
         };
         written = subst (λ xs. PairsOf (IsAbout [] [] (opened i) conn) xs []) (sym unwritten) tt;
-        noted = sym (noted_none (of_conn p (opened_state i).unwritten.handed) (of_conn p (opened_state i).noted.handed) noted);
+        noted = notes_whole [] conn (of_conn p (opened_state i).noted.handed) (noted_in (of_conn p (opened_state i).unwritten.handed) []) (sym noted) (sym (noted_none (of_conn p (opened_state i).unwritten.handed)));
       }
 
   pub stands_begun : Stands i (begun i) (opened i)
@@ -96,7 +97,7 @@ module _ (i : Interface) where
     flags = record { awake = none_told (cids i); over = none_told (cids i) };
     requests = record {
       asked = refl;
-      noted = refl;
+      noted = record { waiting_are = refl; handed_are = refl };
       apart = record { places = λ place. omega arith; events = λ event. omega arith };
       kept = λ place cookie. refl;
       counted = record { once = λ place. omega arith; used = tt; unused = λ place free. refl };

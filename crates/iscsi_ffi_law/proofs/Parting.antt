@@ -1,11 +1,11 @@
--- An item by which a Logout closes the connection on which it came: commands leave, held requests are taken out, it is answered, and then the connection is closed.
-use Rattle.std.proofs.Common.{◌≡◌, ℕ, ◌==◌, ◌||◌, not, cond, Bool, true, false, List, [], ◌∷◌, ◌++◌, map, filter, filter_map, Option, Some, None, refl, ap, sym, ◌∙◌}
+-- An item by which a Logout closes: commands leave, held requests are taken out, it is answered, and then a connection is closed, or the session, or both.
+use Rattle.std.proofs.Common.{◌≡◌, ℕ, ◌==◌, ◌||◌, cond, Bool, true, false, List, [], ◌∷◌, ◌++◌, map, filter_map, Option, Some, None, refl, ap, sym, ◌∙◌}
 use Rattle.iscsi_ffi_law.specs.Arrived.{emptying}
 use Rattle.iscsi_ffi_law.proofs.ClosingBox.{IsPartingPart}
+use Rattle.iscsi_ffi_law.proofs.ClosingTrace.{closes_admitted, closes_each, closes_held, closes_waits, waiting_off}
 use Rattle.iscsi_outbox_rules.specs.rules.Items.{conns_closed, executing, reply_sent as sent_by, task_entered, ticket_enabled, ticket_left, tickets_left}
 use Rattle.iscsi_outbox_rules.specs.rules.Boxes.{Link}
 use Rattle.iscsi_wire.specs.declared.request.Request.{Request}
-use Rattle.std.proofs.lemmas.Bool.{false≢true}
 use Rattle.iscsi_history.proofs.BoolLemmas.{or_false}
 use Rattle.std.specs.List.{cons_option, flat_map, list_any}
 use Rattle.std.proofs.lemmas.List.{append-nil}
@@ -17,7 +17,7 @@ use Rattle.iscsi_history.specs.declared.effect.Effect.TheVariants.{CloseConn, Cl
 use Rattle.iscsi_history.specs.promises.Replies.{executed_in, reply_sent}
 use Rattle.iscsi_history.specs.rules.Run.{effects_of_item, effects_of_mark, newly_enabled, stat_sn_of}
 use Rattle.iscsi_history.specs.rules.Settings.{Setting}
-use Rattle.iscsi_history.specs.rules.Trace.{Arrival, ClosesConn, ClosesSession, Command, Empties, Leaves, Mark, Sends, Trace, admits_at, delivers_number, empties_number, enters, first_of, held, is_among, is_delivered, is_emptied, leaves_ticket, shown, waiting, waiting_through}
+use Rattle.iscsi_history.specs.rules.Trace.{Arrival, ClosesConn, ClosesSession, Command, Empties, Leaves, Mark, Sends, Trace, admits_at, delivers_number, empties_number, enters, first_of, held, is_among, is_delivered, is_emptied, leaves_ticket, number_received, shown, waiting, waiting_through}
 use Rattle.iscsi_history.proofs.Forms.{AfterWaiting, AtArrival, AtTurn, Start, start_mark}
 use Rattle.iscsi_ffi_rules.specs.rules.Happening.{answers_in, leaving}
 use Rattle.iscsi_ffi_rules.specs.rules.Needs.{admitted_by}
@@ -26,22 +26,27 @@ use Rattle.iscsi_ffi_law.proofs.Leaving.{leave_effects}
 use Rattle.iscsi_ffi_law.proofs.Plain.{plain_item, start_effect}
 use Rattle.iscsi_ffi_law.proofs.TakingOut.{empty_effects, emptied_by}
 
--- what closes: the connection, and the session
-abbrev pub close_marks : ℕ → Bool → Bool → List Mark
-close_marks cid closing ends = cond closing (ClosesConn cid ∷ []) [] ++ cond ends (ClosesSession ∷ []) []
+-- a connection that is closed
+abbrev pub as_conns : Option ℕ → List ℕ
+as_conns (Some conn) = conn ∷ []
+as_conns None = []
 
-abbrev pub parted_marks : Arrival → List Command → List Arrival → Reply → Bool → Bool → List Mark
-parted_marks a cs bs reply closing ends = map Leaves cs ++ (map Empties bs ++ (Sends (connection_of a.request) reply ∷ close_marks (connection_of a.request) closing ends))
+-- what closes: a connection, and the session
+abbrev pub close_marks : Option ℕ → Bool → List Mark
+close_marks closing ends = map ClosesConn (as_conns closing) ++ cond ends (ClosesSession ∷ []) []
 
-abbrev pub parted_item : Start → Arrival → List Command → List Arrival → Reply → Bool → Bool → List Mark
+abbrev pub parted_marks : Arrival → List Command → List Arrival → Reply → Option ℕ → Bool → List Mark
+parted_marks a cs bs reply closing ends = map Leaves cs ++ (map Empties bs ++ (Sends (connection_of a.request) reply ∷ close_marks closing ends))
+
+abbrev pub parted_item : Start → Arrival → List Command → List Arrival → Reply → Option ℕ → Bool → List Mark
 parted_item start a cs bs reply closing ends = start_mark start a ∷ parted_marks a cs bs reply closing ends
 
 -- .. and its effects
-abbrev pub close_effects : ℕ → Bool → Bool → List Effect
-close_effects cid closing ends = cond closing (CloseConn cid ∷ []) [] ++ cond ends (CloseSession ∷ []) []
+abbrev pub close_effects : Option ℕ → Bool → List Effect
+close_effects closing ends = map CloseConn (as_conns closing) ++ cond ends (CloseSession ∷ []) []
 
-abbrev pub parted_effects : ℕ → Start → Arrival → List Command → List Arrival → Reply → Bool → Bool → List Command → List Effect
-parted_effects sn start a cs bs reply closing ends ns = start_effect start a.request ∷ (leave_effects cs ++ (map (λ (b : Arrival). Empty (wire b.number)) bs ++ (Send (connection_of a.request) sn reply ∷ (close_effects (connection_of a.request) closing ends ++ enables ns))))
+abbrev pub parted_effects : ℕ → Start → Arrival → List Command → List Arrival → Reply → Option ℕ → Bool → List Command → List Effect
+parted_effects sn start a cs bs reply closing ends ns = start_effect start a.request ∷ (leave_effects cs ++ (map (λ (b : Arrival). Empty (wire b.number)) bs ++ (Send (connection_of a.request) sn reply ∷ (close_effects closing ends ++ enables ns))))
 
 -- ---- what is seen of its marks
 
@@ -86,32 +91,32 @@ waits_past_empties [] ms ws = refl
 waits_past_empties (b ∷ bs) ms ws = waits_past_empties bs ms ws
 
 -- the last ones
-abbrev last_marks : ℕ → Reply → Bool → Bool → List Mark
-last_marks cid reply closing ends = Sends cid reply ∷ close_marks cid closing ends
+abbrev last_marks : ℕ → Reply → Option ℕ → Bool → List Mark
+last_marks cid reply closing ends = Sends cid reply ∷ close_marks closing ends
 
 module _ {A : Type 0} (f : Mark → Option A) (sends : (cid : ℕ) (reply : Reply) → f (Sends cid reply) ≡ None) (closes : (cid : ℕ) → f (ClosesConn cid) ≡ None) (session : f ClosesSession ≡ None) where
-  none_last : (cid : ℕ) (reply : Reply) (closing ends : Bool) → filter_map f (last_marks cid reply closing ends) ≡ []
-  none_last cid reply closing ends = ap (λ x. cons_option x (filter_map f (close_marks cid closing ends))) (sends cid reply) ∙ by_closing closing ends
+  none_last : (cid : ℕ) (reply : Reply) (closing : Option ℕ) (ends : Bool) → filter_map f (last_marks cid reply closing ends) ≡ []
+  none_last cid reply closing ends = ap (λ x. cons_option x (filter_map f (close_marks closing ends))) (sends cid reply) ∙ by_closing closing ends
     where
       by_ends : (e : Bool) → filter_map f (cond e (ClosesSession ∷ []) []) ≡ []
       by_ends true = ap (λ x. cons_option x []) session
       by_ends false = refl
 
-      by_closing : (c e : Bool) → filter_map f (close_marks cid c e) ≡ []
-      by_closing true e = ap (λ x. cons_option x (filter_map f (cond e (ClosesSession ∷ []) []))) (closes cid) ∙ by_ends e
-      by_closing false e = by_ends e
+      by_closing : (c : Option ℕ) (e : Bool) → filter_map f (close_marks c e) ≡ []
+      by_closing (Some conn) e = ap (λ x. cons_option x (filter_map f (cond e (ClosesSession ∷ []) []))) (closes conn) ∙ by_ends e
+      by_closing None e = by_ends e
 
 module _ (p : Mark → Bool) (sends : (cid : ℕ) (reply : Reply) → p (Sends cid reply) ≡ false) (closes : (cid : ℕ) → p (ClosesConn cid) ≡ false) (session : p ClosesSession ≡ false) where
-  never_last : (cid : ℕ) (reply : Reply) (closing ends : Bool) → list_any p (last_marks cid reply closing ends) ≡ false
-  never_last cid reply closing ends = ap (λ v. v || list_any p (close_marks cid closing ends)) (sends cid reply) ∙ by_closing closing ends
+  never_last : (cid : ℕ) (reply : Reply) (closing : Option ℕ) (ends : Bool) → list_any p (last_marks cid reply closing ends) ≡ false
+  never_last cid reply closing ends = ap (λ v. v || list_any p (close_marks closing ends)) (sends cid reply) ∙ by_closing closing ends
     where
       by_ends : (e : Bool) → list_any p (cond e (ClosesSession ∷ []) []) ≡ false
       by_ends true = ap (λ v. v || false) session
       by_ends false = refl
 
-      by_closing : (c e : Bool) → list_any p (close_marks cid c e) ≡ false
-      by_closing true e = ap (λ v. v || list_any p (cond e (ClosesSession ∷ []) [])) (closes cid) ∙ by_ends e
-      by_closing false e = by_ends e
+      by_closing : (c : Option ℕ) (e : Bool) → list_any p (close_marks c e) ≡ false
+      by_closing (Some conn) e = ap (λ v. v || list_any p (cond e (ClosesSession ∷ []) [])) (closes conn) ∙ by_ends e
+      by_closing None e = by_ends e
 
 -- ---- what the trace has as requests are taken out
 
@@ -139,12 +144,18 @@ emptied_held (b ∷ bs) u n =
     turned false true z = refl
     turned false false z = refl
 
-module _ (start : Start) (a : Arrival) (cs : List Command) (bs : List Arrival) (reply : Reply) (closing ends : Bool) where
+module _ (start : Start) (a : Arrival) (cs : List Command) (bs : List Arrival) (reply : Reply) (closing : Option ℕ) (ends : Bool) where
   abbrev cid : ℕ
   cid = connection_of a.request
 
   abbrev last : List Mark
   last = last_marks (connection_of a.request) reply closing ends
+
+  -- no number is received
+  pub receives_parted : start ≡ AtArrival → filter_map number_received (parted_item start a cs bs reply closing ends) ≡ []
+  receives_parted is =
+      ap (λ x. filter_map number_received (parted_item x a cs bs reply closing ends)) is
+      ∙ past_leaves number_received (λ c. refl) cs (map Empties bs ++ last) ∙ past_empties number_received (λ b. refl) bs last ∙ none_last number_received (λ x y. refl) (λ x. refl) refl cid reply closing ends
 
   pub enters_parted : filter_map enters (parted_item start a cs bs reply closing ends) ≡ []
   enters_parted = by_start start
@@ -202,11 +213,11 @@ module _ (start : Start) (a : Arrival) (cs : List Command) (bs : List Arrival) (
   pub answers_parted : (event : ℕ) → answers_in event (parted_item start a cs bs reply closing ends) ≡ a.event ∷ []
   answers_parted event = by_start start
     where
-      by_ends : (c e : Bool) → filter_map reply_sent (last_marks cid reply c e) ≡ reply ∷ []
-      by_ends true true = refl
-      by_ends true false = refl
-      by_ends false true = refl
-      by_ends false false = refl
+      by_ends : (c : Option ℕ) (e : Bool) → filter_map reply_sent (last_marks cid reply c e) ≡ reply ∷ []
+      by_ends (Some conn) true = refl
+      by_ends (Some conn) false = refl
+      by_ends None true = refl
+      by_ends None false = refl
 
       rest : filter_map reply_sent (parted_marks a cs bs reply closing ends) ≡ reply ∷ []
       rest = past_leaves reply_sent (λ c. refl) cs (map Empties bs ++ last) ∙ past_empties reply_sent (λ b. refl) bs last ∙ by_ends closing ends
@@ -222,24 +233,24 @@ module _ (start : Start) (a : Arrival) (cs : List Command) (bs : List Arrival) (
     abbrev begun_trace : Trace
     begun_trace = plain_item start a None None None ∷ t
 
-    -- each that is taken out, and then the connection is closed
-    abbrev pub parted_trace : Trace
-    parted_trace = (ClosesConn cid ∷ []) ∷ emptied_by bs begun_trace
+    -- each that is taken out, and then these are closed
+    abbrev pub parted_trace : List ℕ → Trace
+    parted_trace conns = closes_each conns (emptied_by bs begun_trace)
 
-    pub admitted_parted : shown admitted_by (parted_item start a cs bs reply closing ends ∷ t) ≡ shown admitted_by parted_trace
-    admitted_parted =
+    pub admitted_parted : (conns : List ℕ) → shown admitted_by (parted_item start a cs bs reply closing ends ∷ t) ≡ shown admitted_by (parted_trace conns)
+    admitted_parted conns =
         ap (λ xs. shown admitted_by t ++ xs) (admits_parted start) ∙ append-nil (shown admitted_by t)
-        ∙ sym (append-nil (shown admitted_by (emptied_by bs begun_trace)) ∙ emptied_admitted bs begun_trace ∙ by_start start)
+        ∙ sym (closes_admitted conns (emptied_by bs begun_trace) ∙ emptied_admitted bs begun_trace ∙ by_start start)
       where
         by_start : (x : Start) → shown admitted_by (plain_item x a None None None ∷ t) ≡ shown admitted_by t
         by_start AtTurn = append-nil (shown admitted_by t)
         by_start AtArrival = append-nil (shown admitted_by t)
         by_start AfterWaiting = append-nil (shown admitted_by t)
 
-    pub held_parted : (n : ℕ) → held (parted_item start a cs bs reply closing ends ∷ t) n ≡ held parted_trace n
-    held_parted n =
+    pub held_parted : (conns : List ℕ) (n : ℕ) → held (parted_item start a cs bs reply closing ends ∷ t) n ≡ held (parted_trace conns) n
+    held_parted conns n =
         by_start start
-        ∙ sym (ap (if_held (is_delivered (emptied_by bs begun_trace) n || is_emptied (emptied_by bs begun_trace) n)) (append-nil (shown (admits_at n) (emptied_by bs begun_trace))) ∙ emptied_held bs begun_trace n ∙ begun_held start)
+        ∙ sym (closes_held conns (emptied_by bs begun_trace) n ∙ emptied_held bs begun_trace n ∙ begun_held start)
       where
         empties : list_any (empties_number n) (parted_marks a cs bs reply closing ends) ≡ list_any (λ (b : Arrival). b.number == n) bs
         empties = any_past_leaves (empties_number n) (λ c. refl) cs (map Empties bs ++ last) ∙ empties_seen n bs last (never_last (empties_number n) (λ x y. refl) (λ x. refl) refl cid reply closing ends)
@@ -276,28 +287,21 @@ module _ (start : Start) (a : Arrival) (cs : List Command) (bs : List Arrival) (
         begun_held AtArrival = ap (if_held (is_delivered t n || (list_any (λ (b : Arrival). b.number == n) bs || is_emptied t n))) (append-nil (shown (admits_at n) t))
         begun_held AfterWaiting = ap (if_held (is_delivered t n || (list_any (λ (b : Arrival). b.number == n) bs || is_emptied t n))) (append-nil (shown (admits_at n) t))
 
-    -- where the session is closed, nothing else waits
-    pub waits_parted : (closing || ends) ≡ true → (ends ≡ true → filter (λ (b : Arrival). not (connection_of b.request == cid)) (waiting begun_trace) ≡ []) → waiting (parted_item start a cs bs reply closing ends ∷ t) ≡ waiting parted_trace
-    waits_parted some alone =
+    -- so these functions wait, if the marks that close drop those of these connections
+    pub waits_parted : (conns : List ℕ) → waiting_through (close_marks closing ends) (waiting begun_trace) ≡ waiting_off conns (waiting begun_trace) → waiting (parted_item start a cs bs reply closing ends ∷ t) ≡ waiting (parted_trace conns)
+    waits_parted conns drops =
         by_start start
         ∙ waits_past_leaves cs (map Empties bs ++ last) (waiting begun_trace) ∙ waits_past_empties bs last (waiting begun_trace)
-        ∙ by_closing closing ends some alone
-        ∙ ap (filter (λ (b : Arrival). not (connection_of b.request == cid))) (sym (emptied_waits bs begun_trace))
+        ∙ drops ∙ ap (waiting_off conns) (sym (emptied_waits bs begun_trace)) ∙ sym (closes_waits conns (emptied_by bs begun_trace))
       where
         by_start : (x : Start) → waiting (parted_item x a cs bs reply closing ends ∷ t) ≡ waiting_through (parted_marks a cs bs reply closing ends) (waiting (plain_item x a None None None ∷ t))
         by_start AtTurn = refl
         by_start AtArrival = refl
         by_start AfterWaiting = refl
 
-        by_closing : (c e : Bool) → (c || e) ≡ true → (e ≡ true → filter (λ (b : Arrival). not (connection_of b.request == cid)) (waiting begun_trace) ≡ []) → waiting_through (last_marks cid reply c e) (waiting begun_trace) ≡ filter (λ (b : Arrival). not (connection_of b.request == cid)) (waiting begun_trace)
-        by_closing true true k none = sym (none refl)
-        by_closing true false k none = refl
-        by_closing false true k none = sym (none refl)
-        by_closing false false k none = absurd (false≢true k)
-
 -- ---- what leaves by it, and the requests that it takes out
 
-pub leaves_parted : (a : Arrival) (cs : List Command) (bs : List Arrival) (reply : Reply) (closing ends : Bool) → filter_map leaving (parted_marks a cs bs reply closing ends) ≡ cs
+pub leaves_parted : (a : Arrival) (cs : List Command) (bs : List Arrival) (reply : Reply) (closing : Option ℕ) (ends : Bool) → filter_map leaving (parted_marks a cs bs reply closing ends) ≡ cs
 leaves_parted a cs bs reply closing ends =
     let cid : ℕ = connection_of a.request in
     leaves_seen cs (map Empties bs ++ last_marks cid reply closing ends) (past_empties leaving (λ b. refl) bs (last_marks cid reply closing ends) ∙ none_last leaving (λ x y. refl) (λ x. refl) refl cid reply closing ends)
@@ -306,29 +310,29 @@ taken_seen : (bs : List Arrival) (ms : List Mark) → filter_map emptying ms ≡
 taken_seen [] ms none = none
 taken_seen (b ∷ bs) ms none = ap (λ xs. b ∷ xs) (taken_seen bs ms none)
 
-pub empties_parted : (a : Arrival) (cs : List Command) (bs : List Arrival) (reply : Reply) (closing ends : Bool) → filter_map emptying (parted_marks a cs bs reply closing ends) ≡ bs
+pub empties_parted : (a : Arrival) (cs : List Command) (bs : List Arrival) (reply : Reply) (closing : Option ℕ) (ends : Bool) → filter_map emptying (parted_marks a cs bs reply closing ends) ≡ bs
 empties_parted a cs bs reply closing ends =
     let cid : ℕ = connection_of a.request in
     past_leaves emptying (λ c. refl) cs (map Empties bs ++ last_marks cid reply closing ends) ∙ taken_seen bs (last_marks cid reply closing ends) (none_last emptying (λ x y. refl) (λ x. refl) refl cid reply closing ends)
 
-pub emptied_parted : (start : Start) (a : Arrival) (cs : List Command) (bs : List Arrival) (reply : Reply) (closing ends : Bool) → filter_map emptying (parted_item start a cs bs reply closing ends) ≡ bs
+pub emptied_parted : (start : Start) (a : Arrival) (cs : List Command) (bs : List Arrival) (reply : Reply) (closing : Option ℕ) (ends : Bool) → filter_map emptying (parted_item start a cs bs reply closing ends) ≡ bs
 emptied_parted AtTurn a cs bs reply closing ends = empties_parted a cs bs reply closing ends
 emptied_parted AtArrival a cs bs reply closing ends = empties_parted a cs bs reply closing ends
 emptied_parted AfterWaiting a cs bs reply closing ends = empties_parted a cs bs reply closing ends
 
 -- ---- its effects
 
-marks_effects : (o : Setting) (t : Trace) (a : Arrival) (cs : List Command) (bs : List Arrival) (reply : Reply) (closing ends : Bool) (more : List Effect)
+marks_effects : (o : Setting) (t : Trace) (a : Arrival) (cs : List Command) (bs : List Arrival) (reply : Reply) (closing : Option ℕ) (ends : Bool) (more : List Effect)
     → flat_map (effects_of_mark o t) (parted_marks a cs bs reply closing ends) ++ more
-    ≡ leave_effects cs ++ (empty_effects bs ++ (Send (connection_of a.request) (stat_sn_of o t (connection_of a.request)) reply ∷ (close_effects (connection_of a.request) closing ends ++ more)))
-marks_effects o t a [] [] reply true true more = refl
-marks_effects o t a [] [] reply true false more = refl
-marks_effects o t a [] [] reply false true more = refl
-marks_effects o t a [] [] reply false false more = refl
+    ≡ leave_effects cs ++ (empty_effects bs ++ (Send (connection_of a.request) (stat_sn_of o t (connection_of a.request)) reply ∷ (close_effects closing ends ++ more)))
+marks_effects o t a [] [] reply (Some conn) true more = refl
+marks_effects o t a [] [] reply (Some conn) false more = refl
+marks_effects o t a [] [] reply None true more = refl
+marks_effects o t a [] [] reply None false more = refl
 marks_effects o t a [] (b ∷ bs) reply closing ends more = ap (λ es. Empty (wire b.number) ∷ es) (marks_effects o t a [] bs reply closing ends more)
 marks_effects o t a (c ∷ cs) bs reply closing ends more = ap (λ es. Leave c.ticket c.unit ∷ es) (marks_effects o t a cs bs reply closing ends more)
 
-pub effects_parted : (o : Setting) (t : Trace) (start : Start) (a : Arrival) (cs : List Command) (bs : List Arrival) (reply : Reply) (closing ends : Bool)
+pub effects_parted : (o : Setting) (t : Trace) (start : Start) (a : Arrival) (cs : List Command) (bs : List Arrival) (reply : Reply) (closing : Option ℕ) (ends : Bool)
     → effects_of_item o t (parted_item start a cs bs reply closing ends) ≡ parted_effects (stat_sn_of o t (connection_of a.request)) start a cs bs reply closing ends (newly_enabled o t (parted_item start a cs bs reply closing ends))
 effects_parted o t AtTurn a cs bs reply closing ends = ap (λ es. start_effect AtTurn a.request ∷ es) (marks_effects o t a cs bs reply closing ends (enables (newly_enabled o t (parted_item AtTurn a cs bs reply closing ends))))
 effects_parted o t AtArrival a cs bs reply closing ends = ap (λ es. start_effect AtArrival a.request ∷ es) (marks_effects o t a cs bs reply closing ends (enables (newly_enabled o t (parted_item AtArrival a cs bs reply closing ends))))
@@ -372,47 +376,47 @@ module _ (links : List Link) where
   closed_past_start AfterWaiting q rest = refl
 
 -- the connections that it closes
-abbrev pub conns_parted : List Link → ℕ → Bool → Bool → List ℕ
-conns_parted links cid closing ends = cond closing (cid ∷ []) [] ++ cond ends (map (λ (l : Link). l.conn) links) []
+abbrev pub conns_parted : List Link → Option ℕ → Bool → List ℕ
+conns_parted links closing ends = as_conns closing ++ cond ends (map (λ (l : Link). l.conn) links) []
 
 module _ (cid sn : ℕ) (reply : Reply) (ns : List Command) where
-  abbrev last_effects : Bool → Bool → List Effect
-  last_effects closing ends = Send cid sn reply ∷ (close_effects cid closing ends ++ enables ns)
+  abbrev last_effects : Option ℕ → Bool → List Effect
+  last_effects closing ends = Send cid sn reply ∷ (close_effects closing ends ++ enables ns)
 
-  enabled_last : (closing ends : Bool) → filter_map ticket_enabled (last_effects closing ends) ≡ tickets_of ns
-  enabled_last true true = enabled_tickets ns
-  enabled_last true false = enabled_tickets ns
-  enabled_last false true = enabled_tickets ns
-  enabled_last false false = enabled_tickets ns
+  enabled_last : (closing : Option ℕ) (ends : Bool) → filter_map ticket_enabled (last_effects closing ends) ≡ tickets_of ns
+  enabled_last (Some conn) true = enabled_tickets ns
+  enabled_last (Some conn) false = enabled_tickets ns
+  enabled_last None true = enabled_tickets ns
+  enabled_last None false = enabled_tickets ns
 
-  left_last : (closing ends : Bool) → tickets_left (last_effects closing ends) ≡ []
-  left_last true true = shows_none ticket_left ns (λ ticket unit. refl)
-  left_last true false = shows_none ticket_left ns (λ ticket unit. refl)
-  left_last false true = shows_none ticket_left ns (λ ticket unit. refl)
-  left_last false false = shows_none ticket_left ns (λ ticket unit. refl)
+  left_last : (closing : Option ℕ) (ends : Bool) → tickets_left (last_effects closing ends) ≡ []
+  left_last (Some conn) true = shows_none ticket_left ns (λ ticket unit. refl)
+  left_last (Some conn) false = shows_none ticket_left ns (λ ticket unit. refl)
+  left_last None true = shows_none ticket_left ns (λ ticket unit. refl)
+  left_last None false = shows_none ticket_left ns (λ ticket unit. refl)
 
-  entering_last : (q : Request) (closing ends : Bool) → filter_map (task_entered q) (last_effects closing ends) ≡ []
-  entering_last q true true = shows_none (task_entered q) ns (λ ticket unit. refl)
-  entering_last q true false = shows_none (task_entered q) ns (λ ticket unit. refl)
-  entering_last q false true = shows_none (task_entered q) ns (λ ticket unit. refl)
-  entering_last q false false = shows_none (task_entered q) ns (λ ticket unit. refl)
+  entering_last : (q : Request) (closing : Option ℕ) (ends : Bool) → filter_map (task_entered q) (last_effects closing ends) ≡ []
+  entering_last q (Some conn) true = shows_none (task_entered q) ns (λ ticket unit. refl)
+  entering_last q (Some conn) false = shows_none (task_entered q) ns (λ ticket unit. refl)
+  entering_last q None true = shows_none (task_entered q) ns (λ ticket unit. refl)
+  entering_last q None false = shows_none (task_entered q) ns (λ ticket unit. refl)
 
-  closed_last : (links : List Link) (closing ends : Bool) → flat_map (conns_closed links) (last_effects closing ends) ≡ conns_parted links cid closing ends
-  closed_last links true true = ap (λ xs. cid ∷ (map (λ (l : Link). l.conn) links ++ xs)) (gives_none (conns_closed links) ns (λ ticket unit. refl)) ∙ ap (λ xs. cid ∷ xs) (append-nil (map (λ (l : Link). l.conn) links))
-  closed_last links true false = ap (λ xs. cid ∷ xs) (gives_none (conns_closed links) ns (λ ticket unit. refl))
-  closed_last links false true = ap (λ xs. map (λ (l : Link). l.conn) links ++ xs) (gives_none (conns_closed links) ns (λ ticket unit. refl)) ∙ append-nil (map (λ (l : Link). l.conn) links)
-  closed_last links false false = gives_none (conns_closed links) ns (λ ticket unit. refl)
+  closed_last : (links : List Link) (closing : Option ℕ) (ends : Bool) → flat_map (conns_closed links) (last_effects closing ends) ≡ conns_parted links closing ends
+  closed_last links (Some conn) true = ap (λ xs. conn ∷ (map (λ (l : Link). l.conn) links ++ xs)) (gives_none (conns_closed links) ns (λ ticket unit. refl)) ∙ ap (λ xs. conn ∷ xs) (append-nil (map (λ (l : Link). l.conn) links))
+  closed_last links (Some conn) false = ap (λ xs. conn ∷ xs) (gives_none (conns_closed links) ns (λ ticket unit. refl))
+  closed_last links None true = ap (λ xs. map (λ (l : Link). l.conn) links ++ xs) (gives_none (conns_closed links) ns (λ ticket unit. refl)) ∙ append-nil (map (λ (l : Link). l.conn) links)
+  closed_last links None false = gives_none (conns_closed links) ns (λ ticket unit. refl)
 
 executes_it : (start : Start) (q : Request) (rest : List Effect) → executing (start_effect start q ∷ rest) ≡ Some q
 executes_it AtTurn q rest = refl
 executes_it AtArrival q rest = refl
 executes_it AfterWaiting q rest = refl
 
-pub part_parted : (links : List Link) (sn : ℕ) (start : Start) (a : Arrival) (cs : List Command) (bs : List Arrival) (reply : Reply) (closing ends : Bool) (ns : List Command)
-    → IsPartingPart links (parted_effects sn start a cs bs reply closing ends ns) a.request cs ns (Some (connection_of a.request, reply)) (conns_parted links (connection_of a.request) closing ends)
+pub part_parted : (links : List Link) (sn : ℕ) (start : Start) (a : Arrival) (cs : List Command) (bs : List Arrival) (reply : Reply) (closing : Option ℕ) (ends : Bool) (ns : List Command)
+    → IsPartingPart links (parted_effects sn start a cs bs reply closing ends ns) a.request cs ns (Some (connection_of a.request, reply)) (conns_parted links closing ends)
 part_parted links sn start a cs bs reply closing ends ns =
     let cid : ℕ = connection_of a.request in
-    let rest : List Effect = Send cid sn reply ∷ (close_effects cid closing ends ++ enables ns) in
+    let rest : List Effect = Send cid sn reply ∷ (close_effects closing ends ++ enables ns) in
     record {
       enabled = past_all ticket_enabled (λ r. refl) (λ r. refl) (λ n. refl) (λ k u. refl) start a.request cs bs rest ∙ enabled_last cid sn reply ns closing ends;
       left = past_start ticket_left (λ r. refl) (λ r. refl) (λ n. refl) start a.request (leave_effects cs ++ (empty_effects bs ++ rest))

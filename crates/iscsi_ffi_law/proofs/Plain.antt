@@ -6,14 +6,13 @@ use Rattle.iscsi_wire.specs.declared.request.Request.{Request}
 use Rattle.iscsi_wire.specs.Fields.{connection_of, is_immediate, itt}
 use Rattle.iscsi_wire.specs.Serial.{wire}
 use Rattle.iscsi_history.specs.declared.effect.Effect.{Effect}
-use Rattle.iscsi_history.specs.declared.effect.Effect.TheVariants.{Deliver, Enable, Enter, Immediate, Send, Void}
+use Rattle.iscsi_history.specs.declared.effect.Effect.TheVariants.{Deliver, Enter, Immediate, Send, Void}
 use Rattle.iscsi_history.specs.rules.Settings.{Setting}
 use Rattle.iscsi_history.specs.rules.Run.{effects_of_item, effects_of_mark, newly_enabled, stat_sn_of}
 use Rattle.iscsi_history.specs.rules.Trace.{Arrival, Command, Enters, Mark, Sends, Trace, Voids, enters, leaves_ticket, waiting}
 use Rattle.iscsi_history.proofs.Forms.{AfterWaiting, AtArrival, AtTurn, Start, if_some, start_mark}
 use Rattle.iscsi_history.proofs.NewlyLemmas.{Untouched}
 use Rattle.iscsi_outbox_rules.specs.rules.Boxes.{Dormant, Task}
-use Rattle.iscsi_outbox_law.specs.Pairs.{EachOf}
 use Rattle.iscsi_ffi_rules.specs.rules.Happening.{answers_in, leaving}
 use Rattle.iscsi_ffi_law.proofs.DoneShape.{enables}
 use Rattle.iscsi_ffi_law.proofs.QuietBox.{IsQuietPart}
@@ -204,25 +203,3 @@ leaves_no AtArrival a None c k = refl
 leaves_no AtArrival a (Some n) c k = refl
 leaves_no AfterWaiting a None c k = refl
 leaves_no AfterWaiting a (Some n) c k = refl
-
--- ---- what a property of effects comes to
-
-pub each_plain : (P : Effect → Type 0) (sn : ℕ) (start : Start) (a : Arrival) (void : Option ℕ) (entering : Option Command) (reply : Option Reply) (ns : List Command) → P (start_effect start a.request) → ((n : ℕ) → P (Void n)) → ((c : Command) → P (Enter c.ticket c.unit c.attr))
-    → ((x : Reply) → reply ≡ Some x → P (Send (connection_of a.request) sn x)) → ((k u : ℕ) → P (Enable k u)) → EachOf P (plain_effects sn start a void entering reply ns)
-each_plain P sn start a void entering reply ns first voids enters sends enabled = (first, by_void void)
-  where
-    all_enabled : (cs : List Command) → EachOf P (enables cs)
-    all_enabled [] = tt
-    all_enabled (c ∷ cs) = (enabled c.ticket c.unit, all_enabled cs)
-
-    by_reply : (y : Option Reply) → reply ≡ y → EachOf P (send_effects (connection_of a.request) sn y ++ enables ns)
-    by_reply None is = all_enabled ns
-    by_reply (Some x) is = (sends x is, all_enabled ns)
-
-    by_entering : (y : Option Command) → EachOf P (enter_effects y ++ (send_effects (connection_of a.request) sn reply ++ enables ns))
-    by_entering None = by_reply reply refl
-    by_entering (Some c) = (enters c, by_reply reply refl)
-
-    by_void : (y : Option ℕ) → EachOf P (void_effects y ++ (enter_effects entering ++ (send_effects (connection_of a.request) sn reply ++ enables ns)))
-    by_void None = by_entering entering
-    by_void (Some n) = (voids (wire n), by_entering entering)

@@ -38,7 +38,7 @@ use Rattle.iscsi_ffi_law.specs.Names.{Name, Note, place_named}
 use Rattle.iscsi_ffi_law.specs.Parts.{AreFunctions, IsFunctionAt, IsNote, IsRequest}
 use Rattle.iscsi_ffi_law.specs.Stands.{AreRequests}
 use Rattle.iscsi_ffi_law.specs.Uses.{count_functions, count_lists}
-use Rattle.iscsi_ffi_law.proofs.Between.{IsBetween, held_same}
+use Rattle.iscsi_ffi_law.proofs.Between.{IsBetween, held_same, pending_of}
 use Rattle.iscsi_ffi_law.proofs.DoneShape.{enables}
 use Rattle.iscsi_ffi_law.proofs.KeptCounts.{few_on, long_filter}
 use Rattle.iscsi_ffi_law.proofs.Kept.{count_nothing}
@@ -49,11 +49,10 @@ use Rattle.iscsi_ffi_law.proofs.NameLemmas.{Named, found_named, place_event}
 use Rattle.iscsi_ffi_law.proofs.QuietBox.{quiet_item}
 use Rattle.iscsi_ffi_law.proofs.QuietItems.{IsUnheld, is_held_on}
 use Rattle.iscsi_ffi_law.proofs.QuietRequests.{entered_on, requests_on}
-use Rattle.iscsi_ffi_law.proofs.Releases.{endings}
-use Rattle.iscsi_ffi_law.proofs.Releasing.{ending}
 use Rattle.iscsi_ffi_law.proofs.Slots.{slots_same}
-use Rattle.iscsi_ffi_law.proofs.Stepping.{GoesOn, IsCalm, last_then, links_unmoved, runs_then, stands_then}
+use Rattle.iscsi_ffi_law.proofs.Stepping.{GoesOn, last_then, runs_then, stands_then, still_clear}
 use Rattle.iscsi_ffi_law.proofs.Waited.{IsCid, cid_known}
+use Rattle.iscsi_ffi_law.proofs.Unswept.{is_some_effect}
 use Rattle.iscsi_ffi_law.proofs.Walking.{walk_at}
 
 -- ---- one waits more
@@ -209,8 +208,8 @@ module _ (i : Interface) (names : List Name) (notes : List Note) (distinct : are
       list_any-append (λ (b : Arrival). b.event == n.event) (waiting r.both.trace) (a ∷ []) ∙ ap (λ w. list_any (λ (b : Arrival). b.event == n.event) (waiting r.both.trace) || (w || false)) is ∙ or_none (list_any (λ (b : Arrival). b.event == n.event) (waiting r.both.trace))
       ∙ (each_in (IsRequest s r.both.trace) names n there k.requests.named).waiting ∙ ap (nat_lt 0) same
 
-  requests1 : AreRequests names notes (λ p. ending None p + endings [] p) (λ q. []) s1 r1
-  requests1 = requests_on names notes (λ p. ending (Some place) p + endings [] p) (λ q. []) s r k.requests item u r.both.event s.held functions' (λ p. ending None p + endings [] p) (λ p. omega (arith, counted p))
+  requests1 : AreRequests names notes (pending_of k.unswept None []) k.gone s1 r1
+  requests1 = requests_on names notes (pending_of k.unswept (Some place) []) k.gone s r k.requests item u r.both.event s.held functions' (pending_of k.unswept None []) (λ p. omega (arith, counted p))
       (in_each (IsRequest (record s { functions = functions' }) (item ∷ r.both.trace)) names
       (λ n there. record { held = is_held_on r.both.trace item unheld_item n.event ∙ (each_in (IsRequest s r.both.trace) names n there k.requests.named).held; waiting = waits_now n there (a.event == n.event) refl }))
       (in_each (IsNote (record s { functions = functions' }) r.both.box.links) notes (λ n there.
@@ -228,10 +227,10 @@ module _ (i : Interface) (names : List Name) (notes : List Note) (distinct : are
   abbrev state' : State
   state' = record s { functions = functions'; outbox = steps_after_item (effects_by i r item) s.outbox }
 
-  requests2 : AreRequests names notes (λ p. ending None p + endings [] p) (λ q. []) state' (side_behind i r item)
-  requests2 = subst (λ as'. AreRequests names notes (λ p. ending None p + endings [] p) (λ q. []) state' (record (side_behind i r item) { answers = as' })) (sym (append-nil r.answers))
-      (requests_moved names notes (λ p. ending None p + endings [] p) (λ q. []) s1 r1 requests1 outbox' (after_item i.outbox r.both.box (effects_by i r item))
-      (runs_then i names notes s r (Some place) [] k item fit distinct sound (λ ticket. ap (λ (b : Box). is_running b ticket) box_same)) moved)
+  requests2 : AreRequests names notes (pending_of k.unswept None []) k.gone state' (side_behind i r item)
+  requests2 = subst (λ as'. AreRequests names notes (pending_of k.unswept None []) k.gone state' (record (side_behind i r item) { answers = as' })) (sym (append-nil r.answers))
+      (requests_moved names notes (pending_of k.unswept None []) k.gone s1 r1 requests1 outbox' (after_item i.outbox r.both.box (effects_by i r item))
+      (runs_then i names notes s r (Some place) [] k item fit.fit distinct sound (λ ticket. ap (λ (b : Box). is_running b ticket) box_same)) moved)
 
   distinct_now : AreDistinct ((Waits a ∷ []) ∷ r.both.trace)
   distinct_now = record {
@@ -259,7 +258,7 @@ module _ (i : Interface) (names : List Name) (notes : List Note) (distinct : are
           let last = count-cons (λ (x : Arrival). x.event == e) a [] in
           omega (arith, here, same, longer, last, k.distinct.events e)
 
-  pub postponed_goes : GoesOn i names notes s r (Some place) [] (Waits a ∷ [])
+  pub postponed_goes : GoesOn i names notes k.unswept s r (Some place) [] (Waits a ∷ [])
   postponed_goes = record {
     state = state';
     ended = [];
@@ -267,7 +266,12 @@ module _ (i : Interface) (names : List Name) (notes : List Note) (distinct : are
       requests = requests2;
       slots = slots_same (size_for i.outbox.session.window) s.commands.room names s.held r.both.trace (item ∷ r.both.trace) (held_same r.both.trace item unheld_item) k.slots;
       functions = more_are (cids i) names s.functions (waiting r.both.trace) k.functions k.sizes.functions a at.0 at.1.1.within at.1.1.at at.1.1.apart place its_name none_waits;
-      outbox = stands_then i names notes s r (Some place) [] k item fit distinct sound;
+      unswept = k.unswept;
+      gone = k.gone;
+      long_replies = k.long_replies;
+      long_noted = k.long_noted;
+      clear = still_clear i names notes s r (Some place) [] k item fit.fit distinct sound;
+      outbox = stands_then i names notes s r (Some place) [] k item fit.fit distinct sound;
       sizes = record {
         room = k.sizes.room;
         functions = long_more (cids i) names s.functions (waiting r.both.trace) k.functions k.sizes.functions a at.0 at.1.1.within at.1.1.at at.1.1.apart place its_name none_waits ∙ k.sizes.functions;
@@ -281,7 +285,7 @@ module _ (i : Interface) (names : List Name) (notes : List Note) (distinct : are
         few = k.sizes.few;
       };
       flags = record { awake = k.flags.awake; over = k.flags.over };
-      counts = record { units = k.counts.units; last = (let same = ap length (entered_on r.both.trace item u) in let below = k.counts.last in omega (arith, same, below)); tracked = last_then i names notes s r (Some place) [] k item fit distinct sound };
+      counts = record { units = k.counts.units; last = (let same = ap length (entered_on r.both.trace item u) in let below = k.counts.last in omega (arith, same, below)); tracked = last_then i names notes s r (Some place) [] k item fit.fit distinct sound };
       withheld = k.withheld;
       distinct = distinct_now;
       over = λ p some. absurd (let no : ⊥ = omega (arith, some) in no);
@@ -292,11 +296,13 @@ module _ (i : Interface) (names : List Name) (notes : List Note) (distinct : are
     outbox = refl;
     room = refl;
     few = record { lives = (let more = one_more (cids i) names s.functions (waiting r.both.trace) k.functions k.sizes.functions a at.0 at.1.1.within at.1.1.at at.1.1.apart place its_name none_waits in omega (arith, more)); going = omega arith };
-    links = links_unmoved r.both.box (after_item i.outbox r.both.box (effects_by i r item)) box_same;
-    calm = subst (EachOf (IsCalm (side_behind i r item).both.box)) (sym effects_are) (tt, tt);
+    same = refl;
+    begins = ap is_some_effect effects_are;
+    waits = omega arith;
+    notes_kept = refl;
     walk = λ o limits acts first late rest led.
         ap (λ es. on_effects first (es ++ rest) (walk_at o s acts [] (Some place) r.both.box.sent)) effects_are
-        ∙ ap (λ z. on_effects false rest (wait_on (a.request) z (Some place) (end_item (walk_at o s acts [] (Some place) r.both.box.sent)))) (ap (λ (l : Limits). position (λ (c : ℕ). c == connection_of a.request) l.cids) (limits ∙ sym k.outbox.sizes.limits) ∙ at.1.0)
+        ∙ ap (λ z. on_effects false rest (wait_on (a.request) z (Some place) (end_item (walk_at o s acts [] (Some place) r.both.box.sent)))) (ap (λ (l : Limits). position (λ (c : ℕ). c == connection_of a.request) l.cids) (limits.limits ∙ sym k.outbox.sizes.limits) ∙ at.1.0)
         ∙ ap (λ v. on_effects false rest (cond v (walk_at o (record s { functions = functions' }) acts [] None r.both.box.sent) (end_item (walk_at o s acts [] (Some place) r.both.box.sent)))) has_room
         ∙ ap (λ (b : Box). on_effects false rest (walk_at o state' acts [] None b.sent)) (sym box_same);
   }

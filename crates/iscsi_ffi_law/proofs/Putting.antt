@@ -1,9 +1,8 @@
 -- A PDU of the target's own is taken.
-use Rattle.std.proofs.Common.{◌≡◌, ℕ, ◌+◌, ◌*◌, ◌<◌, ◌≤◌, ◌==◌, ◌&&◌, ◌||◌, inl, inr, ⊎_elim, not, cond, Bool, true, false, List, [], ◌∷◌, ◌++◌, length, map, count_by, filter, Option, Some, None, is_some, refl, ap, sym, subst, ◌∙◌, arith, ne_eqb, lt-ltb, length-append, append_assoc, length-set}
+use Rattle.std.proofs.Common.{◌≡◌, ℕ, ◌+◌, ◌*◌, ◌<◌, ◌≤◌, ◌==◌, ◌&&◌, ◌||◌, inl, inr, ⊎_elim, not, cond, Bool, true, false, List, [], ◌∷◌, ◌++◌, length, count_by, filter, Option, Some, None, is_some, refl, ap, sym, subst, ◌∙◌, arith, ne_eqb, lt-ltb, length-append, length-set}
 use Rattle.std.specs.List.{list_any, position}
 use Rattle.std.proofs.lemmas.Bool.{false≢true, eqb-true, eq-eqb, leb-false, not-true, cases_eq}
 use Rattle.std.proofs.lemmas.List.{append-nil, get_or-set_same, get_or-set_other}
-use Rattle.std.proofs.lemmas.List.Elements.{filter-append}
 use Rattle.std.proofs.lemmas.List.Sums.{sum_by-append}
 use Rattle.iscsi_history.specs.rules.Trace.{Command as RulesCommand, entered as entered_commands, first_of, has, leaves_ticket}
 use Rattle.iscsi_history.proofs.BoolLemmas.{and_parts}
@@ -46,7 +45,7 @@ use Rattle.iscsi_ffi_steps.specs.Steps.{Answered, Put, Side as StepsSide, going,
 use Rattle.iscsi_ffi_law.specs.Alike.{GoesAlike}
 use Rattle.iscsi_ffi_law.specs.Fit.{IsFit, IsOrderly}
 use Rattle.iscsi_ffi_law.specs.Names.{Name, Note, noted_of}
-use Rattle.iscsi_ffi_law.specs.Parts.{IsAbout, IsConn, IsKnownOut, IsLiveNamed, IsNote, IsOfTicket, IsQueued, covers, is_live_ticket, is_named, noted_in, IsOfCommand, AreApart, IsRequest, IsCommand, IsOneUse}
+use Rattle.iscsi_ffi_law.specs.Parts.{AreNotesOn, IsAbout, IsConn, IsKnownOut, IsLiveNamed, IsNote, IsOfTicket, IsQueued, covers, is_live_ticket, is_named, noted_in, IsOfCommand, AreApart, IsRequest, IsCommand, IsOneUse}
 use Rattle.iscsi_ffi_law.specs.Stands.{AreRequests, Stands}
 use Rattle.iscsi_ffi_law.specs.Uses.{is_place, uses_of}
 use Rattle.iscsi_ffi_law.proofs.Commands.{one_command}
@@ -58,6 +57,7 @@ use Rattle.iscsi_ffi_law.proofs.Members.{Passing, PassingAt, any_at, any_in, at_
 use Rattle.iscsi_ffi_law.proofs.Moved.{IsMoved, run_same, with_box, with_outbox, uses_run, same_homes}
 use Rattle.iscsi_ffi_law.proofs.Words.{words_kept}
 use Rattle.iscsi_ffi_law.proofs.Next.{all_fewer}
+use Rattle.iscsi_ffi_law.proofs.NotePlaces.{noted_entered, notes_same, places_entered}
 use Rattle.iscsi_ffi_law.proofs.Kept.{each_place}
 use Rattle.iscsi_ffi_law.proofs.PutQueues.{conn_entered, left_entered, link_entered, many, moved_push, queued_push}
 
@@ -119,14 +119,6 @@ module _ (i : Interface) (s : StepsSide) (r : Side) (h : Stands i s r) (p : OwnP
   pairs_inside R S [] (y ∷ ys) f k = absurd k
   pairs_inside R S (x ∷ xs) [] f k = absurd k
 
-  map_push : (ns : List Note) (n : Note) → map noted_of (ns ++ n ∷ []) ≡ map noted_of ns ++ noted_of n ∷ []
-  map_push [] n = refl
-  map_push (m ∷ ns) n = ap (λ xs. noted_of m ∷ xs) (map_push ns n)
-
-  places_push : (ns : List Note) (n : Note) → map (λ (m : Note). Some m.place) (ns ++ n ∷ []) ≡ map (λ (m : Note). Some m.place) ns ++ Some n.place ∷ []
-  places_push [] n = refl
-  places_push (m ∷ ns) n = ap (λ xs. Some m.place ∷ xs) (places_push ns n)
-
   -- a connection that takes it
   record Takes (cid : ℕ) : Type 0 where
     pub q : ℕ
@@ -167,10 +159,10 @@ module _ (i : Interface) (s : StepsSide) (r : Side) (h : Stands i s r) (p : OwnP
 
   module _ (cid : ℕ) (header : List ℕ) (is : p ≡ OfConnection cid header) (k : Takes cid) (place : ℕ) (free : next_place s.state.cookies ≡ Some place) (box_is : after_call i.outbox r.both.box (outbox.Puts p) ≡ enter cid (own_outgoing p) r.both.box) where
     abbrev new : Note
-    new = record { place = place; conn = cid; cookie = cookie }
+    new = record { place = place; conn = cid; cookie = cookie; waits = true }
 
     abbrev notes' : List Note
-    notes' = h.notes ++ record { place = place; conn = cid; cookie = cookie } ∷ []
+    notes' = h.notes ++ record { place = place; conn = cid; cookie = cookie; waits = true } ∷ []
 
     abbrev b' : Box
     b' = enter cid (own_outgoing p) r.both.box
@@ -182,7 +174,7 @@ module _ (i : Interface) (s : StepsSide) (r : Side) (h : Stands i s r) (p : OwnP
     s' = record s.state { outbox = taken_in p s.state.outbox; cookies = entered cookie place s.state.cookies; noted = pushed k.q (Some place) s.state.noted }
 
     abbrev r' : Side
-    r' = record (with_box r (enter cid (own_outgoing p) r.both.box)) { noted = r.noted ++ noted_of (record { place = place; conn = cid; cookie = cookie }) ∷ [] }
+    r' = record (with_box r (enter cid (own_outgoing p) r.both.box)) { noted = r.noted ++ noted_of (record { place = place; conn = cid; cookie = cookie; waits = true }) ∷ [] }
 
     own_is : own_ticket p ≡ None
     own_is = ap own_ticket is
@@ -202,8 +194,8 @@ module _ (i : Interface) (s : StepsSide) (r : Side) (h : Stands i s r) (p : OwnP
         let all = words_kept h.names h.notes s.state.cookies h.requests.kept (λ a b. a == place) in
         omega (arith, all, fresh s.state.cookies h.requests.counted place cookie free)
 
-    notes_counted : (test : Note → Bool) → count_by test notes' ≡ count_by test h.notes + one (test (record { place = place; conn = cid; cookie = cookie }))
-    notes_counted test = omega (arith, sum_by-append (λ (n : Note). cond (test n) 1 0) h.notes (record { place = place; conn = cid; cookie = cookie } ∷ []), count-cons test (record { place = place; conn = cid; cookie = cookie }) [])
+    notes_counted : (test : Note → Bool) → count_by test notes' ≡ count_by test h.notes + one (test (record { place = place; conn = cid; cookie = cookie; waits = true }))
+    notes_counted test = omega (arith, sum_by-append (λ (n : Note). cond (test n) 1 0) h.notes (record { place = place; conn = cid; cookie = cookie; waits = true } ∷ []), count-cons test (record { place = place; conn = cid; cookie = cookie; waits = true }) [])
 
     apart' : AreApart h.names notes'
     apart' = record {
@@ -250,15 +242,22 @@ module _ (i : Interface) (s : StepsSide) (r : Side) (h : Stands i s r) (p : OwnP
         (pairs_inside (IsAbout h.names h.notes r (link_in r.both.box.links q).conn) (IsAbout h.names notes' r' (link_in r.both.box.links q).conn) (of_conn q s.state.unwritten.handed) (left_to_write (link_in r.both.box.links q))
         (λ x y there a. record {
           named = a.named;
-          noted = each-append (λ (n : Note). is_place n.place x ≡ true → (is_noted y.out.pdu ≡ true) × (n.conn ≡ (link_in r.both.box.links q).conn)) h.notes (record { place = place; conn = cid; cookie = cookie } ∷ []) a.noted
+          noted = each-append (λ (n : Note). is_place n.place x ≡ true → (is_noted y.out.pdu ≡ true) × (n.conn ≡ (link_in r.both.box.links q).conn)) h.notes (record { place = place; conn = cid; cookie = cookie; waits = true } ∷ []) a.noted
               ((λ same. absurd (false≢true (sym (not_written q x there) ∙ same))), tt);
         }) (h.requests.conns q short).written))
 
     known_now : IsKnownOut h.names r.both.trace r.answers (record (own_outgoing p) { time = r.both.box.time })
     known_now = record { of_reply = tt; of_command = subst (IsOfCommand h.names r.both.trace) (sym own_is) tt; same = tt; own = (refl, refl) }
 
-    filter_new : (c : ℕ) → filter (λ (n : Note). n.conn == c) notes' ≡ filter (λ (n : Note). n.conn == c) h.notes ++ cond (cid == c) (record { place = place; conn = cid; cookie = cookie } ∷ []) []
-    filter_new c = filter-append (λ (n : Note). n.conn == c) h.notes (record { place = place; conn = cid; cookie = cookie } ∷ [])
+    -- those of a connection
+    notes_new : (q : ℕ) → q < length r.both.box.links
+        → AreNotesOn notes' (link_in b'.links q).conn [] (of_conn q s.state.noted.handed ++ cond (cid == (link_in r.both.box.links q).conn) (Some place ∷ []) []) (noted_in (of_conn q s.state.unwritten.handed) (left_to_write (link_in b'.links q)))
+    notes_new q short =
+        let old : List (Option ℕ) = of_conn q s.state.noted.handed in
+        let more : List (Option ℕ) = old ++ cond (cid == (link_in r.both.box.links q).conn) (Some place ∷ []) [] in
+        let unwritten : List (Option ℕ) = noted_in (of_conn q s.state.unwritten.handed) (left_to_write (link_in r.both.box.links q)) in
+        notes_same notes' [] (link_in r.both.box.links q).conn (link_in b'.links q).conn more more unwritten (noted_in (of_conn q s.state.unwritten.handed) (left_to_write (link_in b'.links q))) (conn_entered i s r h cid (own_outgoing p) q short) refl
+        (ap (noted_in (of_conn q s.state.unwritten.handed)) (left_entered i s r h cid (own_outgoing p) q short)) (places_entered h.notes place cid cookie (link_in r.both.box.links q).conn old unwritten (h.requests.conns q short).noted)
 
     here : IsConn h.names notes' [] s' r' k.q (link_in b'.links k.q)
     here = record {
@@ -272,14 +271,8 @@ module _ (i : Interface) (s : StepsSide) (r : Side) (h : Stands i s r) (p : OwnP
           (queued_push i s r h cid (own_outgoing p) (of_conn k.q s.state.replies.waiting) (length (of_conn k.q s.state.noted.handed)) (link_in r.both.box.links k.q) refl known_now
           (ap (λ (x : Option ℕ). elim x [ Some ticket ↦ covers (is_live_ticket r.both.trace) [] ticket | None ↦ true ]) own_is) (h.requests.conns k.q k.within).queued)));
       written = written_now k.q k.within;
-      noted =
-          ap (λ c. map (λ (n : Note). Some n.place) (filter (λ (n : Note). n.conn == c) notes')) (conn_entered i s r h cid (own_outgoing p) k.q k.within ∙ k.conn)
-          ∙ ap (map (λ (n : Note). Some n.place)) (filter_new cid ∙ ap (λ v. filter (λ (n : Note). n.conn == cid) h.notes ++ cond v (record { place = place; conn = cid; cookie = cookie } ∷ []) []) (eq-eqb cid cid refl))
-          ∙ places_push (filter (λ (n : Note). n.conn == cid) h.notes) (record { place = place; conn = cid; cookie = cookie })
-          ∙ ap (λ ys. ys ++ Some place ∷ []) (ap (λ c. map (λ (n : Note). Some n.place) (filter (λ (n : Note). n.conn == c) h.notes)) (sym k.conn) ∙ (h.requests.conns k.q k.within).noted)
-          ∙ append_assoc (noted_in (of_conn k.q s.state.unwritten.handed) (left_to_write (link_in r.both.box.links k.q))) (of_conn k.q s.state.noted.handed) (Some place ∷ [])
-          ∙ ap (λ hs. noted_in (of_conn k.q s.state.unwritten.handed) hs ++ (of_conn k.q s.state.noted.handed ++ Some place ∷ [])) (sym (left_entered i s r h cid (own_outgoing p) k.q k.within))
-          ∙ ap (λ ys. noted_in (of_conn k.q s.state.unwritten.handed) (left_to_write (link_in b'.links k.q)) ++ ys) (sym here_pushed);
+      noted = subst (λ xs. AreNotesOn notes' (link_in b'.links k.q).conn [] xs (noted_in (of_conn k.q s.state.unwritten.handed) (left_to_write (link_in b'.links k.q))))
+          (ap (λ v. of_conn k.q s.state.noted.handed ++ cond v (Some place ∷ []) []) (eq-eqb cid (link_in r.both.box.links k.q).conn (sym k.conn)) ∙ sym here_pushed) (notes_new k.q k.within);
     }
 
     elsewhere : (q : ℕ) → q < length r.both.box.links → (q ≡ k.q → ⊥) → IsConn h.names notes' [] s' r' q (link_in b'.links q)
@@ -293,25 +286,20 @@ module _ (i : Interface) (s : StepsSide) (r : Side) (h : Stands i s r) (p : OwnP
           queued = subst (λ ys. IsQueued h.names r.both.trace r.answers r.both.box.undue (of_conn q s.state.replies.waiting) (length ys) (link_in b'.links q)) (sym (others_pushed q other))
               (subst (IsQueued h.names r.both.trace r.answers r.both.box.undue (of_conn q s.state.replies.waiting) (length (of_conn q s.state.noted.handed))) (sym link_is) c.queued);
           written = written_now q short;
-          noted =
-              ap (λ x. map (λ (n : Note). Some n.place) (filter (λ (n : Note). n.conn == x) notes')) (conn_entered i s r h cid (own_outgoing p) q short)
-              ∙ ap (map (λ (n : Note). Some n.place)) (filter_new (link_in r.both.box.links q).conn ∙ ap (λ v. filter (λ (n : Note). n.conn == (link_in r.both.box.links q).conn) h.notes ++ cond v (record { place = place; conn = cid; cookie = cookie } ∷ []) []) turned
-              ∙ append-nil (filter (λ (n : Note). n.conn == (link_in r.both.box.links q).conn) h.notes))
-              ∙ c.noted
-              ∙ ap (λ hs. noted_in (of_conn q s.state.unwritten.handed) hs ++ of_conn q s.state.noted.handed) (sym (left_entered i s r h cid (own_outgoing p) q short))
-              ∙ ap (λ ys. noted_in (of_conn q s.state.unwritten.handed) (left_to_write (link_in b'.links q)) ++ ys) (sym (others_pushed q other));
+          noted = subst (λ xs. AreNotesOn notes' (link_in b'.links q).conn [] xs (noted_in (of_conn q s.state.unwritten.handed) (left_to_write (link_in b'.links q))))
+              (ap (λ v. of_conn q s.state.noted.handed ++ cond v (Some place ∷ []) []) turned ∙ append-nil (of_conn q s.state.noted.handed) ∙ sym (others_pushed q other)) (notes_new q short);
         }
 
     requests_now : AreRequests h.names notes' (λ other. 0) (λ q. []) s' r'
     requests_now = record {
       asked = h.requests.asked;
-      noted = map_push h.notes (record { place = place; conn = cid; cookie = cookie }) ∙ ap (λ ns. ns ++ noted_of (record { place = place; conn = cid; cookie = cookie }) ∷ []) h.requests.noted;
+      noted = noted_entered h.notes place cid cookie r.noted r.handed_notes h.requests.noted;
       apart = apart';
       kept = λ a b. omega (arith, words_entered s.state.cookies h.requests.counted place cookie free a b, h.requests.kept a b, notes_counted (λ (n : Note). n.place == a && n.cookie == b));
       counted = counted_entered s.state.cookies h.requests.counted place cookie free;
       uses = uses_now;
       named = each-weaken (IsRequest s.state r.both.trace) (IsRequest s' r.both.trace) h.names (λ n q. record { held = q.held; waiting = q.waiting }) h.requests.named;
-      noted_apart = each-append (IsNote s' b'.links) h.notes (record { place = place; conn = cid; cookie = cookie } ∷ [])
+      noted_apart = each-append (IsNote s' b'.links) h.notes (record { place = place; conn = cid; cookie = cookie; waits = true } ∷ [])
           (each-weaken (IsNote s.state r.both.box.links) (IsNote s' b'.links) h.notes (λ n q. record { held = q.held; waiting = q.waiting; home = homes n.conn q.home }) h.requests.noted_apart) (
             record {
               held = omega (arith, unused);

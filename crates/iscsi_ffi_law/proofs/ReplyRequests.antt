@@ -1,5 +1,5 @@
 -- A reply of the session's more: what is kept of requests stands for it, where its request has one use that isn't any yet.
-use Rattle.std.proofs.Common.{◌≡◌, ℕ, ◌+◌, ◌<◌, ◌≤◌, ◌==◌, ◌&&◌, ◌||◌, ⊎_elim, cond, Bool, true, false, List, [], ◌∷◌, ◌++◌, length, map, count_by, filter, Option, Some, None, refl, ap, sym, subst, ◌∙◌, arith, length-append}
+use Rattle.std.proofs.Common.{◌≡◌, ℕ, ◌+◌, ◌<◌, ◌≤◌, ◌==◌, ◌&&◌, ◌||◌, ⊎_elim, cond, Bool, true, false, List, [], ◌∷◌, ◌++◌, length, count_by, filter, Option, Some, None, refl, ap, sym, subst, ◌∙◌, arith, length-append}
 use Rattle.std.proofs.lemmas.Bool.{cases_eq, cases_lt, eqb-true}
 use Rattle.std.proofs.lemmas.List.{get_or-set_same, get_or-set_other}
 use Rattle.std.proofs.lemmas.List.Sums.{sum_by-append}
@@ -30,6 +30,7 @@ use Rattle.iscsi_ffi_law.proofs.Lists.{lists_set}
 use Rattle.iscsi_ffi_law.proofs.Members.{CountedAt, Passing, counted_in, each_in, lists_counted}
 use Rattle.iscsi_ffi_law.proofs.Moved.{same_homes, uses_run}
 use Rattle.iscsi_ffi_law.proofs.Next.{nth_within}
+use Rattle.iscsi_ffi_law.proofs.NotePlaces.{notes_same}
 use Rattle.iscsi_ffi_law.proofs.Queued.{AllQueued, SameOut}
 use Rattle.iscsi_ffi_law.proofs.Replies.{AnswersIt, answers_it}
 
@@ -163,9 +164,8 @@ module _ (names : List Name) (notes : List Note) (pending pending' : ℕ → ℕ
               (pairs_each (IsAbout names notes r (link_in r.both.box.links q).conn) (IsAbout names notes side_replied (link_in r.both.box.links q).conn) (λ (h : Handed). IsBefore r.both.box.sent h.out.sent) (of_conn q s.unwritten.handed) (left_to_write (link_in r.both.box.links q))
               (λ x y before k. record { named = each-weaken (λ (n : Name). is_about n.event r y.out ≡ is_place n.place x) (λ (n : Name). is_about n.event side_replied y.out ≡ is_place n.place x) names (λ n e. about_same n.event y.out before ∙ e) k.named; noted = k.noted })
               (each_left (λ (h : Handed). IsBefore r.both.box.sent h.out.sent) (link_in r.both.box.links q) (each-at (λ (l : Link). EachOf (λ (h : Handed). IsBefore r.both.box.sent h.out.sent) l.handed) r.both.box.links q (new_link 0) short handed)) c.written));
-          noted =
-              ap (λ k. map (λ (n : Note). Some n.place) (filter (λ (n : Note). n.conn == k) notes)) same.conn ∙ c.noted
-              ∙ ap (λ hs. gone q ++ (noted_in (of_conn q s.unwritten.handed) hs ++ of_conn q s.noted.handed)) (sym same.left);
+          noted = notes_same notes (gone q) (link_in r.both.box.links q).conn (link_in b.links q).conn (of_conn q s.noted.handed) (of_conn q s.noted.handed) (noted_in (of_conn q s.unwritten.handed) (left_to_write (link_in r.both.box.links q)))
+              (noted_in (of_conn q s.unwritten.handed) (left_to_write (link_in b.links q))) same.conn refl (ap (noted_in (of_conn q s.unwritten.handed)) same.left) c.noted;
         };
     undue = after.all.undue_are;
   }

@@ -32,6 +32,7 @@ use Rattle.iscsi_ffi_law.proofs.Lists.{lists_at}
 use Rattle.iscsi_ffi_law.proofs.Members.{Passing, any_in, counted_in, each_in, find_in, in_counted, in_each, in_find}
 use Rattle.iscsi_ffi_law.proofs.NameLemmas.{Named, found_named, place_event}
 use Rattle.iscsi_ffi_law.proofs.Replies.{AnswersIt, answers_it, is_part_of, is_reply_to}
+use Rattle.iscsi_ffi_law.proofs.NoteMoves.{same_notes}
 use Rattle.iscsi_ffi_law.proofs.Sources.{answered_on, cookie_named, noted_same, tail_queued}
 
 -- ---- lists
@@ -227,7 +228,7 @@ module _ (i : Interface) (s : StepsSide) (r : Side) (h : Stands i s r) (p : ℕ)
                 none true = refl
                 none false = refl
 
-    pub reply_handed : IsHandedOn i s r h p within opens g (Some c.place) s.state.cookies (taken k s.state.replies) s.state.noted
+    pub reply_handed : IsHandedOn i s r h p within opens g (Some c.place) s.state.cookies (taken k s.state.replies) s.state.noted h.notes r.noted r.handed_notes
     reply_handed = record {
       about = record {
         named = in_each (λ (n : Name). is_about n.event r g.out ≡ (c.place == n.place)) h.names about_reply;
@@ -249,8 +250,10 @@ module _ (i : Interface) (s : StepsSide) (r : Side) (h : Stands i s r) (p : ℕ)
           (let all : count_by (λ (o : Outgoing). is_noted o.pdu) (link_in r.both.box.links p).queue ≡ one (is_noted g.out.pdu) + count_by (λ (o : Outgoing). is_noted o.pdu) rest = ap (count_by (λ (o : Outgoing). is_noted o.pdu)) queue ∙ count-cons (λ (o : Outgoing). is_noted o.pdu) g.out rest in
           let none : one (is_noted g.out.pdu) ≡ 0 = ap one plain in omega (arith, all, none, (h.requests.conns p within).queued.noting)) from;
       queued_others = λ q short other. subst (λ ys. IsQueued h.names r.both.trace r.answers r.both.box.undue ys (length (of_conn q s.state.noted.handed)) (link_in r.both.box.links q)) (sym (others_taken q other)) (h.requests.conns q short).queued;
+      renoted = same_notes h.notes;
+      are_noted = h.requests.noted;
       noted_here = noted_same i s r h p within opens g (Some c.place) plain;
-      noted_others = λ q other. refl;
+      noted_others = λ q short other. (h.requests.conns q short).noted;
     }
 
     -- and its word is that of the request

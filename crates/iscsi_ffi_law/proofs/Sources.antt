@@ -24,7 +24,7 @@ use Rattle.iscsi_ffi_rules.specs.rules.Run as rules
 use Rattle.iscsi_ffi_rules.specs.rules.Sides.{Asked, Side, cookie_of}
 use Rattle.iscsi_ffi_steps.specs.Steps.{Side as StepsSide}
 use Rattle.iscsi_ffi_law.specs.Names.{Name, Note, asked_of, place_named}
-use Rattle.iscsi_ffi_law.specs.Parts.{AreApart, AreCounted, AreKept, IsAbout, IsAnswered, IsCommand, IsOfCommand, IsCovered, IsKnownOut, IsOfTicket, IsQueued, is_live_ticket, is_named, is_sent_at, noted_in}
+use Rattle.iscsi_ffi_law.specs.Parts.{AreApart, AreCounted, AreKept, AreNotesOn, IsAbout, IsAnswered, IsCommand, IsOfCommand, IsCovered, IsKnownOut, IsOfTicket, IsQueued, is_live_ticket, is_named, is_sent_at, noted_in}
 use Rattle.iscsi_ffi_law.specs.Stands.{Stands}
 use Rattle.iscsi_ffi_law.specs.Uses.{is_place, uses_of}
 use Rattle.iscsi_ffi_law.proofs.Commands.{one_command}
@@ -32,9 +32,10 @@ use Rattle.iscsi_ffi_law.proofs.Cookies.{cookie_there, counted_with, place_used,
 use Rattle.iscsi_ffi_law.proofs.Handing.{IsHandedOn, noted_more}
 use Rattle.iscsi_ffi_law.proofs.Finish.{as_many_links}
 use Rattle.iscsi_ffi_law.proofs.Moved.{commands_known}
-use Rattle.iscsi_ffi_law.proofs.Needs.{map_in}
-use Rattle.iscsi_ffi_law.proofs.Members.{Paired, Passing, any_in, counted_in, find_in, in_any, in_counted, in_each, in_find, in_pairs, pairs_in}
+use Rattle.iscsi_ffi_law.proofs.Members.{Paired, Passing, any_in, counted_in, find_in, in_any, in_counted, in_each, in_find, in_pairs, pairs_in, map_in}
 use Rattle.iscsi_ffi_law.proofs.NameLemmas.{Named, found_named, place_event, same_event}
+use Rattle.iscsi_ffi_law.proofs.NoteMoves.{same_notes}
+use Rattle.iscsi_ffi_law.proofs.NotePlaces.{notes_same}
 use Rattle.iscsi_ffi_law.proofs.Replies.{is_part_of, is_reply_to}
 
 -- ---- words
@@ -90,19 +91,21 @@ answered_on i s r h q =
 
 module _ (i : Interface) (s : StepsSide) (r : Side) (h : Stands i s r) (p : ℕ) (within : p < length r.both.box.links) (opens : is_open (link_in r.both.box.links p) ≡ true) (g : Handed) where
   -- what isn't an own PDU that is of no command leaves these as they are
-  pub noted_same : (x : Option ℕ) → is_noted g.out.pdu ≡ false → map (λ (n : Note). Some n.place) (filter (λ (n : Note). n.conn == (link_in r.both.box.links p).conn) h.notes)
-      ≡ noted_in (of_conn p s.state.unwritten.handed ++ x ∷ []) (left_to_write (link_in r.both.box.links p) ++ g ∷ []) ++ of_conn p s.state.noted.handed
+  pub noted_same : (x : Option ℕ) → is_noted g.out.pdu ≡ false
+      → AreNotesOn h.notes (link_in r.both.box.links p).conn [] (of_conn p s.state.noted.handed) (noted_in (of_conn p s.state.unwritten.handed ++ x ∷ []) (left_to_write (link_in r.both.box.links p) ++ g ∷ []))
   noted_same x none =
+      notes_same h.notes [] (link_in r.both.box.links p).conn (link_in r.both.box.links p).conn (of_conn p s.state.noted.handed) (of_conn p s.state.noted.handed) (noted_in (of_conn p s.state.unwritten.handed) (left_to_write (link_in r.both.box.links p)))
+      (noted_in (of_conn p s.state.unwritten.handed ++ x ∷ []) (left_to_write (link_in r.both.box.links p) ++ g ∷ [])) refl refl
+      (noted_more (IsAbout h.names h.notes r (link_in r.both.box.links p).conn) (of_conn p s.state.unwritten.handed) (left_to_write (link_in r.both.box.links p)) x g (h.requests.conns p within).written
+      ∙ ap (λ v. noted_in (of_conn p s.state.unwritten.handed) (left_to_write (link_in r.both.box.links p)) ++ cond v (x ∷ []) []) none ∙ append-nil (noted_in (of_conn p s.state.unwritten.handed) (left_to_write (link_in r.both.box.links p))))
       (h.requests.conns p within).noted
-      ∙ ap (λ ys. ys ++ of_conn p s.state.noted.handed) (sym (noted_more (IsAbout h.names h.notes r (link_in r.both.box.links p).conn) (of_conn p s.state.unwritten.handed) (left_to_write (link_in r.both.box.links p)) x g (h.requests.conns p within).written
-      ∙ ap (λ v. noted_in (of_conn p s.state.unwritten.handed) (left_to_write (link_in r.both.box.links p)) ++ cond v (x ∷ []) []) none ∙ append-nil (noted_in (of_conn p s.state.unwritten.handed) (left_to_write (link_in r.both.box.links p)))))
 
   -- ---- a NOP-In of the outbox's own
 
   pub about_none : g.out.sent ≡ None → g.out.ticket ≡ None → (event : ℕ) → is_about event r g.out ≡ false
   about_none sent ticket event = ap (λ (x : Option ℕ). is_reply_to event r.answers x || is_part_of event r.both.trace g.out.ticket) sent ∙ ap (is_part_of event r.both.trace) ticket
 
-  pub nop_handed : g.out.sent ≡ None → g.out.ticket ≡ None → is_noted g.out.pdu ≡ false → is_from_queue g.out ≡ false → IsHandedOn i s r h p within opens g None s.state.cookies s.state.replies s.state.noted
+  pub nop_handed : g.out.sent ≡ None → g.out.ticket ≡ None → is_noted g.out.pdu ≡ false → is_from_queue g.out ≡ false → IsHandedOn i s r h p within opens g None s.state.cookies s.state.replies s.state.noted h.notes r.noted r.handed_notes
   nop_handed sent ticket plain aside = record {
     about = record {
       named = in_each (λ (n : Name). is_about n.event r g.out ≡ false) h.names (λ n there. about_none sent ticket n.event);
@@ -120,8 +123,10 @@ module _ (i : Interface) (s : StepsSide) (r : Side) (h : Stands i s r) (p : ℕ)
     answered = answered_all;
     queued_here = subst (IsQueued h.names r.both.trace r.answers r.both.box.undue (of_conn p s.state.replies.waiting) (length (of_conn p s.state.noted.handed))) (sym (ap (λ v. cond v (record (link_in r.both.box.links p) { queue = drop 1 (link_in r.both.box.links p).queue }) (link_in r.both.box.links p)) aside)) (h.requests.conns p within).queued;
     queued_others = λ q short other. (h.requests.conns q short).queued;
+    renoted = same_notes h.notes;
+    are_noted = h.requests.noted;
     noted_here = noted_same None plain;
-    noted_others = λ q other. refl;
+    noted_others = λ q short other. (h.requests.conns q short).noted;
   }
     where
       answered_all : (q : ℕ) → EachOf (λ (y : WaitingReply). IsAnswered h.names r.answers y.log_place y.request) (of_conn q s.state.replies.waiting)
@@ -213,7 +218,7 @@ module _ (i : Interface) (s : StepsSide) (r : Side) (h : Stands i s r) (p : ℕ)
       none_sent : (place : ℕ) → one (is_sent_at place g.out) ≡ 0
       none_sent place = ap (λ (x : Option ℕ). one (elim x [ Some q ↦ q == place | None ↦ false ])) sent
 
-      pub command_handed : IsHandedOn i s r h p within opens g (Some c.c.request) (used_more c.c.request s.state.cookies) s.state.replies s.state.noted
+      pub command_handed : IsHandedOn i s r h p within opens g (Some c.c.request) (used_more c.c.request s.state.cookies) s.state.replies s.state.noted h.notes r.noted r.handed_notes
       command_handed = record {
         about = record {
           named = in_each (λ (n : Name). is_about n.event r g.out ≡ (c.c.request == n.place)) h.names about_command;
@@ -234,8 +239,10 @@ module _ (i : Interface) (s : StepsSide) (r : Side) (h : Stands i s r) (p : ℕ)
             (let all : count_by (λ (o : Outgoing). is_noted o.pdu) (link_in r.both.box.links p).queue ≡ one (is_noted g.out.pdu) + count_by (λ (o : Outgoing). is_noted o.pdu) rest = ap (count_by (λ (o : Outgoing). is_noted o.pdu)) queue ∙ count-cons (λ (o : Outgoing). is_noted o.pdu) g.out rest in
             let none : one (is_noted g.out.pdu) ≡ 0 = ap one plain in omega (arith, all, none, (h.requests.conns p within).queued.noting)) from;
         queued_others = λ q short other. (h.requests.conns q short).queued;
+        renoted = same_notes h.notes;
+        are_noted = h.requests.noted;
         noted_here = noted_same (Some c.c.request) plain;
-        noted_others = λ q other. refl;
+        noted_others = λ q short other. (h.requests.conns q short).noted;
       }
 
       -- and its word is that of the request

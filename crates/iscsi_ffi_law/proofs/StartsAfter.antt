@@ -24,8 +24,7 @@ use Rattle.iscsi_ffi_law.proofs.Core.{Core, all_core, all_released_core, release
 use Rattle.iscsi_ffi_law.proofs.Fitting.{count_map}
 use Rattle.iscsi_ffi_law.proofs.Flags.{is_used_place}
 use Rattle.iscsi_ffi_law.proofs.Kept.{count_members, filter_all}
-use Rattle.iscsi_ffi_law.proofs.Members.{Passing, counted_in, find_in, in_counted, two_counted}
-use Rattle.iscsi_ffi_law.proofs.Needs.{map_in}
+use Rattle.iscsi_ffi_law.proofs.Members.{Passing, counted_in, find_in, in_counted, two_counted, map_in}
 use Rattle.iscsi_ffi_law.proofs.Releases.{releases}
 use Rattle.iscsi_ffi_law.proofs.Releasing.{Released}
 

@@ -13,7 +13,6 @@ use Rattle.iscsi_history.specs.rules.Settings.{Setting}
 use Rattle.iscsi_history.specs.rules.Trace.{Arrival, Empties, Mark, Sends, Trace, admits_at, first_of, held, is_delivered, is_emptied, shown, waiting}
 use Rattle.iscsi_history.proofs.Forms.{AfterWaiting, AtArrival, AtTurn, Start, start_mark}
 use Rattle.iscsi_history.proofs.NewlyLemmas.{Untouched, newly-untouched}
-use Rattle.iscsi_outbox_rules.specs.rules.Boxes.{Box}
 use Rattle.iscsi_outbox_law.proofs.PairLemmas.{each-weaken}
 use Rattle.iscsi_requests.specs.Numbers.{HeldNumbers, size_for, with_held}
 use Rattle.iscsi_ffi_rules.specs.rules.Calls.{Interface}
@@ -31,7 +30,6 @@ use Rattle.iscsi_ffi_law.proofs.DoneShape.{enables}
 use Rattle.iscsi_ffi_law.proofs.Plain.{plain_item, start_effect}
 use Rattle.iscsi_ffi_law.proofs.QuietBox.{IsQuietPart}
 use Rattle.iscsi_ffi_law.proofs.Slots.{slots_same}
-use Rattle.iscsi_ffi_law.proofs.Stepping.{IsCalm}
 use Rattle.iscsi_ffi_law.proofs.TailSends.{IsAnswering}
 
 abbrev pub emptied_item : Start → Arrival → Arrival → ℕ → Reply → List Mark
@@ -126,28 +124,23 @@ module _ (i : Interface) (names : List Name) (notes : List Note) (s : State) (r 
   abbrev t1 : Trace
   t1 = plain_item start a None None None ∷ r.both.trace
 
-  begun : IsOut i names notes s r own xs (plain_item start a None None None ∷ r.both.trace) h.place xs h.held h.functions
+  begun : IsOut i names notes s r own xs (plain_item start a None None None ∷ r.both.trace) (Some (h.place)) xs h.held h.functions
   begun = headed_out i names notes s r own xs k start a h
 
   abbrev gone : ℕ
-  gone = gone_place i names notes s r own xs k t1 h.place xs h.held h.functions begun b is
+  gone = gone_place i names notes s r own xs k t1 (Some (h.place)) xs h.held h.functions begun b is
 
   abbrev held' : HeldNumbers
   held' = with_held (cmd_sn b.request) None h.held
 
-  out : IsOut i names notes s r own xs ((Empties b ∷ []) ∷ (plain_item start a None None None ∷ r.both.trace)) h.place (xs ++ Some gone ∷ []) held' h.functions
-  out = one_out i names notes s r own xs k t1 h.place xs h.held h.functions begun b is
+  out : IsOut i names notes s r own xs ((Empties b ∷ []) ∷ (plain_item start a None None None ∷ r.both.trace)) (Some (h.place)) (xs ++ Some gone ∷ []) held' h.functions
+  out = one_out i names notes s r own xs k t1 (Some (h.place)) xs h.held h.functions begun b is
 
   abbrev number : ℕ
   number = stat_sn_of i.outbox.session r.both.trace conn
 
   abbrev s2 : State
   s2 = record s { held = held'; functions = h.functions }
-
-  first_calm : (x : Box) (u : Start) → IsCalm x (start_effect u a.request)
-  first_calm x AtTurn = tt
-  first_calm x AtArrival = tt
-  first_calm x AfterWaiting = tt
 
   pub emptied_answering : IsAnswering i names notes s r own xs (emptied_item start a b conn reply) (Some (a.request)) conn a.event reply
   emptied_answering = record {
@@ -176,9 +169,9 @@ module _ (i : Interface) (names : List Name) (notes : List Note) (s : State) (r 
     slots = slots_same (size_for i.outbox.session.window) s.commands.room names held' ((Empties b ∷ []) ∷ t1) (emptied_item start a b conn reply ∷ r.both.trace) (held_same r.both.trace start a b conn reply) out.slots;
     distinct = distinct_same r.both.trace start a b conn reply out.distinct;
     over = out.over;
-    calm = λ x takes. (first_calm x start, (tt, (takes, tt)));
+    some = refl;
     of_it = refl;
     walk = λ o limits acts first late rest sent.
         ap (λ w. on_effects false (Empty (wire b.number) ∷ (Send conn number reply ∷ rest)) w) (h.walk o limits acts first sent (ap (λ v. first && v) (sym (late_same r.both.event start a b conn reply)) ∙ late))
-        ∙ ap (λ w. on_effects false (Send conn number reply ∷ rest) w) (one_walk i names notes s r own xs k t1 h.place xs h.held h.functions begun b is wired s.commands xs o acts (Some (h.by)) sent);
+        ∙ ap (λ w. on_effects false (Send conn number reply ∷ rest) w) (one_walk i names notes s r own xs k t1 (Some (h.place)) xs h.held h.functions begun b is wired s.commands xs o acts (Some (h.by)) sent);
   }

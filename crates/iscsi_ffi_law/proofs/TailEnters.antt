@@ -23,7 +23,7 @@ use Rattle.iscsi_outbox_law.specs.Pairs.{EachOf}
 use Rattle.iscsi_outbox_law.specs.Sound.{HasHome, IsSound, entries_of, entry_of}
 use Rattle.iscsi_outbox_law.proofs.PairLemmas.{each-weaken}
 use Rattle.iscsi_outbox_law.proofs.Stops.{stops_answered}
-use Rattle.iscsi_outbox_steps.specs.State.{State as OutboxState, limits_of}
+use Rattle.iscsi_outbox_steps.specs.State.{State as OutboxState}
 use Rattle.iscsi_outbox_steps.specs.Steps.{after_item as steps_after_item, is_running_ticket}
 use Rattle.iscsi_requests.specs.Conns.{of_conn}
 use Rattle.iscsi_ffi_commands.specs.declared.command.Command.{Command}
@@ -40,7 +40,8 @@ use Rattle.iscsi_ffi_law.specs.Names.{Name, Note, place_named}
 use Rattle.iscsi_ffi_law.specs.Parts.{IsCommand, IsWithin, is_named}
 use Rattle.iscsi_ffi_law.specs.Stands.{AreRequests}
 use Rattle.iscsi_ffi_law.proofs.Asked.{any_nothing}
-use Rattle.iscsi_ffi_law.proofs.Between.{IsBetween, IsHeaded}
+use Rattle.iscsi_ffi_law.proofs.Between.{IsBetween, IsFound, IsHeaded, pending_of}
+use Rattle.iscsi_ffi_law.proofs.Unswept.{is_some_effect}
 use Rattle.iscsi_ffi_law.proofs.DoneShape.{enabled_tickets, enables, gives_none, shows_none}
 use Rattle.iscsi_ffi_law.proofs.EnterBox.{IsEnteringPart, entered_box, enters_item, enters_runs}
 use Rattle.iscsi_ffi_law.proofs.EnterRequests.{requests_entered}
@@ -50,10 +51,8 @@ use Rattle.iscsi_ffi_law.proofs.NameLemmas.{Named, found_named, place_event}
 use Rattle.iscsi_ffi_law.proofs.Plain.{answers_plain, effects_plain, leaves_no, one_enters, plain_effects, plain_item, task_of, void_effects}
 use Rattle.iscsi_ffi_law.proofs.Queued.{AllQueued, SettledTo, settled_to}
 use Rattle.iscsi_ffi_law.proofs.Quiet.{settled_sent}
-use Rattle.iscsi_ffi_law.proofs.Releases.{endings}
-use Rattle.iscsi_ffi_law.proofs.Releasing.{ending}
-use Rattle.iscsi_ffi_law.proofs.Stepping.{GoesOn, IsCalm, SameLinks, last_then, runs_then, stands_then}
-use Rattle.iscsi_ffi_law.proofs.TailOver.{calm_plain, voids_past}
+use Rattle.iscsi_ffi_law.proofs.Stepping.{GoesOn, last_then, runs_then, stands_then, still_clear}
+use Rattle.iscsi_ffi_law.proofs.TailOver.{voids_past}
 use Rattle.iscsi_ffi_law.proofs.TailSends.{over_still}
 use Rattle.iscsi_ffi_law.proofs.Walking.{enables_past, enters_walk, is_led, led_end, walk_at, walk_in}
 
@@ -148,14 +147,14 @@ module _ (i : Interface) (names : List Name) (notes : List Note) (s : State) (r 
   named_it = ap (λ (x : Arrival). place_named names x.event) of_it ∙ h.named
 
   abbrev pending' : ℕ → ℕ
-  pending' p = ending None p + endings xs p
+  pending' p = pending_of k.unswept None xs p
 
-  requests1 : AreRequests names notes pending' (λ q. []) state1 side1
-  requests1 = requests_entered names notes (λ p. ending own p + endings xs p) (λ q. []) s r k.requests item c (one_enters start a void c) (leaves_no start a void c) fresh h.place named_it idle apart_handed r.both.event h.held h.functions pending'
+  requests1 : AreRequests names notes pending' k.gone state1 side1
+  requests1 = requests_entered names notes (pending_of k.unswept own xs) k.gone s r k.requests item c (one_enters start a void c) (leaves_no start a void c) fresh h.place named_it idle apart_handed r.both.event h.held h.functions pending'
       (λ p. omega (arith, h.uses p)) h.requests h.noted
 
   all1 : AllQueued names (item ∷ r.both.trace) r.answers (λ q. of_conn q s.replies.waiting) (λ q. length (of_conn q s.noted.handed)) r.both.box.links r.both.box.undue
-  all1 = all_queued i names notes pending' (λ q. []) state1 side1 requests1 k.outbox distinct fit.fit.sound
+  all1 = all_queued i names notes pending' k.gone state1 side1 requests1 k.outbox distinct fit.fit.sound
 
   settled : SettledTo names (item ∷ r.both.trace) r.answers (λ q. of_conn q s.replies.waiting) (λ q. length (of_conn q s.noted.handed)) r.both.box.links (settle i.outbox box1)
   settled = settled_to names (item ∷ r.both.trace) r.answers (λ q. of_conn q s.replies.waiting) (λ q. length (of_conn q s.noted.handed)) i.outbox box1 all1
@@ -173,16 +172,21 @@ module _ (i : Interface) (names : List Name) (notes : List Note) (s : State) (r 
   abbrev state' : State
   state' = record s { held = h.held; functions = h.functions; commands = commands.entered command s.commands; outbox = steps_after_item (effects_by i r item) s.outbox }
 
-  requests2 : AreRequests names notes pending' (λ q. []) state' (side_behind i r item)
-  requests2 = subst (λ as'. AreRequests names notes pending' (λ q. []) state' (record (side_behind i r item) { answers = as' })) (sym (append-nil r.answers) ∙ ap (λ as'. r.answers ++ as') (sym (answers_plain r.both.event start a void (Some c) None)))
-      (requests_moved names notes pending' (λ q. []) state1 side1 requests1 outbox' (after_item i.outbox r.both.box (effects_by i r item)) (runs_then i names notes s r own xs k item fit distinct sound runs) moved)
+  requests2 : AreRequests names notes pending' k.gone state' (side_behind i r item)
+  requests2 = subst (λ as'. AreRequests names notes pending' k.gone state' (record (side_behind i r item) { answers = as' })) (sym (append-nil r.answers) ∙ ap (λ as'. r.answers ++ as') (sym (answers_plain r.both.event start a void (Some c) None)))
+      (requests_moved names notes pending' k.gone state1 side1 requests1 outbox' (after_item i.outbox r.both.box (effects_by i r item)) (runs_then i names notes s r own xs k item fit.fit distinct sound runs) moved)
 
   between : IsBetween i names notes state' (side_behind i r item) None xs
   between = record {
     requests = requests2;
     slots = h.slots;
     functions = h.functions_are;
-    outbox = stands_then i names notes s r own xs k item fit distinct sound;
+    unswept = k.unswept;
+    gone = k.gone;
+    long_replies = k.long_replies;
+    long_noted = k.long_noted;
+    clear = still_clear i names notes s r own xs k item fit.fit distinct sound;
+    outbox = stands_then i names notes s r own xs k item fit.fit distinct sound;
     sizes = record {
       room = k.sizes.room;
       functions = h.long_functions ∙ k.sizes.functions;
@@ -201,7 +205,7 @@ module _ (i : Interface) (names : List Name) (notes : List Note) (s : State) (r 
       last =
           let more : length (entered (item ∷ r.both.trace)) ≡ length (entered r.both.trace) + 1 = ap (λ cs. length (entered r.both.trace ++ cs)) (one_enters start a void c) ∙ length-append (entered r.both.trace) (c ∷ []) in
           omega (arith, more, next);
-      tracked = last_then i names notes s r own xs k item fit distinct sound;
+      tracked = last_then i names notes s r own xs k item fit.fit distinct sound;
     };
     withheld = k.withheld;
     distinct = h.distinct;
@@ -234,7 +238,7 @@ module _ (i : Interface) (names : List Name) (notes : List Note) (s : State) (r 
       (lt-ltb c.unit s.commands.units (let units = k.counts.units in omega (arith, unit, units)))
       (le-test 1 h.place (let low = placed.low in omega (arith, low, place_is))) (le-test h.place s.commands.room (let high = placed.high in omega (arith, high, place_is))) (ap not none_of_it)
 
-  walk : (o : OutboxState) → o.limits ≡ limits_of i.outbox → (acts : List Action) (first : Bool) → (first && is_late r.both.event item) ≡ false → (rest : List Effect) → is_led rest ≡ true
+  walk : (o : OutboxState) → IsFound i o → (acts : List Action) (first : Bool) → (first && is_late r.both.event item) ≡ false → (rest : List Effect) → is_led rest ≡ true
       → on_effects first (effects_by i r item ++ rest) (walk_at o s acts xs own r.both.box.sent) ≡ on_effects false rest (walk_at o state' acts xs None (side_behind i r item).both.box.sent)
   walk o limits acts first late rest led =
       ap (λ es'. on_effects first (es' ++ rest) (walk_at o s acts xs own r.both.box.sent)) effects_are
@@ -255,7 +259,8 @@ module _ (i : Interface) (names : List Name) (notes : List Note) (s : State) (r 
       after_enter : Walk
       after_enter = walk_in o (record s { held = h.held; functions = h.functions; commands = commands.entered command s.commands }) acts xs None None (Some (h.by)) r.both.box.sent
 
-  pub goes_entered : GoesOn i names notes s r own xs (plain_item start a void (Some c) None)
+  pub goes_entered : GoesOn i names notes k.unswept s r own xs (plain_item start a void (Some c) None)
+  unfolding between
   goes_entered = record {
     state = state';
     ended = xs;
@@ -266,7 +271,9 @@ module _ (i : Interface) (names : List Name) (notes : List Note) (s : State) (r 
         let lives = sum_by-append (λ (x : Command). cond (is_live x) 1 0) s.commands.items (command ∷ []) in
         let going = sum_by-append (λ (x : Command). cond (is_going x) 1 0) s.commands.items (command ∷ []) in
         record { lives = (let fewer = h.fewer in omega (arith, lives, fewer, count-cons is_live command [])); going = omega (arith, going, count-cons is_going command []) };
-    links = subst (SameLinks r.both.box) (sym box_is) (record { long = settled.long; same = settled.same });
-    calm = subst (EachOf (IsCalm (side_behind i r item).both.box)) (sym effects_are) (calm_plain i r item start a void (Some c) None ns (λ reply is. absurd (let no : ⊥ = cc in no)));
+    same = refl;
+    begins = ap is_some_effect effects_are;
+    waits = omega arith;
+    notes_kept = refl;
     walk = λ o limits acts first late rest led. walk o limits acts first late rest led;
   }

@@ -1,17 +1,15 @@
 -- A request executes by which commands leave: it is answered then, or is over.
-use Rattle.std.proofs.Common.{◌≡◌, ℕ, ◌+◌, ◌<◌, ◌≤◌, ◌==◌, ◌&&◌, Bool, true, false, List, [], ◌∷◌, ◌++◌, length, map, count_by, Option, Some, None, refl, ap, sym, subst, ◌∙◌, arith, length-append, length-set}
-use Rattle.std.specs.List.{filter_map, list_any}
+use Rattle.std.proofs.Common.{◌≡◌, ℕ, ◌+◌, ◌<◌, ◌≤◌, ◌==◌, ◌&&◌, Bool, true, false, List, [], ◌∷◌, ◌++◌, length, map, count_by, Option, Some, None, inl, refl, ap, sym, subst, ◌∙◌, arith, length-append, length-set}
+use Rattle.std.specs.List.{filter_map}
 use Rattle.std.proofs.lemmas.Bool.{eqb-true}
 use Rattle.std.proofs.lemmas.List.{append-nil, length-map}
 use Rattle.iscsi_wire.specs.declared.reply.Reply.{Reply}
 use Rattle.iscsi_wire.specs.Fields.{connection_of}
-use Rattle.iscsi_wire.specs.Serial.{wire}
 use Rattle.iscsi_history.specs.declared.effect.Effect.{Effect}
-use Rattle.iscsi_history.specs.declared.effect.Effect.TheVariants.{Enable, Leave, Send, Void}
 use Rattle.iscsi_history.specs.rules.Settings.{are_distinct}
 use Rattle.iscsi_history.specs.rules.Trace.{Arrival, Command as RulesCommand, Mark, first_of, live}
 use Rattle.iscsi_history.proofs.CountLemmas.{one}
-use Rattle.iscsi_history.proofs.Forms.{AfterWaiting, AtArrival, AtTurn, Start}
+use Rattle.iscsi_history.proofs.Forms.{Start}
 use Rattle.iscsi_outbox_rules.specs.rules.Boxes.{Box, Handed, Link}
 use Rattle.iscsi_outbox_rules.specs.rules.Due.{settle}
 use Rattle.iscsi_outbox_rules.specs.rules.Items.{after_item, in_phase, phase_enabled, reply_sent}
@@ -22,7 +20,7 @@ use Rattle.iscsi_outbox_law.specs.Commands.{link_in}
 use Rattle.iscsi_outbox_law.specs.Pairs.{EachOf}
 use Rattle.iscsi_outbox_law.specs.Sound.{IsSound}
 use Rattle.iscsi_outbox_law.proofs.PairLemmas.{each-map}
-use Rattle.iscsi_outbox_steps.specs.State.{State as OutboxState, limits_of}
+use Rattle.iscsi_outbox_steps.specs.State.{State as OutboxState}
 use Rattle.iscsi_outbox_steps.specs.Steps.{after_item as steps_after_item}
 use Rattle.iscsi_requests.specs.Conns.{of_conn}
 use Rattle.iscsi_requests.specs.Replies.{pushed}
@@ -38,57 +36,27 @@ use Rattle.iscsi_ffi_law.specs.Names.{Name, Note}
 use Rattle.iscsi_ffi_law.specs.Parts.{IsBefore}
 use Rattle.iscsi_ffi_law.specs.Stands.{AreRequests}
 use Rattle.iscsi_ffi_law.specs.Uses.{count_lists, is_place}
-use Rattle.iscsi_ffi_law.proofs.Between.{IsBetween, IsHeaded, pending_as}
+use Rattle.iscsi_ffi_law.proofs.Between.{IsBetween, IsFound, IsHeaded, pending_as, pending_of}
+use Rattle.iscsi_ffi_law.proofs.Unswept.{is_some_effect, more_count, unswept_at}
 use Rattle.iscsi_ffi_law.proofs.Core.{endings_more}
 use Rattle.iscsi_ffi_law.proofs.DoneRoom.{may_wait_more}
 use Rattle.iscsi_ffi_law.proofs.DoneShape.{enables, tickets_of}
 use Rattle.iscsi_ffi_law.proofs.Finish.{as_many_links}
-use Rattle.iscsi_ffi_law.proofs.Leaving.{answers_left, leave_effects, left_effects, left_item}
+use Rattle.iscsi_ffi_law.proofs.Leaving.{answers_left, left_item}
 use Rattle.iscsi_ffi_law.proofs.LeavingBox.{left_box}
 use Rattle.iscsi_ffi_law.proofs.LeavingCommands.{ended_by, entered_left, gone_by}
 use Rattle.iscsi_ffi_law.proofs.LeavingItem.{box_is, effects_are, few2, leaves_past, ns, over2, part, queued2, r2, requests2, s1', s2, sn, those}
 use Rattle.iscsi_ffi_law.proofs.Members.{PassingAt}
 use Rattle.iscsi_ffi_law.proofs.Moved.{IsMoved, requests_moved}
-use Rattle.iscsi_ffi_law.proofs.Plain.{send_effects, start_effect, void_effects}
 use Rattle.iscsi_ffi_law.proofs.Queued.{SameOut, SettledTo, any_map, is_taking, link_map, settled_to}
 use Rattle.iscsi_ffi_law.proofs.Quiet.{settled_sent}
 use Rattle.iscsi_ffi_law.proofs.QuietSends.{sends_reply}
 use Rattle.iscsi_ffi_law.proofs.Releases.{endings}
-use Rattle.iscsi_ffi_law.proofs.Releasing.{ending}
 use Rattle.iscsi_ffi_law.proofs.ReplyPlace.{conn_is as reply_conn, place_is as reply_place, takes_it as reply_takes, there as reply_there}
 use Rattle.iscsi_ffi_law.proofs.ReplyRequests.{IsReplied, requests_replied}
-use Rattle.iscsi_ffi_law.proofs.Stepping.{IsCalm, ItemGoes, SameLinks, all_calm_on, last_then, places_same, stands_then}
+use Rattle.iscsi_ffi_law.proofs.Stepping.{ItemGoes, last_then, places_same, stands_then, still_clear}
+use Rattle.iscsi_ffi_law.proofs.Framing.{some_first}
 use Rattle.iscsi_ffi_law.proofs.Walking.{enables_past, ends_with_it, is_led, led_end, sends_walk, walk_at, walk_in}
-
--- ---- its effects
-
-each_left : (P : Effect → Type 0) (sn : ℕ) (start : Start) (a : Arrival) (void : Option ℕ) (cs : List RulesCommand) (reply : Option Reply) (ns : List RulesCommand) → P (start_effect start a.request) → ((n : ℕ) → P (Void n)) → ((n u : ℕ) → P (Leave n u))
-    → ((x : Reply) → reply ≡ Some x → P (Send (connection_of a.request) sn x)) → ((n u : ℕ) → P (Enable n u)) → EachOf P (left_effects sn start a void cs reply ns)
-each_left P sn start a void cs reply ns first voids leaves sends enabled = (first, by_void void)
-  where
-    all_enabled : (ds : List RulesCommand) → EachOf P (enables ds)
-    all_enabled [] = tt
-    all_enabled (d ∷ ds) = (enabled d.ticket d.unit, all_enabled ds)
-
-    by_reply : (y : Option Reply) → reply ≡ y → EachOf P (send_effects (connection_of a.request) sn y ++ enables ns)
-    by_reply None is = all_enabled ns
-    by_reply (Some x) is = (sends x is, all_enabled ns)
-
-    all_leave : (ds : List RulesCommand) → EachOf P (leave_effects ds ++ (send_effects (connection_of a.request) sn reply ++ enables ns))
-    all_leave [] = by_reply reply refl
-    all_leave (d ∷ ds) = (leaves d.ticket d.unit, all_leave ds)
-
-    by_void : (y : Option ℕ) → EachOf P (void_effects y ++ (leave_effects cs ++ (send_effects (connection_of a.request) sn reply ++ enables ns)))
-    by_void None = all_leave cs
-    by_void (Some n) = (voids (wire n), all_leave cs)
-
-calm_left : (i : Interface) (b : Box) (sn : ℕ) (start : Start) (a : Arrival) (void : Option ℕ) (cs : List RulesCommand) (reply : Option Reply) (ns : List RulesCommand) → ((x : Reply) → reply ≡ Some x → list_any (λ (l : Link). l.conn == connection_of a.request && takes_more l) b.links ≡ true) → EachOf (IsCalm b) (left_effects sn start a void cs reply ns)
-calm_left i b sn start a void cs reply ns takes = each_left (IsCalm b) sn start a void cs reply ns (first start) (λ n. tt) (λ n u. tt) takes (λ n u. tt)
-  where
-    first : (x : Start) → IsCalm b (start_effect x a.request)
-    first AtTurn = tt
-    first AtArrival = tt
-    first AfterWaiting = tt
 
 -- what waits of commands is dropped: each connection goes out as before
 pub links_dropped : (tickets : List ℕ) (links : List Link) (q : ℕ) → q < length links → SameOut (link_in links q) (link_in (map (without (contains tickets)) links) q)
@@ -162,9 +130,9 @@ module _ (i : Interface) (names : List Name) (notes : List Note) (s : State) (r 
     replies = pushed there.place (record { log_place = r.both.box.sent; request = h.place }) s.replies;
   }
 
-  requests3 : AreRequests names notes (λ q. ending None q + endings (xs ++ ended_by names r cs) q) (λ q. []) state' (side_behind i r item)
-  requests3 = subst (λ as'. AreRequests names notes (λ q. ending None q + endings (xs ++ ended_by names r cs) q) (λ q. []) state' (record (side_behind i r item) { answers = r.answers ++ as' })) (sym (answers_left r.both.event start a void cs (Some reply)))
-      (requests_replied names notes (λ q. one (h.place == q) + endings (xs ++ ended_by names r cs) q) (λ q. ending None q + endings (xs ++ ended_by names r cs) q) (λ q. []) sL rL (requests2 i names notes s r own xs k start a void cs (Some reply) fit distinct sound h each) a.event there.place h.place
+  requests3 : AreRequests names notes (pending_of k.unswept None (xs ++ ended_by names r cs)) k.gone state' (side_behind i r item)
+  requests3 = subst (λ as'. AreRequests names notes (pending_of k.unswept None (xs ++ ended_by names r cs)) k.gone state' (record (side_behind i r item) { answers = r.answers ++ as' })) (sym (answers_left r.both.event start a void cs (Some reply)))
+      (requests_replied names notes (λ q. one (h.place == q) + endings (xs ++ ended_by names r cs) q + unswept_at k.unswept q) (pending_of k.unswept None (xs ++ ended_by names r cs)) k.gone sL rL (requests2 i names notes s r own xs k start a void cs (Some reply) fit distinct sound h each) a.event there.place h.place
       (λ q. omega arith) within long h.named handed outbox_then box_then (λ ticket. refl) replied)
 
   between : IsBetween i names notes state' (side_behind i r item) None (xs ++ ended_by names r cs)
@@ -172,7 +140,12 @@ module _ (i : Interface) (names : List Name) (notes : List Note) (s : State) (r 
     requests = requests3;
     slots = h.slots;
     functions = h.functions_are;
-    outbox = stands_then i names notes s r own xs k item fit distinct sound;
+    unswept = k.unswept;
+    gone = k.gone;
+    long_replies = k.long_replies;
+    long_noted = k.long_noted;
+    clear = still_clear i names notes s r own xs k item fit.fit distinct sound;
+    outbox = stands_then i names notes s r own xs k item fit.fit distinct sound;
     sizes = record {
       room = k.sizes.room;
       functions = h.long_functions ∙ k.sizes.functions;
@@ -192,7 +165,7 @@ module _ (i : Interface) (names : List Name) (notes : List Note) (s : State) (r 
           let same = ap length (entered_left r.both.trace item cs (those i names notes s r own xs k start a void cs (Some reply) fit distinct sound h each).none_enters (those i names notes s r own xs k start a void cs (Some reply) fit distinct sound h each).left_by) in
           let below = k.counts.last in
           omega (arith, same, below);
-      tracked = last_then i names notes s r own xs k item fit distinct sound;
+      tracked = last_then i names notes s r own xs k item fit.fit distinct sound;
     };
     withheld = k.withheld;
     distinct = h.distinct;
@@ -203,24 +176,15 @@ module _ (i : Interface) (names : List Name) (notes : List Note) (s : State) (r 
   }
 
   may_one : may_wait r.both.box.sent s.replies ≡ true
-  may_one = may_wait_more i names notes (λ q. ending own q + endings xs q) (λ q. []) s r k.requests k.outbox k.sizes sends.sent sends.replies
+  may_one = may_wait_more i names notes (pending_of k.unswept own xs) k.gone s r k.requests k.outbox k.sizes sends.sent sends.replies
 
-  same_links : SameLinks r.both.box (side_behind i r item).both.box
-  same_links = record {
-    long = replied.long ∙ many;
-    same = λ q short.
-        let x : SameOut (link_in rL.both.box.links q) (link_in box_then.links q) = replied.same q (omega (arith, short, many)) in
-        let y : SameOut (link_in r.both.box.links q) (link_in rL.both.box.links q) = links_dropped tickets r.both.box.links q short in
-        record { conn = x.conn ∙ y.conn; takes = x.takes ∙ y.takes; left = x.left ∙ y.left };
-  }
-
-  walk : (o : OutboxState) → o.limits ≡ limits_of i.outbox → (acts : List Action) (first : Bool) → (first && is_late r.both.event item) ≡ false → length acts + length (stops_in r item) ≤ s.room → (rest : List Effect) → is_led rest ≡ true
+  walk : (o : OutboxState) → IsFound i o → (acts : List Action) (first : Bool) → (first && is_late r.both.event item) ≡ false → length acts + length (stops_in r item) ≤ s.room → (rest : List Effect) → is_led rest ≡ true
       → on_effects first (effects_by i r item ++ rest) (walk_at o s acts xs own r.both.box.sent) ≡ on_effects false rest (walk_at o state' (acts ++ stops_in r item) (xs ++ ended_by names r cs) None (side_behind i r item).both.box.sent)
   walk o limits acts first late room rest led =
       leaves_past i names notes s r own xs k start a void cs (Some reply) fit distinct sound h each o limits acts first late room rest
       ∙ ap (on_effects false (enables enabled ++ rest))
       (sends_walk o sG (acts ++ stops_in r item) (xs ++ ended_by names r cs) cid number there.place h.place reply (Some (h.place)) None (Some (h.by)) r.both.box.sent
-      (places_same i names notes s r own xs k item fit distinct sound o limits cid ∙ reply_place i.outbox s.outbox r.both.box k.outbox distinct cid sends.takes) refl may_one (let lt = sends.sent in omega (arith, lt)))
+      (places_same i names notes s r own xs k item fit.fit distinct sound o limits cid ∙ reply_place i.outbox s.outbox r.both.box k.outbox distinct cid sends.takes) refl may_one (let lt = sends.sent in omega (arith, lt)))
       ∙ enables_past enabled rest after_send
       ∙ led_end rest led after_send
       ∙ ap (λ n. on_effects false rest (walk_at o state' (acts ++ stops_in r item) (xs ++ ended_by names r cs) None n)) (sym replied.sent)
@@ -231,7 +195,8 @@ module _ (i : Interface) (names : List Name) (notes : List Note) (s : State) (r 
       after_send : Walk
       after_send = walk_in o (record sG { replies = pushed there.place (record { log_place = r.both.box.sent; request = h.place }) s.replies }) (acts ++ stops_in r item) (xs ++ ended_by names r cs) None None (Some (h.by)) (r.both.box.sent + 1)
 
-  pub goes_left : ItemGoes i names notes s r own xs (left_item start a void cs (Some reply))
+  pub goes_left : ItemGoes i names notes k.unswept s r own xs (left_item start a void cs (Some reply))
+  unfolding between
   goes_left = record {
     state = state';
     ended = xs ++ ended_by names r cs;
@@ -239,9 +204,12 @@ module _ (i : Interface) (names : List Name) (notes : List Note) (s : State) (r 
     outbox = refl;
     room = refl;
     few = (let few = few2 i names notes s r own xs k start a void cs (Some reply) fit distinct sound h each in let lives = few.0 in let fewer = h.fewer in record { lives = omega (arith, lives, fewer); going = few.1 });
-    links = same_links;
-    calm = subst (EachOf (IsCalm (side_behind i r item).both.box)) (sym (effects_are i names notes s r own xs k start a void cs (Some reply) fit distinct sound h each))
-        (calm_left i (side_behind i r item).both.box number start a void cs (Some reply) enabled (λ x is. (all_calm_on r.both.box (side_behind i r item).both.box same_links (Send cid number reply ∷ []) (sends.takes, tt)).0));
+    still = state';
+    put = refl;
+    begins = ap is_some_effect (effects_are i names notes s r own xs k start a void cs (Some reply) fit distinct sound h each);
+    waits = (let more = more_count s.replies.waiting there.place (record { log_place = r.both.box.sent; request = h.place }) in let some = some_first (filter_map reply_sent (effects_by i r item)) (cid, reply) (ap (λ (fs : List Effect). first_of (filter_map reply_sent fs)) (effects_are i names notes s r own xs k start a void cs (Some reply) fit distinct sound h each) ∙ (part i names notes s r own xs k start a void cs (Some reply) fit distinct sound h each).sends) in omega (arith, more, some));
+    notes_kept = omega arith;
+    touched = λ o found p. inl (refl, refl);
     walk = λ o limits acts first late room rest led. walk o limits acts first late room rest led;
   }
 
@@ -293,12 +261,12 @@ module _ (i : Interface) (names : List Name) (notes : List Note) (s : State) (r 
   abbrev state_over : State
   state_over = record s { held = h.held; functions = h.functions; commands = record s.commands { items = map (gone_by cs) s.commands.items }; outbox = steps_after_item (effects_by i r silent_item) s.outbox }
 
-  requests_over : AreRequests names notes (λ q. ending None q + endings ((xs ++ ended_by names r cs) ++ Some (h.place) ∷ []) q) (λ q. []) state_over (side_behind i r silent_item)
-  requests_over = subst (λ as'. AreRequests names notes (λ q. ending None q + endings ((xs ++ ended_by names r cs) ++ Some (h.place) ∷ []) q) (λ q. []) state_over (record (side_behind i r silent_item) { answers = as' }))
+  requests_over : AreRequests names notes (pending_of k.unswept None ((xs ++ ended_by names r cs) ++ Some (h.place) ∷ [])) k.gone state_over (side_behind i r silent_item)
+  requests_over = subst (λ as'. AreRequests names notes (pending_of k.unswept None ((xs ++ ended_by names r cs) ++ Some (h.place) ∷ [])) k.gone state_over (record (side_behind i r silent_item) { answers = as' }))
       (sym (append-nil r.answers) ∙ ap (λ as'. r.answers ++ as') (sym (answers_left r.both.event start a void cs None)))
-      (pending_as names notes (λ q. one (h.place == q) + endings (xs ++ ended_by names r cs) q) (λ q. ending None q + endings ((xs ++ ended_by names r cs) ++ Some (h.place) ∷ []) q) (λ q. []) state_over (record (side_behind i r silent_item) { answers = r.answers })
+      (pending_as names notes (λ q. one (h.place == q) + endings (xs ++ ended_by names r cs) q + unswept_at k.unswept q) (pending_of k.unswept None ((xs ++ ended_by names r cs) ++ Some (h.place) ∷ [])) k.gone state_over (record (side_behind i r silent_item) { answers = r.answers })
       (λ q. let all = endings_more (xs ++ ended_by names r cs) (Some (h.place)) q in omega (arith, all))
-      (requests_moved names notes (λ q. one (h.place == q) + endings (xs ++ ended_by names r cs) q) (λ q. []) s_left r_left (requests2 i names notes s r own xs k start a void cs None fit distinct sound h each) (steps_after_item (effects_by i r silent_item) s.outbox) box_behind (λ ticket. refl) moved))
+      (requests_moved names notes (λ q. one (h.place == q) + endings (xs ++ ended_by names r cs) q + unswept_at k.unswept q) k.gone s_left r_left (requests2 i names notes s r own xs k start a void cs None fit distinct sound h each) (steps_after_item (effects_by i r silent_item) s.outbox) box_behind (λ ticket. refl) moved))
 
   over_all : (q : ℕ) → 1 ≤ endings ((xs ++ ended_by names r cs) ++ Some (h.place) ∷ []) q → count_by (is_place q) h.held.places + count_lists (λ (f : WaitingFunction). f.request == q) h.functions.waiting ≡ 0
   over_all q some = by_test (h.place == q) refl
@@ -314,7 +282,12 @@ module _ (i : Interface) (names : List Name) (notes : List Note) (s : State) (r 
     requests = requests_over;
     slots = h.slots;
     functions = h.functions_are;
-    outbox = stands_then i names notes s r own xs k silent_item fit distinct sound;
+    unswept = k.unswept;
+    gone = k.gone;
+    long_replies = k.long_replies;
+    long_noted = k.long_noted;
+    clear = still_clear i names notes s r own xs k silent_item fit.fit distinct sound;
+    outbox = stands_then i names notes s r own xs k silent_item fit.fit distinct sound;
     sizes = record {
       room = k.sizes.room;
       functions = h.long_functions ∙ k.sizes.functions;
@@ -334,7 +307,7 @@ module _ (i : Interface) (names : List Name) (notes : List Note) (s : State) (r 
           let same = ap length (entered_left r.both.trace silent_item cs (those i names notes s r own xs k start a void cs None fit distinct sound h each).none_enters (those i names notes s r own xs k start a void cs None fit distinct sound h each).left_by) in
           let below = k.counts.last in
           omega (arith, same, below);
-      tracked = last_then i names notes s r own xs k silent_item fit distinct sound;
+      tracked = last_then i names notes s r own xs k silent_item fit.fit distinct sound;
     };
     withheld = k.withheld;
     distinct = h.distinct;
@@ -344,16 +317,8 @@ module _ (i : Interface) (names : List Name) (notes : List Note) (s : State) (r 
     own_first = λ q none. absurd (let no : ⊥ = cc in no);
   }
 
-  links_over : SameLinks r.both.box (side_behind i r silent_item).both.box
-  links_over = subst (SameLinks r.both.box) (sym (box_is i names notes s r own xs k start a void cs None fit distinct sound h each)) (record {
-    long = settled.long ∙ many_links;
-    same = λ q short.
-        let x : SameOut (link_in gone.links q) (link_in (settle i.outbox (in_phase phase_enabled (tickets_of news) gone)).links q) = settled.same q (omega (arith, short, many_links)) in
-        let y : SameOut (link_in r.both.box.links q) (link_in gone.links q) = links_dropped silent_tickets r.both.box.links q short in
-        record { conn = x.conn ∙ y.conn; takes = x.takes ∙ y.takes; left = x.left ∙ y.left };
-  })
-
-  pub goes_left_over : ItemGoes i names notes s r own xs (left_item start a void cs None)
+  pub goes_left_over : ItemGoes i names notes k.unswept s r own xs (left_item start a void cs None)
+  unfolding between_over
   goes_left_over = record {
     state = state_over;
     ended = (xs ++ ended_by names r cs) ++ Some (h.place) ∷ [];
@@ -361,9 +326,12 @@ module _ (i : Interface) (names : List Name) (notes : List Note) (s : State) (r 
     outbox = refl;
     room = refl;
     few = (let few = few2 i names notes s r own xs k start a void cs None fit distinct sound h each in let lives = few.0 in let long = length-append (xs ++ ended_by names r cs) (Some (h.place) ∷ []) in let fewer = h.fewer in record { lives = omega (arith, lives, long, fewer); going = few.1 });
-    links = links_over;
-    calm = subst (EachOf (IsCalm (side_behind i r silent_item).both.box)) (sym (effects_are i names notes s r own xs k start a void cs None fit distinct sound h each))
-        (calm_left i (side_behind i r silent_item).both.box (sn i names notes s r own xs k start a void cs None fit distinct sound h each) start a void cs None news (λ x is. absurd (let no : ⊥ = cc in no)));
+    still = state_over;
+    put = refl;
+    begins = ap is_some_effect (effects_are i names notes s r own xs k start a void cs None fit distinct sound h each);
+    waits = omega arith;
+    notes_kept = omega arith;
+    touched = λ o found p. inl (refl, refl);
     walk = λ o limits acts first late room rest led.
         leaves_past i names notes s r own xs k start a void cs None fit distinct sound h each o limits acts first late room rest
         ∙ enables_past news rest (after_leaves o acts)

@@ -5,20 +5,16 @@ use Rattle.std.proofs.lemmas.List.{append-nil}
 use Rattle.iscsi_wire.specs.Fields.{connection_of}
 use Rattle.iscsi_history.specs.declared.effect.Effect.{Effect}
 use Rattle.iscsi_history.specs.rules.Settings.{are_distinct}
-use Rattle.iscsi_history.specs.rules.Trace.{Arrival, Command as RulesCommand, Mark}
+use Rattle.iscsi_history.specs.rules.Trace.{Arrival, Mark}
 use Rattle.iscsi_history.specs.rules.Run.{stat_sn_of}
 use Rattle.iscsi_history.proofs.CountLemmas.{one}
-use Rattle.iscsi_history.proofs.Forms.{AfterWaiting, AtArrival, AtTurn, Start}
+use Rattle.iscsi_history.proofs.Forms.{Start}
 use Rattle.iscsi_history.proofs.NewlyLemmas.{Untouched, newly-untouched}
-use Rattle.iscsi_outbox_rules.specs.rules.Boxes.{Box, Link}
+use Rattle.iscsi_outbox_rules.specs.rules.Boxes.{Box}
 use Rattle.iscsi_outbox_rules.specs.rules.Items.{after_item}
 use Rattle.iscsi_outbox_rules.specs.rules.Words.{is_running}
-use Rattle.iscsi_outbox_rules.specs.rules.Queues.{takes_more}
-use Rattle.iscsi_outbox_law.specs.Pairs.{EachOf}
-use Rattle.iscsi_wire.specs.declared.reply.Reply.{Reply}
-use Rattle.std.specs.List.{list_any}
 use Rattle.iscsi_outbox_law.specs.Sound.{IsSound}
-use Rattle.iscsi_outbox_steps.specs.State.{State as OutboxState, limits_of}
+use Rattle.iscsi_outbox_steps.specs.State.{State as OutboxState}
 use Rattle.iscsi_outbox_steps.specs.Steps.{after_item as steps_after_item}
 use Rattle.iscsi_requests.specs.declared.functions.WaitingFunction.{WaitingFunction}
 use Rattle.iscsi_ffi_rules.specs.declared.action.Action.{Action}
@@ -30,33 +26,22 @@ use Rattle.iscsi_ffi_law.specs.Arrived.{IsStepFit, effects_by, is_late, side_beh
 use Rattle.iscsi_ffi_law.specs.Names.{Name, Note}
 use Rattle.iscsi_ffi_law.specs.Stands.{AreRequests}
 use Rattle.iscsi_ffi_law.specs.Uses.{count_functions, count_held, count_lists, is_place}
-use Rattle.iscsi_ffi_law.proofs.Between.{IsBetween, IsHeaded}
+use Rattle.iscsi_ffi_law.proofs.Between.{IsBetween, IsFound, IsHeaded, pending_of}
 use Rattle.iscsi_ffi_law.proofs.Core.{endings_more}
 use Rattle.iscsi_ffi_law.proofs.Moved.{IsMoved, requests_moved}
-use Rattle.iscsi_ffi_law.proofs.Plain.{answers_plain, each_plain, effects_plain, plain_effects, plain_item, quiet_plain, start_effect, untouched_plain, void_effects}
+use Rattle.iscsi_ffi_law.proofs.Plain.{answers_plain, effects_plain, plain_effects, plain_item, quiet_plain, untouched_plain, void_effects}
 use Rattle.iscsi_ffi_law.proofs.QuietBox.{quiet_item}
 use Rattle.iscsi_ffi_law.proofs.QuietRequests.{entered_on, requests_on}
 use Rattle.iscsi_ffi_law.proofs.Releases.{endings}
 use Rattle.iscsi_ffi_law.proofs.Releasing.{ending}
-use Rattle.iscsi_ffi_law.proofs.Stepping.{GoesOn, IsCalm, last_then, links_unmoved, runs_then, stands_then}
+use Rattle.iscsi_ffi_law.proofs.Stepping.{GoesOn, last_then, runs_then, stands_then, still_clear}
+use Rattle.iscsi_ffi_law.proofs.Unswept.{is_some_effect}
 use Rattle.iscsi_ffi_law.proofs.Walking.{ends_with_it, is_led, led_end, walk_at, walk_in}
 
 -- a number that is voided says nothing of requests
 pub voids_past : (void : Option ℕ) (rest : List Effect) (w : Walk) → on_effects false (void_effects void ++ rest) w ≡ on_effects false rest w
 voids_past None rest w = refl
 voids_past (Some n) rest w = refl
-
--- the effects of an item are calm where its reply is
-pub calm_plain : (i : Interface) (r : Side) (item : List Mark) (start : Start) (a : Arrival) (void : Option ℕ) (entering : Option RulesCommand) (reply : Option Reply) (ns : List RulesCommand)
-    → ((x : Reply) → reply ≡ Some x → list_any (λ (l : Link). l.conn == connection_of a.request && takes_more l) (side_behind i r item).both.box.links ≡ true)
-    → EachOf (IsCalm (side_behind i r item).both.box) (plain_effects (stat_sn_of i.outbox.session r.both.trace (connection_of a.request)) start a void entering reply ns)
-calm_plain i r item start a void entering reply ns takes =
-    each_plain (IsCalm (side_behind i r item).both.box) (stat_sn_of i.outbox.session r.both.trace (connection_of a.request)) start a void entering reply ns (first start) (λ n. tt) (λ c. tt) takes (λ k u. tt)
-  where
-    first : (x : Start) → IsCalm (side_behind i r item).both.box (start_effect x a.request)
-    first AtTurn = tt
-    first AtArrival = tt
-    first AfterWaiting = tt
 
 module _ (i : Interface) (names : List Name) (notes : List Note) (s : State) (r : Side) (own : Option ℕ) (xs : List (Option ℕ)) (k : IsBetween i names notes s r own xs) (start : Start) (a : Arrival) (void : Option ℕ)
     (fit : IsStepFit i r (plain_item start a void None None)) (distinct : are_distinct i.outbox.session.conns ≡ true) (sound : IsSound i.outbox (side_behind i r (plain_item start a void None None)).both.box)
@@ -91,8 +76,8 @@ module _ (i : Interface) (names : List Name) (notes : List Note) (s : State) (r 
   abbrev state' : State
   state' = record s { held = h.held; functions = h.functions; outbox = steps_after_item (effects_by i r item) s.outbox }
 
-  requests1 : AreRequests names notes (λ p. ending None p + endings (xs ++ Some (h.place) ∷ []) p) (λ q. []) s1 r1
-  requests1 = requests_on names notes (λ p. ending own p + endings xs p) (λ q. []) s r k.requests item u r.both.event h.held h.functions (λ p. ending None p + endings (xs ++ Some (h.place) ∷ []) p)
+  requests1 : AreRequests names notes (pending_of k.unswept None (xs ++ Some (h.place) ∷ [])) k.gone s1 r1
+  requests1 = requests_on names notes (pending_of k.unswept own xs) k.gone s r k.requests item u r.both.event h.held h.functions (pending_of k.unswept None (xs ++ Some (h.place) ∷ []))
       (λ p. omega (arith, h.uses p, endings_more xs (Some (h.place)) p)) h.requests h.noted
 
   moved : IsMoved names s1 r1 (after_item i.outbox r.both.box (effects_by i r (plain_item start a void None None)))
@@ -101,10 +86,10 @@ module _ (i : Interface) (names : List Name) (notes : List Note) (s : State) (r 
   answers_are : r.answers ++ [] ≡ (side_behind i r item).answers
   answers_are = ap (λ as'. r.answers ++ as') (sym (answers_plain r.both.event start a void None None))
 
-  requests2 : AreRequests names notes (λ p. ending None p + endings (xs ++ Some (h.place) ∷ []) p) (λ q. []) state' (side_behind i r item)
-  requests2 = subst (λ as'. AreRequests names notes (λ p. ending None p + endings (xs ++ Some (h.place) ∷ []) p) (λ q. []) state' (record (side_behind i r item) { answers = as' })) (sym (append-nil r.answers) ∙ answers_are)
-      (requests_moved names notes (λ p. ending None p + endings (xs ++ Some (h.place) ∷ []) p) (λ q. []) s1 r1 requests1 outbox' (after_item i.outbox r.both.box (effects_by i r item))
-      (runs_then i names notes s r own xs k item fit distinct sound (λ ticket. ap (λ (b : Box). is_running b ticket) box_same)) moved)
+  requests2 : AreRequests names notes (pending_of k.unswept None (xs ++ Some (h.place) ∷ [])) k.gone state' (side_behind i r item)
+  requests2 = subst (λ as'. AreRequests names notes (pending_of k.unswept None (xs ++ Some (h.place) ∷ [])) k.gone state' (record (side_behind i r item) { answers = as' })) (sym (append-nil r.answers) ∙ answers_are)
+      (requests_moved names notes (pending_of k.unswept None (xs ++ Some (h.place) ∷ [])) k.gone s1 r1 requests1 outbox' (after_item i.outbox r.both.box (effects_by i r item))
+      (runs_then i names notes s r own xs k item fit.fit distinct sound (λ ticket. ap (λ (b : Box). is_running b ticket) box_same)) moved)
 
   abbrev left_of : ℕ → ℕ
   left_of p = count_by (is_place p) h.held.places + count_lists (λ (f : WaitingFunction). f.request == p) h.functions.waiting
@@ -131,7 +116,12 @@ module _ (i : Interface) (names : List Name) (notes : List Note) (s : State) (r 
     requests = requests2;
     slots = h.slots;
     functions = h.functions_are;
-    outbox = stands_then i names notes s r own xs k item fit distinct sound;
+    unswept = k.unswept;
+    gone = k.gone;
+    long_replies = k.long_replies;
+    long_noted = k.long_noted;
+    clear = still_clear i names notes s r own xs k item fit.fit distinct sound;
+    outbox = stands_then i names notes s r own xs k item fit.fit distinct sound;
     sizes = record {
       room = k.sizes.room;
       functions = h.long_functions ∙ k.sizes.functions;
@@ -145,7 +135,7 @@ module _ (i : Interface) (names : List Name) (notes : List Note) (s : State) (r 
       few = k.sizes.few;
     };
     flags = record { awake = k.flags.awake; over = k.flags.over };
-    counts = record { units = k.counts.units; last = (let same = ap length (entered_on r.both.trace item u) in let below = k.counts.last in omega (arith, same, below)); tracked = last_then i names notes s r own xs k item fit distinct sound };
+    counts = record { units = k.counts.units; last = (let same = ap length (entered_on r.both.trace item u) in let below = k.counts.last in omega (arith, same, below)); tracked = last_then i names notes s r own xs k item fit.fit distinct sound };
     withheld = k.withheld;
     distinct = h.distinct;
     over = over;
@@ -154,7 +144,7 @@ module _ (i : Interface) (names : List Name) (notes : List Note) (s : State) (r 
     own_first = λ p none. absurd (let no : ⊥ = cc in no);
   }
 
-  walk : (o : OutboxState) → o.limits ≡ limits_of i.outbox → (acts : List Action) (first : Bool) → (first && is_late r.both.event item) ≡ false → (rest : List Effect) → is_led rest ≡ true
+  walk : (o : OutboxState) → IsFound i o → (acts : List Action) (first : Bool) → (first && is_late r.both.event item) ≡ false → (rest : List Effect) → is_led rest ≡ true
       → on_effects first (effects_by i r item ++ rest) (walk_at o s acts xs own r.both.box.sent) ≡ on_effects false rest (walk_at o state' acts (xs ++ Some (h.place) ∷ []) None (side_behind i r item).both.box.sent)
   walk o limits acts first late rest led =
       ap (λ es. on_effects first (es ++ rest) (walk_at o s acts xs own r.both.box.sent)) effects_are
@@ -168,7 +158,8 @@ module _ (i : Interface) (names : List Name) (notes : List Note) (s : State) (r 
       after_head : Walk
       after_head = walk_in o s1 acts xs (Some (h.place)) None (Some (h.by)) r.both.box.sent
 
-  pub goes_over : GoesOn i names notes s r own xs (plain_item start a void None None)
+  pub goes_over : GoesOn i names notes k.unswept s r own xs (plain_item start a void None None)
+  unfolding between
   goes_over = record {
     state = state';
     ended = xs ++ Some (h.place) ∷ [];
@@ -176,7 +167,9 @@ module _ (i : Interface) (names : List Name) (notes : List Note) (s : State) (r 
     outbox = refl;
     room = refl;
     few = record { lives = (let long = length-append xs (Some (h.place) ∷ []) in let fewer = h.fewer in omega (arith, long, fewer)); going = omega arith };
-    links = links_unmoved r.both.box (after_item i.outbox r.both.box (effects_by i r item)) box_same;
-    calm = subst (EachOf (IsCalm (side_behind i r item).both.box)) (sym effects_are) (calm_plain i r item start a void None None [] (λ reply is. absurd (let no : ⊥ = cc in no)));
+    same = refl;
+    begins = ap is_some_effect effects_are;
+    waits = omega arith;
+    notes_kept = refl;
     walk = λ o limits acts first late rest led. walk o limits acts first late rest led;
   }

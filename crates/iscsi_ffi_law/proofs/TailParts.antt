@@ -1,31 +1,30 @@
--- A Logout executes by which the connection is closed on which it came: it is answered, and what it takes out is over.
-use Rattle.std.proofs.Common.{◌≡◌, ℕ, ◌+◌, ◌<◌, ◌≤◌, ◌==◌, ◌&&◌, not, Bool, true, false, List, [], ◌∷◌, ◌++◌, length, map, count_by, filter, filter_map, Option, Some, None, refl, ap, sym, subst, ◌∙◌, arith, append_assoc, eq-eqb, length-append, length-set}
+-- A Logout executes: it is answered, what it takes out is over, and of the connections that it closes the one on which it came takes more still; what waits on another one is to be swept.
+use Rattle.std.proofs.Common.{◌≡◌, ℕ, ◌+◌, ◌<◌, ◌≤◌, ◌==◌, ◌&&◌, cond, Bool, true, false, List, [], ◌∷◌, ◌++◌, length, map, count_by, filter_map, Option, Some, None, inl, refl, ap, sym, subst, ◌∙◌, arith, append_assoc, length-append, length-set, set, ⊎_elim, inr}
 use Rattle.iscsi_ffi_commands.specs.Commands.{Commands}
 use Rattle.iscsi_ffi_law.proofs.DonePhases.{runs_at}
-use Rattle.std.specs.List.{list_all, list_any}
-use Rattle.std.proofs.lemmas.Bool.{false≢true}
-use Rattle.std.proofs.lemmas.List.{length-map}
+use Rattle.std.specs.List.{flat_map, list_any}
+use Rattle.std.proofs.lemmas.List.{append-nil, length-map}
 use Rattle.iscsi_wire.specs.declared.reply.Reply.{Reply}
 use Rattle.iscsi_wire.specs.Fields.{cmd_sn, connection_of}
 use Rattle.iscsi_wire.specs.Serial.{wire}
 use Rattle.iscsi_history.specs.declared.effect.Effect.{Effect}
-use Rattle.iscsi_history.specs.declared.effect.Effect.TheVariants.{CloseConn, Send}
+use Rattle.iscsi_history.specs.declared.effect.Effect.TheVariants.{Send}
 use Rattle.iscsi_history.specs.rules.Run.{newly_enabled, stat_sn_of}
 use Rattle.iscsi_history.specs.rules.Settings.{are_distinct, is_known}
 use Rattle.iscsi_history.specs.rules.Trace.{Arrival, Command as RulesCommand, Mark, first_of, held, live, waiting}
 use Rattle.iscsi_history.proofs.CountLemmas.{one}
 use Rattle.iscsi_history.proofs.Forms.{AfterWaiting, AtArrival, AtTurn, Start, start_mark}
 use Rattle.iscsi_outbox_rules.specs.rules.Boxes.{Box, Handed, Link}
-use Rattle.iscsi_outbox_rules.specs.rules.Items.{after_item, newly_closed, reply_sent}
+use Rattle.iscsi_outbox_rules.specs.rules.Items.{after_item, close_all, newly_closed, reply_sent}
 use Rattle.iscsi_outbox_rules.specs.rules.Queues.{takes_more, without}
 use Rattle.iscsi_outbox_rules.specs.rules.Run.{new_link}
 use Rattle.iscsi_outbox_rules.specs.rules.Words.{contains}
 use Rattle.iscsi_outbox_law.specs.Commands.{link_in}
-use Rattle.iscsi_outbox_law.specs.Pairs.{EachOf, InOrder}
+use Rattle.iscsi_outbox_law.specs.Pairs.{EachOf, InOrder, PairsOf}
 use Rattle.iscsi_outbox_law.specs.Sound.{IsSound}
-use Rattle.iscsi_outbox_law.proofs.PairLemmas.{each-map}
-use Rattle.iscsi_outbox_steps.specs.State.{State as OutboxState, limits_of, place_of}
-use Rattle.iscsi_outbox_steps.specs.Steps.{after_item as steps_after_item}
+use Rattle.iscsi_outbox_law.proofs.PairLemmas.{each-map, each-weaken}
+use Rattle.iscsi_outbox_steps.specs.State.{State as OutboxState}
+use Rattle.iscsi_outbox_steps.specs.Steps.{after_item as steps_after_item, as_list}
 use Rattle.iscsi_requests.specs.Conns.{of_conn}
 use Rattle.iscsi_requests.specs.Functions.{WaitingFunctions}
 use Rattle.iscsi_requests.specs.Numbers.{HeldNumbers}
@@ -33,38 +32,43 @@ use Rattle.iscsi_requests.specs.Replies.{pushed}
 use Rattle.iscsi_ffi_rules.specs.declared.action.Action.{Action}
 use Rattle.iscsi_ffi_rules.specs.rules.Calls.{Interface}
 use Rattle.iscsi_ffi_rules.specs.rules.Happening.{stops_in}
+use Rattle.iscsi_ffi_rules.specs.rules.Run.{cids}
 use Rattle.iscsi_ffi_rules.specs.rules.Sides.{Side}
 use Rattle.iscsi_ffi_steps.specs.State.{State}
 use Rattle.iscsi_ffi_steps.specs.Walk.{Walk, may_wait, on_effects}
-use Rattle.iscsi_ffi_law.specs.Arrived.{IsSendFit, IsStepFit, effects_by, is_late, side_behind}
+use Rattle.iscsi_ffi_law.specs.Arrived.{IsItemFit, IsSendFit, IsStepFit, effects_by, is_late, side_behind}
 use Rattle.iscsi_ffi_law.specs.Names.{Name, Note}
 use Rattle.iscsi_ffi_law.specs.Parts.{IsBefore}
 use Rattle.iscsi_ffi_law.specs.Stands.{AreRequests}
-use Rattle.iscsi_ffi_law.proofs.Between.{IsBetween, IsHeaded}
-use Rattle.iscsi_ffi_law.proofs.ClosingBox.{IsPartingPart, own_item, parts_runs, shut_all, shut_by, shut_by_out, shut_handed, shut_long, shut_sent}
+use Rattle.iscsi_ffi_law.proofs.Between.{IsBetween, IsFound, IsHeaded, pending_of}
+use Rattle.iscsi_ffi_law.proofs.Unswept.{Unswept, is_some_effect, joined, joined_at, joined_set, more_count, put_state, unswept_at}
+use Rattle.iscsi_ffi_law.proofs.ClosingBox.{IsPartingPart, parting_item, parts_runs}
 use Rattle.iscsi_ffi_law.proofs.DoneRoom.{may_wait_more}
 use Rattle.iscsi_ffi_law.proofs.DoneShape.{enables, tickets_of}
-use Rattle.iscsi_ffi_law.proofs.DroppingFunctions.{places_of, without_functions}
+use Rattle.iscsi_ffi_law.proofs.DroppingEach.{functions_off, places_from, places_off}
 use Rattle.iscsi_ffi_law.proofs.Finish.{as_many_links}
 use Rattle.iscsi_ffi_law.proofs.Leaving.{leave_effects}
 use Rattle.iscsi_ffi_law.proofs.LeavingBox.{left_box}
 use Rattle.iscsi_ffi_law.proofs.LeavingBy.{LeavesBy, endings_append, few2, leaves_on, over2, queued2, requests2, those}
 use Rattle.iscsi_ffi_law.proofs.LeavingCommands.{ended_by, entered_left, gone_by}
 use Rattle.iscsi_ffi_law.proofs.Members.{PassingAt}
-use Rattle.iscsi_ffi_law.proofs.Moved.{IsMoved, requests_moved}
-use Rattle.iscsi_ffi_law.proofs.Parting.{answers_parted, effects_parted, enters_parted, executed_parted, leaving_parted, parted_effects, parted_item, part_parted, tickets_parted, parted_marks}
-use Rattle.iscsi_ffi_law.proofs.PartingOut.{close_walk, emptied, parted_out}
-use Rattle.iscsi_ffi_law.proofs.Plain.{plain_item, start_effect}
-use Rattle.iscsi_ffi_law.proofs.Queued.{AllQueued, SameOut}
+use Rattle.iscsi_ffi_law.proofs.Parting.{answers_parted, close_effects, conns_parted, effects_parted, enters_parted, executed_parted, leaving_parted, parted_effects, parted_item, part_parted, tickets_parted, parted_marks}
+use Rattle.iscsi_ffi_law.proofs.PartingOut.{close_walk, closed_conns, closed_pairs, closed_places, emptied, pairs_within, parted_out}
+use Rattle.iscsi_ffi_law.proofs.Plain.{plain_item}
 use Rattle.iscsi_ffi_law.proofs.QuietSends.{sends_reply}
 use Rattle.iscsi_ffi_law.proofs.Releases.{endings}
-use Rattle.iscsi_ffi_law.proofs.Releasing.{ending}
 use Rattle.iscsi_ffi_law.proofs.ReplyPlace.{conn_is as reply_conn, place_is as reply_place, takes_it as reply_takes, there as reply_there}
 use Rattle.iscsi_ffi_law.proofs.ReplyRequests.{IsReplied, requests_replied}
-use Rattle.iscsi_ffi_law.proofs.Stepping.{IsCalm, ItemGoes, SameLinks, last_then, places_same, stands_then, taken_on}
+use Rattle.iscsi_ffi_law.proofs.Stepping.{ItemGoes, last_then, places_same, stands_then}
 use Rattle.iscsi_ffi_law.proofs.TailLeaves.{links_dropped}
-use Rattle.iscsi_ffi_law.proofs.TakingOut.{empty_effects}
-use Rattle.iscsi_ffi_law.proofs.Waited.{IsCid, cid_known}
+use Rattle.iscsi_ffi_law.proofs.TakingOut.{empty_effects, headed_out}
+use Rattle.iscsi_ffi_law.proofs.Waited.{IsCid}
+use Rattle.iscsi_ffi_law.proofs.Framing.{some_first, touched_in}
+use Rattle.iscsi_ffi_law.proofs.ClosingEach.{IsClosedTo, all_closed}
+use Rattle.iscsi_ffi_law.proofs.ClosingPlaces.{HasPlace, closes_placed, parted_touched}
+use Rattle.iscsi_outbox_law.proofs.PlaceLemmas.{IsPlace, any_at}
+use Rattle.iscsi_history.proofs.ElementLemmas.{In}
+use Rattle.iscsi_requests.specs.declared.replies.WaitingReply.{WaitingReply}
 use Rattle.iscsi_ffi_law.proofs.Walking.{enables_past, is_led, led_end, sends_walk, walk_at, walk_in}
 
 late_same : (now : ℕ) (start : Start) (a : Arrival) (ms : List Mark) → is_late now (start_mark start a ∷ ms) ≡ is_late now (plain_item start a None None None)
@@ -72,34 +76,19 @@ late_same now AtTurn a ms = refl
 late_same now AtArrival a ms = refl
 late_same now AfterWaiting a ms = refl
 
--- what is calm of each of its effects
-calm_parted : (b : Box) (sn : ℕ) (start : Start) (a : Arrival) (cs : List RulesCommand) (bs : List Arrival) (reply : Reply) (ns : List RulesCommand) → list_any (λ (l : Link). l.conn == connection_of a.request && takes_more l) b.links ≡ true → EachOf (IsCalm b) (parted_effects sn start a cs bs reply true false ns)
-calm_parted b sn start a cs bs reply ns takes = (first start, all_leave cs)
-  where
-    first : (x : Start) → IsCalm b (start_effect x a.request)
-    first AtTurn = tt
-    first AtArrival = tt
-    first AfterWaiting = tt
+-- they are in the same places in the outbox that the event found
+module _ (i : Interface) (names : List Name) (notes : List Note) (s : State) (r : Side) (own : Option ℕ) (xs : List (Option ℕ)) (k : IsBetween i names notes s r own xs) (item : List Mark) (fit : IsItemFit i.outbox r.both.box (effects_by i r item)) (distinct : are_distinct i.outbox.session.conns ≡ true) (sound : IsSound i.outbox (side_behind i r item).both.box) where
+  pub same_places : (closing : Option ℕ) (ends : Bool) (o : OutboxState) → IsFound i o → closed_places o (cids i) closing ends ≡ closed_places s.outbox (cids i) closing ends
+  same_places None ends o found = refl
+  same_places (Some conn) ends o found = ap (λ (x : Option ℕ). as_list x ++ cond ends (places_from 0 (cids i)) []) (places_same i names notes s r own xs k item fit distinct sound o found conn)
 
-    all_enabled : (ds : List RulesCommand) → EachOf (IsCalm b) (enables ds)
-    all_enabled [] = tt
-    all_enabled (d ∷ ds) = (tt, all_enabled ds)
-
-    all_empty : (ds : List Arrival) → EachOf (IsCalm b) (empty_effects ds ++ (Send (connection_of a.request) sn reply ∷ (CloseConn (connection_of a.request) ∷ enables ns)))
-    all_empty [] = (takes, (takes, all_enabled ns))
-    all_empty (d ∷ ds) = (tt, all_empty ds)
-
-    all_leave : (ds : List RulesCommand) → EachOf (IsCalm b) (leave_effects ds ++ (empty_effects bs ++ (Send (connection_of a.request) sn reply ∷ (CloseConn (connection_of a.request) ∷ enables ns))))
-    all_leave [] = all_empty bs
-    all_leave (d ∷ ds) = (tt, all_leave ds)
-
-module _ (i : Interface) (names : List Name) (notes : List Note) (s : State) (r : Side) (own : Option ℕ) (xs : List (Option ℕ)) (k : IsBetween i names notes s r own xs) (start : Start) (a : Arrival) (cs : List RulesCommand) (bs : List Arrival) (reply : Reply)
-    (fit : IsStepFit i r (parted_item start a cs bs reply true false)) (distinct : are_distinct i.outbox.session.conns ≡ true) (sound : IsSound i.outbox (side_behind i r (parted_item start a cs bs reply true false)).both.box)
+module _ (i : Interface) (names : List Name) (notes : List Note) (s : State) (r : Side) (own : Option ℕ) (xs : List (Option ℕ)) (k : IsBetween i names notes s r own xs) (start : Start) (a : Arrival) (cs : List RulesCommand) (bs : List Arrival) (reply : Reply) (closing : Option ℕ) (ends : Bool)
+    (fit : IsStepFit i r (parted_item start a cs bs reply closing ends)) (distinct : are_distinct i.outbox.session.conns ≡ true) (sound : IsSound i.outbox (side_behind i r (parted_item start a cs bs reply closing ends)).both.box)
     (h : IsHeaded i names notes s r own xs (plain_item start a None None None) start a) (each : (p : RulesCommand → Bool) → count_by p cs ≤ count_by p (live r.both.trace))
     (held_there : EachOf (λ (b : Arrival). held (plain_item start a None None None ∷ r.both.trace) b.number ≡ Some b) bs) (apart : InOrder (λ (b c : Arrival). (b.number == c.number) ≡ false) bs) (wired : EachOf (λ (b : Arrival). wire b.number ≡ cmd_sn b.request) bs)
-    (known : is_known (connection_of a.request) i.outbox.session.conns ≡ true) where
+    (known : EachOf (λ (b : Arrival). contains (cids i) (connection_of b.request) ≡ true) (waiting (plain_item start a None None None ∷ r.both.trace))) (known_closing : (conn : ℕ) → closing ≡ Some conn → is_known conn i.outbox.session.conns ≡ true) where
   abbrev item : List Mark
-  item = parted_item start a cs bs reply true false
+  item = parted_item start a cs bs reply closing ends
 
   abbrev cid : ℕ
   cid = connection_of a.request
@@ -108,63 +97,66 @@ module _ (i : Interface) (names : List Name) (notes : List Note) (s : State) (r 
   sn = stat_sn_of i.outbox.session r.both.trace (connection_of a.request)
 
   abbrev ns : List RulesCommand
-  ns = newly_enabled i.outbox.session r.both.trace (parted_item start a cs bs reply true false)
+  ns = newly_enabled i.outbox.session r.both.trace (parted_item start a cs bs reply closing ends)
 
   abbrev es : List Effect
-  es = parted_effects sn start a cs bs reply true false ns
+  es = parted_effects sn start a cs bs reply closing ends ns
 
-  effects_are : effects_by i r (parted_item start a cs bs reply true false) ≡ es
-  effects_are = effects_parted i.outbox.session r.both.trace start a cs bs reply true false
+  abbrev conns : List ℕ
+  conns = conns_parted r.both.box.links closing ends
 
-  part : IsPartingPart r.both.box.links es a.request cs ns (Some (cid, reply)) (cid ∷ [])
-  part = part_parted r.both.box.links sn start a cs bs reply true false ns
+  effects_are : effects_by i r (parted_item start a cs bs reply closing ends) ≡ es
+  effects_are = effects_parted i.outbox.session r.both.trace start a cs bs reply closing ends
 
-  own_conn : list_all (λ (conn : ℕ). conn == connection_of a.request) (cid ∷ []) ≡ true
-  own_conn = ap (λ v. v && true) (eq-eqb cid cid refl)
+  part : IsPartingPart r.both.box.links es a.request cs ns (Some (cid, reply)) conns
+  part = part_parted r.both.box.links sn start a cs bs reply closing ends ns
 
-  at : (p : ℕ) × ((place_of s.outbox (connection_of a.request) ≡ Some p) × IsCid i (connection_of a.request) p)
-  at = cid_known i names notes s r own xs k distinct cid known
+  abbrev ps : List ℕ
+  ps = closed_places s.outbox (cids i) closing ends
 
-  alone : false ≡ true → filter (λ (b : Arrival). not (connection_of b.request == connection_of a.request)) (waiting (plain_item start a None None None ∷ r.both.trace)) ≡ []
-  alone is = absurd (false≢true is)
+  pairs : PairsOf (IsCid i) (closed_conns i closing ends) ps
+  pairs = closed_pairs i names notes s r own xs k distinct closing ends known_closing
+
+  within_each : EachOf (λ p. p < length h.functions.waiting) ps
+  within_each = let l = h.long_functions in let m = k.sizes.functions in each-weaken (λ p. p < length (cids i)) (λ p. p < length h.functions.waiting) ps (λ p lt. omega (arith, lt, l, m)) (pairs_within i (closed_conns i closing ends) ps pairs)
 
   abbrev places : List (Option ℕ)
-  places = (emptied i names notes s r own xs k start a h cs bs reply true false refl held_there apart wired alone at.0 at.1.1).places
+  places = (emptied i names notes s r own xs k start a (Some (h.place)) h.held h.functions (headed_out i names notes s r own xs k start a h) cs bs reply closing ends held_there apart wired known ps pairs).places
 
   abbrev v : HeldNumbers
-  v = (emptied i names notes s r own xs k start a h cs bs reply true false refl held_there apart wired alone at.0 at.1.1).held_then
+  v = (emptied i names notes s r own xs k start a (Some (h.place)) h.held h.functions (headed_out i names notes s r own xs k start a h) cs bs reply closing ends held_there apart wired known ps pairs).held_then
 
   abbrev waits : List (Option ℕ)
-  waits = places_of (of_conn at.0 h.functions.waiting)
+  waits = places_off ps h.functions
 
   abbrev fs : WaitingFunctions
-  fs = without_functions at.0 h.functions
+  fs = functions_off ps h.functions
 
   abbrev zs : List (Option ℕ)
   zs = places ++ waits
 
-  leaves_by : LeavesBy i names notes s r own xs (parted_item start a cs bs reply true false) a cs h.place h.by v fs zs
+  leaves_by : LeavesBy i names notes s r own xs (parted_item start a cs bs reply closing ends) a cs (Some (h.place)) h.by v fs zs
   leaves_by = record {
-    none_enters = enters_parted start a cs bs reply true false;
-    left_by = λ n. tickets_parted start a cs bs reply true false n;
-    leaving_is = leaving_parted start a cs bs reply true false;
-    executed = executed_parted start a cs bs reply true false;
-    others_run = λ n other. ap (λ (b : Box). list_any (runs_at n) b.tasks) (ap (after_item i.outbox r.both.box) effects_are) ∙ parts_runs i.outbox r.both.box a.request cs ns (Some (cid, reply)) (cid ∷ []) es part own_conn n other;
+    none_enters = enters_parted start a cs bs reply closing ends;
+    left_by = λ n. tickets_parted start a cs bs reply closing ends n;
+    leaving_is = leaving_parted start a cs bs reply closing ends;
+    executed = executed_parted start a cs bs reply closing ends;
+    others_run = λ n other. ap (λ (b : Box). list_any (runs_at n) b.tasks) (ap (after_item i.outbox r.both.box) effects_are) ∙ parts_runs i.outbox r.both.box a.request cs ns (Some (cid, reply)) conns es part n other;
     named = h.named;
     why = h.why;
-    out = parted_out i names notes s r own xs k start a h cs bs reply true false refl held_there apart wired alone at.0 at.1.1;
+    out = parted_out i names notes s r own xs k start a (Some (h.place)) h.held h.functions (headed_out i names notes s r own xs k start a h) cs bs reply closing ends held_there apart wired known ps pairs;
   }
 
   -- ---- the outbox
 
   abbrev closes : List ℕ
-  closes = newly_closed r.both.box (cid ∷ [])
+  closes = newly_closed r.both.box conns
 
   abbrev dropped : Box
   dropped = left_box r.both.box a.request cs
 
   abbrev shut_box : Box
-  shut_box = shut_by cid closes dropped
+  shut_box = close_all cid closes dropped
 
   abbrev box_then : Box
   box_then = after_item i.outbox r.both.box (effects_by i r item)
@@ -181,37 +173,67 @@ module _ (i : Interface) (names : List Name) (notes : List Note) (s : State) (r 
   abbrev rS : Side
   rS = record r { both = record r.both { trace = item ∷ r.both.trace; box = shut_box } }
 
-  abbrev pending1 : ℕ → ℕ
-  pending1 q = one (h.place == q) + (endings (xs ++ ended_by names r cs) q + endings zs q)
+  abbrev base : ℕ → ℕ
+  base q = one (h.place == q) + (endings (xs ++ ended_by names r cs) q + endings zs q)
 
-  many : length (map (without (contains (tickets_of cs))) r.both.box.links) ≡ length r.both.box.links
+  abbrev Closed : Box → Type 0
+  Closed = IsClosedTo names notes base k.unswept s2 r2 cid ps
+
+  many : length dropped.links ≡ length r.both.box.links
   many = length-map r.both.box.links (without (contains (tickets_of cs)))
 
-  to_shut : SameLinks r.both.box shut_box
-  to_shut = record {
-    long = shut_long cid closes dropped ∙ many;
-    same = λ q short.
-        let x : SameOut (link_in r.both.box.links q) (link_in dropped.links q) = links_dropped (tickets_of cs) r.both.box.links q short in
-        let y : SameOut (link_in dropped.links q) (link_in shut_box.links q) = shut_by_out cid closes dropped q (subst (λ n. q < n) (sym many) short) in
-        record { conn = y.conn ∙ x.conn; takes = y.takes ∙ x.takes; left = y.left ∙ x.left };
+  as_many : length dropped.links ≡ length (cids i)
+  as_many = many ∙ as_many_links i s r k.outbox
+
+  -- nothing is closed yet
+  opened : Closed dropped
+  opened = record {
+    replies = s.replies.waiting;
+    noted = s.noted.handed;
+    unswept = k.unswept;
+    gone = k.gone;
+    requests = requests2 i names notes s r own xs k item a cs (Some (h.place)) h.by v fs zs fit.fit fit.leaves distinct sound leaves_by each;
+    queued = queued2 i names notes s r own xs k item a cs (Some (h.place)) h.by v fs zs fit.fit fit.leaves distinct sound leaves_by each;
+    same_replies = refl;
+    same_noted = refl;
+    long_replies = refl;
+    long_noted = refl;
+    long_unswept = refl;
+    long_others = refl;
+    count_replies = refl;
+    count_noted = refl;
+    sent = refl;
+    long = refl;
+    conn = λ q short. refl;
+    takes = λ q short more. (more, (refl, refl));
+    own = λ q short is more. more;
+    handed = λ x. x;
+    touched = λ q. inl (refl, refl);
   }
 
-  queued : AllQueued names (item ∷ r.both.trace) r.answers (λ q. of_conn q s.replies.waiting) (λ q. length (of_conn q s.noted.handed)) shut_box.links shut_box.undue
-  queued = shut_all cid names (item ∷ r.both.trace) r.answers (λ q. of_conn q s.replies.waiting) (λ q. length (of_conn q s.noted.handed)) closes dropped
-      (queued2 i names notes s r own xs k item a cs h.place h.by v fs zs fit distinct sound leaves_by each)
+  placed : EachOf (λ c. (p : ℕ) × (IsPlace dropped.links c p × In p ps)) closes
+  placed = each-weaken (HasPlace r.both.box.links ps) (λ c. (p : ℕ) × (IsPlace dropped.links c p × In p ps)) closes
+      (λ c at. (at.0, (record { within = (let w = at.1.0.within in omega (arith, w, many)); is = (links_dropped (tickets_of cs) r.both.box.links at.0 at.1.0.within).conn ∙ at.1.0.is }, at.1.1)))
+      (closes_placed i names notes s r own xs k distinct closing ends ps pairs)
 
-  moved : IsMoved names s2 r2 shut_box
-  moved = record {
-    long = shut_long cid closes dropped;
-    sent = shut_sent cid closes dropped;
-    queued = queued.queued;
-    undue = queued.undue_are;
-    conn = λ q within. (shut_by_out cid closes dropped q (subst (λ n. q < n) (shut_long cid closes dropped) within)).conn;
-    left = λ q within. (shut_by_out cid closes dropped q (subst (λ n. q < n) (shut_long cid closes dropped) within)).left;
-  }
+  abbrev closed : Closed (close_all cid closes dropped)
+  closed = all_closed names notes base k.unswept s2 r2 cid ps (k.sizes.replies ∙ sym as_many) (k.sizes.noted ∙ sym as_many) (k.long_replies ∙ sym as_many) (k.long_noted ∙ sym as_many) closes dropped placed opened
 
-  requestsS : AreRequests names notes pending1 (λ q. []) s2 rS
-  requestsS = requests_moved names notes pending1 (λ q. []) s2 r2 (requests2 i names notes s r own xs k item a cs h.place h.by v fs zs fit distinct sound leaves_by each) outbox' shut_box (λ ticket. refl) moved
+  -- what waits still, and what is to be swept
+  abbrev sC : State
+  sC = record s2 { replies = record s.replies { waiting = closed.replies }; noted = record s.noted { handed = closed.noted } }
+
+  abbrev unswept' : Unswept
+  unswept' = closed.unswept
+
+  abbrev pending1 : ℕ → ℕ
+  pending1 q = base q + unswept_at closed.unswept q
+
+  -- where one takes more, it did before, and nothing is to be swept
+  took : (q : ℕ) → q < length r.both.box.links → takes_more (link_in shut_box.links q) ≡ true → (takes_more (link_in r.both.box.links q) ≡ true) × ((of_conn q closed.unswept.replies ≡ of_conn q k.unswept.replies) × (of_conn q closed.unswept.noted ≡ of_conn q k.unswept.noted))
+  took q short more =
+      let x = closed.takes q (omega (arith, short, many)) more in
+      (sym (links_dropped (tickets_of cs) r.both.box.links q short).takes ∙ x.0, x.1)
 
   abbrev sends : IsSendFit i.outbox r.both.box cid
   sends = fit.sends cid reply (ap (λ (fs' : List Effect). first_of (filter_map reply_sent fs')) effects_are ∙ part.sends)
@@ -219,28 +241,59 @@ module _ (i : Interface) (names : List Name) (notes : List Note) (s : State) (r 
   abbrev there : PassingAt (λ (l : Link). l.conn == connection_of a.request && takes_more l) r.both.box.links (new_link 0)
   there = reply_there i.outbox s.outbox r.both.box k.outbox distinct cid sends.takes
 
+  long_closed : length shut_box.links ≡ length r.both.box.links
+  long_closed = closed.long ∙ many
+
   within : there.place < length shut_box.links
-  within = (let w = there.within in let l = to_shut.long in omega (arith, w, l))
+  within = (let w = there.within in let l = long_closed in omega (arith, w, l))
 
-  long : length s.replies.waiting ≡ length shut_box.links
-  long = k.sizes.replies ∙ sym (as_many_links i s r k.outbox) ∙ sym to_shut.long
+  long : length closed.replies ≡ length shut_box.links
+  long = closed.long_replies ∙ k.sizes.replies ∙ sym (as_many_links i s r k.outbox) ∙ sym long_closed
 
-  replied : IsReplied names s2 rS a.event there.place h.place box_then
-  replied = subst (IsReplied names s2 rS a.event there.place h.place)
-      (sym (ap (after_item i.outbox r.both.box) effects_are ∙ own_item i.outbox r.both.box a.request cs ns (Some (cid, reply)) (cid ∷ []) es part own_conn))
-      (sends_reply i names s2 rS (k.requests.answers ∙ sym (shut_sent cid closes dropped)) queued (tickets_of ns) a.event there.place h.place cid within
-      ((to_shut.same there.place there.within).conn ∙ reply_conn i.outbox s.outbox r.both.box k.outbox distinct cid sends.takes) ((to_shut.same there.place there.within).takes ∙ reply_takes i.outbox s.outbox r.both.box k.outbox distinct cid sends.takes)
-      (taken_on r.both.box shut_box to_shut cid sends.takes) long h.named (Some (a.request)) reply (cid ∷ []) closes)
+  own_there : (link_in dropped.links there.place).conn ≡ cid
+  own_there = (links_dropped (tickets_of cs) r.both.box.links there.place there.within).conn ∙ reply_conn i.outbox s.outbox r.both.box k.outbox distinct cid sends.takes
+
+  own_conn : (link_in shut_box.links there.place).conn ≡ cid
+  own_conn = closed.conn there.place (let w = there.within in omega (arith, w, many)) ∙ own_there
+
+  own_takes : takes_more (link_in shut_box.links there.place) ≡ true
+  own_takes = closed.own there.place (let w = there.within in omega (arith, w, many)) own_there
+      ((links_dropped (tickets_of cs) r.both.box.links there.place there.within).takes ∙ reply_takes i.outbox s.outbox r.both.box k.outbox distinct cid sends.takes)
+
+  taken : list_any (λ (l : Link). l.conn == cid && takes_more l) shut_box.links ≡ true
+  taken = any_at takes_more shut_box.links cid there.place closed.queued.apart within own_conn ∙ own_takes
+
+  -- nothing is to be swept where it is answered
+  own_clear : (of_conn there.place k.unswept.replies ≡ []) × (of_conn there.place k.unswept.noted ≡ [])
+  own_clear = k.clear there.place there.within (reply_takes i.outbox s.outbox r.both.box k.outbox distinct cid sends.takes)
+
+  own_replies : of_conn there.place closed.unswept.replies ≡ []
+  own_replies = (took there.place there.within own_takes).1.0 ∙ own_clear.0
+
+  replied : IsReplied names sC rS a.event there.place h.place box_then
+  replied = subst (IsReplied names sC rS a.event there.place h.place)
+      (sym (ap (after_item i.outbox r.both.box) effects_are ∙ parting_item i.outbox r.both.box a.request cs ns (Some (cid, reply)) conns es part))
+      (sends_reply i names sC rS (k.requests.answers ∙ sym closed.sent) closed.queued (tickets_of ns) a.event there.place h.place cid within own_conn own_takes taken long h.named (Some (a.request)) reply conns closes)
 
   handed : EachOf (λ (l : Link). EachOf (λ (x : Handed). IsBefore r.both.box.sent x.out.sent) l.handed) shut_box.links
-  handed = shut_handed cid (EachOf (λ (x : Handed). IsBefore r.both.box.sent x.out.sent)) closes dropped
-      (each-map (λ (l : Link). EachOf (λ (x : Handed). IsBefore r.both.box.sent x.out.sent) l.handed) (λ (l : Link). EachOf (λ (x : Handed). IsBefore r.both.box.sent x.out.sent) l.handed) (without (contains (tickets_of cs))) r.both.box.links (λ l x. x) sends.handed)
+  handed = closed.handed (each-map (λ (l : Link). EachOf (λ (x : Handed). IsBefore r.both.box.sent x.out.sent) l.handed) (λ (l : Link). EachOf (λ (x : Handed). IsBefore r.both.box.sent x.out.sent) l.handed) (without (contains (tickets_of cs))) r.both.box.links (λ l x. x) sends.handed)
 
   same_sent : shut_box.sent ≡ r.both.box.sent
-  same_sent = shut_sent cid closes dropped
+  same_sent = closed.sent
 
   abbrev state' : State
   state' = record s {
+    held = v;
+    functions = fs;
+    commands = record s.commands { items = map (gone_by cs) s.commands.items };
+    outbox = steps_after_item (effects_by i r item) s.outbox;
+    replies = pushed there.place (record { log_place = shut_box.sent; request = h.place }) (record s.replies { waiting = closed.replies });
+    noted = record s.noted { handed = closed.noted };
+  }
+
+  -- the steps keep all of it until it is swept
+  abbrev still : State
+  still = record s {
     held = v;
     functions = fs;
     commands = record s.commands { items = map (gone_by cs) s.commands.items };
@@ -254,22 +307,36 @@ module _ (i : Interface) (names : List Name) (notes : List Note) (s : State) (r 
   counts : (q : ℕ) → endings ended' q ≡ endings (xs ++ ended_by names r cs) q + endings zs q
   counts q = omega (arith, endings_append ((xs ++ ended_by names r cs) ++ places) waits q, endings_append (xs ++ ended_by names r cs) places q, endings_append places waits q)
 
-  requests3 : AreRequests names notes (λ q. ending None q + endings ended' q) (λ q. []) state' (side_behind i r item)
-  requests3 = subst (λ as'. AreRequests names notes (λ q. ending None q + endings ended' q) (λ q. []) state' (record (side_behind i r item) { answers = r.answers ++ as' })) (sym (answers_parted start a cs bs reply true false r.both.event))
-      (requests_replied names notes pending1 (λ q. ending None q + endings ended' q) (λ q. []) s2 rS requestsS a.event there.place h.place
+  requests3 : AreRequests names notes (pending_of closed.unswept None ended') closed.gone state' (side_behind i r item)
+  requests3 = subst (λ as'. AreRequests names notes (pending_of closed.unswept None ended') closed.gone state' (record (side_behind i r item) { answers = r.answers ++ as' })) (sym (answers_parted start a cs bs reply closing ends r.both.event))
+      (requests_replied names notes pending1 (pending_of closed.unswept None ended') closed.gone sC rS closed.requests a.event there.place h.place
       (λ q. omega (arith, counts q)) within long h.named (subst (λ n. EachOf (λ (l : Link). EachOf (λ (x : Handed). IsBefore n x.out.sent) l.handed) shut_box.links) (sym same_sent) handed) outbox' box_then (λ ticket. refl) replied)
+
+  -- nothing is to be swept where something goes out still
+  clear' : (q : ℕ) → q < length box_then.links → takes_more (link_in box_then.links q) ≡ true → (of_conn q closed.unswept.replies ≡ []) × (of_conn q closed.unswept.noted ≡ [])
+  clear' q short more =
+      let inside : q < length shut_box.links = (let l = replied.long in omega (arith, short, l)) in
+      let inside' : q < length r.both.box.links = (let l = long_closed in omega (arith, inside, l)) in
+      let x = took q inside' (sym (replied.same q inside).takes ∙ more) in
+      let y = k.clear q inside' x.0 in
+      (x.1.0 ∙ y.0, x.1.1 ∙ y.1)
 
   between : IsBetween i names notes state' (side_behind i r item) None ended'
   between = record {
     requests = requests3;
     slots = leaves_by.out.slots;
     functions = leaves_by.out.functions_are;
-    outbox = stands_then i names notes s r own xs k item fit distinct sound;
+    unswept = closed.unswept;
+    gone = closed.gone;
+    long_replies = closed.long_unswept ∙ k.long_replies;
+    long_noted = closed.long_others ∙ k.long_noted;
+    clear = clear';
+    outbox = stands_then i names notes s r own xs k item fit.fit distinct sound;
     sizes = record {
       room = k.sizes.room;
       functions = leaves_by.out.long_functions ∙ k.sizes.functions;
-      replies = length-set s.replies.waiting there.place (of_conn there.place s.replies.waiting ++ record { log_place = shut_box.sent; request = h.place } ∷ []) ∙ k.sizes.replies;
-      noted = k.sizes.noted;
+      replies = length-set closed.replies there.place (of_conn there.place closed.replies ++ record { log_place = shut_box.sent; request = h.place } ∷ []) ∙ closed.long_replies ∙ k.sizes.replies;
+      noted = closed.long_noted ∙ k.sizes.noted;
       unwritten = k.sizes.unwritten;
       noted_room = k.sizes.noted_room;
       unwritten_room = k.sizes.unwritten_room;
@@ -281,47 +348,59 @@ module _ (i : Interface) (names : List Name) (notes : List Note) (s : State) (r 
     counts = record {
       units = k.counts.units;
       last =
-          let same = ap length (entered_left r.both.trace item cs (those i names notes s r own xs k item a cs h.place h.by v fs zs fit distinct sound leaves_by each).none_enters (those i names notes s r own xs k item a cs h.place h.by v fs zs fit distinct sound leaves_by each).left_by) in
+          let same = ap length (entered_left r.both.trace item cs (those i names notes s r own xs k item a cs (Some (h.place)) h.by v fs zs fit.fit fit.leaves distinct sound leaves_by each).none_enters (those i names notes s r own xs k item a cs (Some (h.place)) h.by v fs zs fit.fit fit.leaves distinct sound leaves_by each).left_by) in
           let below = k.counts.last in
           omega (arith, same, below);
-      tracked = last_then i names notes s r own xs k item fit distinct sound;
+      tracked = last_then i names notes s r own xs k item fit.fit distinct sound;
     };
     withheld = k.withheld;
     distinct = leaves_by.out.distinct;
-    over = λ q some. over2 i names notes s r own xs k item a cs h.place h.by v fs zs fit distinct sound leaves_by each q (omega (arith, some, counts q));
+    over = λ q some. over2 i names notes s r own xs k item a cs (Some (h.place)) h.by v fs zs fit.fit fit.leaves distinct sound leaves_by each q (omega (arith, some, counts q));
     own_named = λ q none. absurd (let no : ⊥ = cc in no);
     own_unheld = λ q none. absurd (let no : ⊥ = cc in no);
     own_first = λ q none. absurd (let no : ⊥ = cc in no);
   }
 
-  same_links : SameLinks r.both.box (side_behind i r item).both.box
-  same_links = record {
-    long = replied.long ∙ to_shut.long;
-    same = λ q short.
-        let l = to_shut.long in
-        let x : SameOut (link_in shut_box.links q) (link_in box_then.links q) = replied.same q (omega (arith, short, l)) in
-        let y : SameOut (link_in r.both.box.links q) (link_in shut_box.links q) = to_shut.same q short in
-        record { conn = x.conn ∙ y.conn; takes = x.takes ∙ y.takes; left = x.left ∙ y.left };
-  }
+  abbrev its : WaitingReply
+  its = record { log_place = shut_box.sent; request = h.place }
+
+  joined_one : joined (set s.replies.waiting there.place (of_conn there.place s.replies.waiting ++ its ∷ [])) k.unswept.replies ≡ joined (set closed.replies there.place (of_conn there.place closed.replies ++ its ∷ [])) closed.unswept.replies
+  joined_one =
+      joined_set s.replies.waiting k.unswept.replies there.place (of_conn there.place s.replies.waiting ++ its ∷ []) own_clear.0
+      ∙ ap (λ (ys : List (List WaitingReply)). set ys there.place (of_conn there.place s.replies.waiting ++ its ∷ [])) (sym closed.same_replies)
+      ∙ ap (λ (ys : List WaitingReply). set (joined closed.replies closed.unswept.replies) there.place (ys ++ its ∷ [])) same_own
+      ∙ sym (joined_set closed.replies closed.unswept.replies there.place (of_conn there.place closed.replies ++ its ∷ []) own_replies)
+    where
+      same_own : of_conn there.place s.replies.waiting ≡ of_conn there.place closed.replies
+      same_own =
+          sym (joined_at s.replies.waiting k.unswept.replies there.place (k.long_replies ∙ sym k.sizes.replies) ∙ ap (λ (ys : List WaitingReply). of_conn there.place s.replies.waiting ++ ys) own_clear.0 ∙ append-nil (of_conn there.place s.replies.waiting))
+          ∙ ap (of_conn there.place) (sym closed.same_replies)
+          ∙ (joined_at closed.replies closed.unswept.replies there.place (closed.long_unswept ∙ k.long_replies ∙ sym k.sizes.replies ∙ sym closed.long_replies) ∙ ap (λ (ys : List WaitingReply). of_conn there.place closed.replies ++ ys) own_replies ∙ append-nil (of_conn there.place closed.replies))
+
+  put : put_state k.unswept still ≡ put_state closed.unswept state'
+  put =
+      ap (λ (ys : List (List WaitingReply)). record still { replies = record still.replies { waiting = ys }; noted = record s.noted { handed = joined s.noted.handed k.unswept.noted } }) joined_one
+      ∙ ap (λ (ys : List (List (Option ℕ))). record still { replies = record still.replies { waiting = joined (set closed.replies there.place (of_conn there.place closed.replies ++ its ∷ [])) closed.unswept.replies }; noted = record s.noted { handed = ys } }) (sym closed.same_noted)
 
   may_one : may_wait r.both.box.sent s.replies ≡ true
-  may_one = may_wait_more i names notes (λ q. ending own q + endings xs q) (λ q. []) s r k.requests k.outbox k.sizes sends.sent sends.replies
+  may_one = may_wait_more i names notes (pending_of k.unswept own xs) k.gone s r k.requests k.outbox k.sizes sends.sent sends.replies
 
-  walk : (o : OutboxState) → o.limits ≡ limits_of i.outbox → (acts : List Action) (first : Bool) → (first && is_late r.both.event item) ≡ false → length acts + length (stops_in r item) ≤ s.room → (rest : List Effect) → is_led rest ≡ true
-      → on_effects first (effects_by i r item ++ rest) (walk_at o s acts xs own r.both.box.sent) ≡ on_effects false rest (walk_at o state' (acts ++ stops_in r item) ended' None (side_behind i r item).both.box.sent)
+  walk : (o : OutboxState) → IsFound i o → (acts : List Action) (first : Bool) → (first && is_late r.both.event item) ≡ false → length acts + length (stops_in r item) ≤ s.room → (rest : List Effect) → is_led rest ≡ true
+      → on_effects first (effects_by i r item ++ rest) (walk_at o s acts xs own r.both.box.sent) ≡ on_effects false rest (walk_at o still (acts ++ stops_in r item) ended' None (side_behind i r item).both.box.sent)
   walk o limits acts first late room rest led =
       ap (λ fs'. on_effects first (fs' ++ rest) (walk_at o s acts xs own r.both.box.sent)) effects_are
-      ∙ ap (λ w. on_effects false ((leave_effects cs ++ (empty_effects bs ++ last)) ++ rest) w) (h.walk o limits acts first r.both.box.sent (ap (λ u. first && u) (sym (late_same r.both.event start a (parted_marks a cs bs reply true false))) ∙ late))
+      ∙ ap (λ w. on_effects false ((leave_effects cs ++ (empty_effects bs ++ last)) ++ rest) w) (h.walk o limits acts first r.both.box.sent (ap (λ u. first && u) (sym (late_same r.both.event start a (parted_marks a cs bs reply closing ends))) ∙ late))
       ∙ ap (λ fs'. on_effects false fs' (walk_in o (record s { held = h.held; functions = h.functions }) acts xs (Some (h.place)) None (Some (h.by)) r.both.box.sent))
       (append_assoc (leave_effects cs) (empty_effects bs ++ last) rest ∙ ap (λ fs'. leave_effects cs ++ fs') (append_assoc (empty_effects bs) last rest))
-      ∙ leaves_on i names notes s r own xs k item a cs h.place h.by v fs zs fit distinct sound leaves_by each h.held h.functions o acts room (empty_effects bs ++ (last ++ rest))
-      ∙ (emptied i names notes s r own xs k start a h cs bs reply true false refl held_there apart wired alone at.0 at.1.1).walk gone (xs ++ ended_by names r cs) o (acts ++ stops_in r item) (Some (h.by)) r.both.box.sent (last ++ rest)
-      ∙ ap (λ w. on_effects false (CloseConn cid ∷ (enables ns ++ rest)) w)
+      ∙ leaves_on i names notes s r own xs k item a cs (Some (h.place)) h.by v fs zs fit.fit fit.leaves distinct sound leaves_by each h.held h.functions o acts room (empty_effects bs ++ (last ++ rest))
+      ∙ (emptied i names notes s r own xs k start a (Some (h.place)) h.held h.functions (headed_out i names notes s r own xs k start a h) cs bs reply closing ends held_there apart wired known ps pairs).walk gone (xs ++ ended_by names r cs) o (acts ++ stops_in r item) (Some (h.by)) r.both.box.sent (last ++ rest)
+      ∙ ap (λ w. on_effects false ((close_effects closing ends ++ enables ns) ++ rest) w)
       (sends_walk o sE (acts ++ stops_in r item) ((xs ++ ended_by names r cs) ++ places) cid sn there.place h.place reply (Some (h.place)) None (Some (h.by)) r.both.box.sent
-      (places_same i names notes s r own xs k item fit distinct sound o limits cid ∙ reply_place i.outbox s.outbox r.both.box k.outbox distinct cid sends.takes) refl may_one (let lt = sends.sent in omega (arith, lt)))
-      ∙ ap (λ w. on_effects false (enables ns ++ rest) w)
-      (close_walk o sR (acts ++ stops_in r item) ((xs ++ ended_by names r cs) ++ places) None (Some (h.by)) (r.both.box.sent + 1) cid at.0 (places_same i names notes s r own xs k item fit distinct sound o limits cid ∙ at.1.0)
-      (let w = at.1.1.within in let l = h.long_functions in let m = k.sizes.functions in omega (arith, w, l, m)))
+      (places_same i names notes s r own xs k item fit.fit distinct sound o limits cid ∙ reply_place i.outbox s.outbox r.both.box k.outbox distinct cid sends.takes) refl may_one (let lt = sends.sent in omega (arith, lt)))
+      ∙ ap (λ fs'. on_effects false fs' after_send) (append_assoc (close_effects closing ends) (enables ns) rest)
+      ∙ close_walk o (cids i) limits.many sR (acts ++ stops_in r item) ((xs ++ ended_by names r cs) ++ places) None (Some (h.by)) (r.both.box.sent + 1) closing ends
+      (subst (λ (qs : List ℕ). EachOf (λ p. p < length h.functions.waiting) qs) (sym (same_places i names notes s r own xs k item fit.fit distinct sound closing ends o limits)) within_each) (enables ns ++ rest)
+      ∙ ap (λ (qs : List ℕ). on_effects false (enables ns ++ rest) (walk_in o (record sR { functions = functions_off qs h.functions }) (acts ++ stops_in r item) (((xs ++ ended_by names r cs) ++ places) ++ places_off qs h.functions) None None (Some (h.by)) (r.both.box.sent + 1))) (same_places i names notes s r own xs k item fit.fit distinct sound closing ends o limits)
       ∙ enables_past ns rest after_close
       ∙ led_end rest led after_close
       ∙ ap (λ n. on_effects false rest (walk_at o (record sR { functions = fs }) (acts ++ stops_in r item) ended' None n)) (ap (λ n. n + 1) (sym same_sent) ∙ sym replied.sent)
@@ -331,7 +410,7 @@ module _ (i : Interface) (names : List Name) (notes : List Note) (s : State) (r 
       gone = record s.commands { items = map (gone_by cs) s.commands.items }
 
       last : List Effect
-      last = Send cid sn reply ∷ (CloseConn cid ∷ enables ns)
+      last = Send cid sn reply ∷ (close_effects closing ends ++ enables ns)
 
       sE : State
       sE = record s { held = v; functions = h.functions; commands = gone }
@@ -339,10 +418,14 @@ module _ (i : Interface) (names : List Name) (notes : List Note) (s : State) (r 
       sR : State
       sR = record s { held = v; functions = h.functions; commands = gone; replies = pushed there.place (record { log_place = r.both.box.sent; request = h.place }) s.replies }
 
+      after_send : Walk
+      after_send = walk_in o sR (acts ++ stops_in r item) ((xs ++ ended_by names r cs) ++ places) None None (Some (h.by)) (r.both.box.sent + 1)
+
       after_close : Walk
       after_close = walk_in o (record sR { functions = fs }) (acts ++ stops_in r item) ended' None None (Some (h.by)) (r.both.box.sent + 1)
 
-  pub goes_parted : ItemGoes i names notes s r own xs (parted_item start a cs bs reply true false)
+  pub goes_parted : ItemGoes i names notes k.unswept s r own xs (parted_item start a cs bs reply closing ends)
+  unfolding between
   goes_parted = record {
     state = state';
     ended = ended';
@@ -350,14 +433,19 @@ module _ (i : Interface) (names : List Name) (notes : List Note) (s : State) (r 
     outbox = refl;
     room = refl;
     few =
-        let few = few2 i names notes s r own xs k item a cs h.place h.by v fs zs fit distinct sound leaves_by each in
+        let few = few2 i names notes s r own xs k item a cs (Some (h.place)) h.by v fs zs fit.fit fit.leaves distinct sound leaves_by each in
         let lives = few.0 in
         let fewer = leaves_by.out.fewer in
         record {
           lives = omega (arith, lives, fewer, length-append xs zs, length-append places waits, length-append ((xs ++ ended_by names r cs) ++ places) waits, length-append (xs ++ ended_by names r cs) places);
           going = few.1;
         };
-    links = same_links;
-    calm = subst (EachOf (IsCalm (side_behind i r item).both.box)) (sym effects_are) (calm_parted (side_behind i r item).both.box sn start a cs bs reply ns (taken_on r.both.box (side_behind i r item).both.box same_links cid sends.takes));
+    still = still;
+    put = put;
+    begins = ap is_some_effect effects_are;
+    waits = (let more = more_count closed.replies there.place (record { log_place = shut_box.sent; request = h.place }) in let all = closed.count_replies in let some = some_first (filter_map reply_sent (effects_by i r item)) (cid, reply) (ap (λ (fs' : List Effect). first_of (filter_map reply_sent fs')) effects_are ∙ part.sends) in omega (arith, more, all, some));
+    notes_kept = closed.count_noted;
+    touched = λ o found p. ⊎_elim (λ same. inl same) (λ among. inr (subst (λ (fs' : List Effect). In p (flat_map (touched_in o) fs')) (sym effects_are)
+        (parted_touched o (cids i) found.many sn start a cs bs reply closing ends ns p (subst (In p) (sym (same_places i names notes s r own xs k item fit.fit distinct sound closing ends o found)) among)))) (closed.touched p);
     walk = λ o limits acts first late room rest led. walk o limits acts first late room rest led;
   }

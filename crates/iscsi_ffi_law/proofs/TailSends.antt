@@ -1,7 +1,7 @@
 -- A request executes, and is answered: its use is that of the reply that waits.
 use Rattle.std.proofs.Common.{◌≡◌, ℕ, ◌+◌, ◌≤◌, ◌==◌, ◌&&◌, Bool, true, false, List, [], ◌∷◌, ◌++◌, length, count_by, Option, Some, None, refl, ap, sym, subst, ◌∙◌, arith, length-set}
 use Rattle.iscsi_ffi_law.proofs.KeptCounts.{held_or_waiting}
-use Rattle.std.specs.List.{filter_map, list_any}
+use Rattle.std.specs.List.{filter_map}
 use Rattle.std.proofs.lemmas.List.{append_assoc}
 use Rattle.iscsi_wire.specs.declared.reply.Reply.{Reply}
 use Rattle.iscsi_wire.specs.Fields.{connection_of}
@@ -11,7 +11,7 @@ use Rattle.iscsi_history.specs.rules.Settings.{are_distinct}
 use Rattle.iscsi_history.specs.rules.Trace.{Arrival, Mark, Sends, first_of, waiting}
 use Rattle.iscsi_history.specs.rules.Run.{stat_sn_of}
 use Rattle.iscsi_history.proofs.CountLemmas.{one}
-use Rattle.iscsi_history.proofs.Forms.{AfterWaiting, AtArrival, AtTurn, Start}
+use Rattle.iscsi_history.proofs.Forms.{Start}
 use Rattle.iscsi_history.proofs.NewlyLemmas.{Untouched, newly-untouched}
 use Rattle.iscsi_outbox_rules.specs.rules.Boxes.{Box, Link}
 use Rattle.iscsi_outbox_rules.specs.rules.Due.{settle}
@@ -21,7 +21,7 @@ use Rattle.iscsi_outbox_rules.specs.rules.Run.{new_link}
 use Rattle.iscsi_outbox_rules.specs.rules.Words.{is_running}
 use Rattle.iscsi_outbox_law.specs.Commands.{link_in}
 use Rattle.iscsi_outbox_law.specs.Sound.{IsSound}
-use Rattle.iscsi_outbox_steps.specs.State.{State as OutboxState, limits_of, place_of}
+use Rattle.iscsi_outbox_steps.specs.State.{State as OutboxState, place_of}
 use Rattle.iscsi_outbox_steps.specs.Steps.{after_item as steps_after_item}
 use Rattle.iscsi_requests.specs.Conns.{of_conn}
 use Rattle.iscsi_requests.specs.Replies.{pushed}
@@ -35,7 +35,8 @@ use Rattle.iscsi_ffi_law.specs.Arrived.{AreDistinct, IsSendFit, IsStepFit, effec
 use Rattle.iscsi_ffi_law.specs.Names.{Name, Note, place_named}
 use Rattle.iscsi_ffi_law.specs.Stands.{AreRequests}
 use Rattle.iscsi_ffi_law.specs.Uses.{count_functions, count_held, count_lists, is_place}
-use Rattle.iscsi_ffi_law.proofs.Between.{IsBetween, IsHeaded, distinct_same, held_same}
+use Rattle.iscsi_ffi_law.proofs.Between.{IsBetween, IsFound, IsHeaded, distinct_same, held_same, pending_of}
+use Rattle.iscsi_ffi_law.proofs.Unswept.{is_some_effect, more_count, unswept_at}
 use Rattle.iscsi_ffi_law.proofs.DoneShape.{enables}
 use Rattle.iscsi_ffi_law.proofs.QuietItems.{IsUnheld, is_held_on}
 use Rattle.iscsi_ffi_law.proofs.Slots.{slots_same}
@@ -53,7 +54,7 @@ use Rattle.iscsi_ffi_law.proofs.DoneRoom.{may_wait_more}
 use Rattle.iscsi_ffi_law.proofs.Finish.{as_many_links}
 use Rattle.iscsi_ffi_law.proofs.Members.{PassingAt}
 use Rattle.iscsi_ffi_law.proofs.Moved.{all_queued}
-use Rattle.iscsi_ffi_law.proofs.Plain.{answers_plain, each_plain, effects_plain, plain_effects, plain_item, quiet_plain, start_effect, untouched_plain, void_effects}
+use Rattle.iscsi_ffi_law.proofs.Plain.{answers_plain, effects_plain, plain_effects, plain_item, quiet_plain, untouched_plain, void_effects}
 use Rattle.iscsi_ffi_law.proofs.Quiet.{settled_tasks}
 use Rattle.iscsi_ffi_law.proofs.QuietBox.{none_turned, quiet_item, sent_tasks}
 use Rattle.iscsi_ffi_law.proofs.QuietRequests.{entered_on, requests_on}
@@ -62,8 +63,9 @@ use Rattle.iscsi_ffi_law.proofs.Releases.{endings}
 use Rattle.iscsi_ffi_law.proofs.Releasing.{ending}
 use Rattle.iscsi_ffi_law.proofs.ReplyPlace.{conn_is as reply_conn, place_is as reply_place, takes_it as reply_takes, there as reply_there}
 use Rattle.iscsi_ffi_law.proofs.ReplyRequests.{IsReplied, requests_replied}
-use Rattle.iscsi_ffi_law.proofs.Stepping.{GoesOn, IsCalm, SameLinks, all_calm_on, last_then, places_same, runs_then, stands_then}
+use Rattle.iscsi_ffi_law.proofs.Stepping.{GoesOn, last_then, places_same, runs_then, stands_then, still_clear}
 use Rattle.iscsi_ffi_law.proofs.TailOver.{voids_past}
+use Rattle.iscsi_ffi_law.proofs.Framing.{some_first}
 use Rattle.iscsi_ffi_law.proofs.Walking.{is_led, led_end, sends_walk, walk_at, walk_in}
 
 -- uses that have ended in an event are of requests that aren't held, also where the one that executes isn't any more
@@ -101,9 +103,9 @@ pub record IsAnswering (i : Interface) (names : List Name) (notes : List Note) (
   pub slots : AreHeld (size_for i.outbox.session.window) s.commands.room names held (item ∷ r.both.trace)
   pub distinct : AreDistinct (item ∷ r.both.trace)
   pub over : (p : ℕ) → 1 ≤ endings ended p → count_by (is_place p) held.places + count_lists (λ (f : WaitingFunction). f.request == p) functions.waiting ≡ 0
-  pub calm : (b : Box) → list_any (λ (l : Link). l.conn == cid && takes_more l) b.links ≡ true → EachOf (IsCalm b) effects
+  pub some : is_some_effect effects ≡ true
   pub of_it : ◌≡◌ {A = Option ℕ} (elim current [ Some q ↦ Some q | None ↦ own_then ]) (Some place)
-  pub walk : (o : OutboxState) → o.limits ≡ limits_of i.outbox → (acts : List Action) (first : Bool) → (first && is_late r.both.event item) ≡ false → (rest : List Effect) (sent : ℕ)
+  pub walk : (o : OutboxState) → IsFound i o → (acts : List Action) (first : Bool) → (first && is_late r.both.event item) ≡ false → (rest : List Effect) (sent : ℕ)
       → on_effects first (effects ++ rest) (walk_at o s acts xs own sent) ≡ on_effects false rest (on_effect false (Send cid sn reply) (walk_in o (record s { held = held; functions = functions }) acts ended current own_then by sent))
 
 module _ (i : Interface) (names : List Name) (notes : List Note) (s : State) (r : Side) (own : Option ℕ) (xs : List (Option ℕ)) (k : IsBetween i names notes s r own xs) (item : List Mark) (x : Option Request) (cid event : ℕ) (reply : Reply)
@@ -142,14 +144,14 @@ module _ (i : Interface) (names : List Name) (notes : List Note) (s : State) (r 
   r1 = record r { both = record r.both { trace = item ∷ r.both.trace } }
 
   abbrev pending1 : ℕ → ℕ
-  pending1 q = one (h.place == q) + endings h.ended q
+  pending1 q = one (h.place == q) + endings h.ended q + unswept_at k.unswept q
 
-  requests1 : AreRequests names notes pending1 (λ q. []) s1 r1
-  requests1 = requests_on names notes (λ q. ending own q + endings xs q) (λ q. []) s r k.requests item h.untouched r.both.event h.held h.functions pending1 (λ q. omega (arith, h.uses q)) h.requests h.noted
+  requests1 : AreRequests names notes pending1 k.gone s1 r1
+  requests1 = requests_on names notes (pending_of k.unswept own xs) k.gone s r k.requests item h.untouched r.both.event h.held h.functions pending1 (λ q. omega (arith, h.uses q)) h.requests h.noted
 
   replied : IsReplied names s1 r1 event there.place h.place (after_item i.outbox r.both.box (effects_by i r item))
   replied = subst (IsReplied names s1 r1 event there.place h.place) (sym (box_is ∙ ap (settle i.outbox) (sym (none_turned phase_enabled sent_box))))
-      (sends_reply i names s1 r1 requests1.answers (all_queued i names notes pending1 (λ q. []) s1 r1 requests1 k.outbox distinct fit.fit.sound) [] event there.place h.place cid there.within conn_is takes_it sends.takes long h.named x reply [] [])
+      (sends_reply i names s1 r1 requests1.answers (all_queued i names notes pending1 k.gone s1 r1 requests1 k.outbox distinct fit.fit.sound) [] event there.place h.place cid there.within conn_is takes_it sends.takes long h.named x reply [] [])
 
   runs : (ticket : ℕ) → is_running (after_item i.outbox r.both.box (effects_by i r item)) ticket ≡ is_running r.both.box ticket
   runs ticket =
@@ -159,17 +161,22 @@ module _ (i : Interface) (names : List Name) (notes : List Note) (s : State) (r 
   abbrev state' : State
   state' = record s { held = h.held; functions = h.functions; outbox = steps_after_item (effects_by i r item) s.outbox; replies = pushed there.place (record { log_place = r.both.box.sent; request = h.place }) s.replies }
 
-  requests2 : AreRequests names notes (λ q. ending None q + endings h.ended q) (λ q. []) state' (side_behind i r item)
-  requests2 = subst (λ as'. AreRequests names notes (λ q. ending None q + endings h.ended q) (λ q. []) state' (record (side_behind i r item) { answers = r.answers ++ as' })) (sym h.answers)
-      (requests_replied names notes pending1 (λ q. ending None q + endings h.ended q) (λ q. []) s1 r1 requests1 event there.place h.place (λ q. omega arith) there.within long h.named sends.handed outbox' (after_item i.outbox r.both.box (effects_by i r item))
-      (runs_then i names notes s r own xs k item fit distinct sound runs) replied)
+  requests2 : AreRequests names notes (pending_of k.unswept None h.ended) k.gone state' (side_behind i r item)
+  requests2 = subst (λ as'. AreRequests names notes (pending_of k.unswept None h.ended) k.gone state' (record (side_behind i r item) { answers = r.answers ++ as' })) (sym h.answers)
+      (requests_replied names notes pending1 (pending_of k.unswept None h.ended) k.gone s1 r1 requests1 event there.place h.place (λ q. omega arith) there.within long h.named sends.handed outbox' (after_item i.outbox r.both.box (effects_by i r item))
+      (runs_then i names notes s r own xs k item fit.fit distinct sound runs) replied)
 
   between : IsBetween i names notes state' (side_behind i r item) None h.ended
   between = record {
     requests = requests2;
     slots = h.slots;
     functions = h.functions_are;
-    outbox = stands_then i names notes s r own xs k item fit distinct sound;
+    unswept = k.unswept;
+    gone = k.gone;
+    long_replies = k.long_replies;
+    long_noted = k.long_noted;
+    clear = still_clear i names notes s r own xs k item fit.fit distinct sound;
+    outbox = stands_then i names notes s r own xs k item fit.fit distinct sound;
     sizes = record {
       room = k.sizes.room;
       functions = h.long_functions ∙ k.sizes.functions;
@@ -183,7 +190,7 @@ module _ (i : Interface) (names : List Name) (notes : List Note) (s : State) (r 
       few = k.sizes.few;
     };
     flags = record { awake = k.flags.awake; over = k.flags.over };
-    counts = record { units = k.counts.units; last = (let same = ap length (entered_on r.both.trace item h.untouched) in let below = k.counts.last in omega (arith, same, below)); tracked = last_then i names notes s r own xs k item fit distinct sound };
+    counts = record { units = k.counts.units; last = (let same = ap length (entered_on r.both.trace item h.untouched) in let below = k.counts.last in omega (arith, same, below)); tracked = last_then i names notes s r own xs k item fit.fit distinct sound };
     withheld = k.withheld;
     distinct = h.distinct;
     over = h.over;
@@ -193,17 +200,17 @@ module _ (i : Interface) (names : List Name) (notes : List Note) (s : State) (r 
   }
 
   may : may_wait r.both.box.sent s.replies ≡ true
-  may = may_wait_more i names notes pending1 (λ q. []) s1 r1 requests1 k.outbox
+  may = may_wait_more i names notes pending1 k.gone s1 r1 requests1 k.outbox
       (record { room = k.sizes.room; functions = h.long_functions ∙ k.sizes.functions; replies = k.sizes.replies; noted = k.sizes.noted; unwritten = k.sizes.unwritten; noted_room = k.sizes.noted_room; unwritten_room = k.sizes.unwritten_room; replies_room = k.sizes.replies_room; slots = (let l = h.long in let some = k.sizes.slots in omega (arith, l, some)); few = k.sizes.few })
       sends.sent sends.replies
 
-  walk : (o : OutboxState) → o.limits ≡ limits_of i.outbox → (acts : List Action) (first : Bool) → (first && is_late r.both.event item) ≡ false → (rest : List Effect) → is_led rest ≡ true
+  walk : (o : OutboxState) → IsFound i o → (acts : List Action) (first : Bool) → (first && is_late r.both.event item) ≡ false → (rest : List Effect) → is_led rest ≡ true
       → on_effects first (effects_by i r item ++ rest) (walk_at o s acts xs own r.both.box.sent) ≡ on_effects false rest (walk_at o state' acts h.ended None (side_behind i r item).both.box.sent)
   walk o limits acts first late rest led =
       ap (λ es. on_effects first (es ++ rest) (walk_at o s acts xs own r.both.box.sent)) h.effects_are
       ∙ h.walk o limits acts first late rest r.both.box.sent
       ∙ ap (on_effects false rest)
-      (sends_walk o s1 acts h.ended cid h.sn there.place h.place reply h.current h.own_then h.by r.both.box.sent (places_same i names notes s r own xs k item fit distinct sound o limits cid ∙ place_is) h.of_it may
+      (sends_walk o s1 acts h.ended cid h.sn there.place h.place reply h.current h.own_then h.by r.both.box.sent (places_same i names notes s r own xs k item fit.fit distinct sound o limits cid ∙ place_is) h.of_it may
       (let lt = sends.sent in omega (arith, lt)))
       ∙ led_end rest led after_send
       ∙ ap (λ n. on_effects false rest (walk_at o state' acts h.ended None n)) (sym replied.sent)
@@ -211,10 +218,8 @@ module _ (i : Interface) (names : List Name) (notes : List Note) (s : State) (r 
       after_send : Walk
       after_send = walk_in o (record s1 { replies = pushed there.place (record { log_place = r.both.box.sent; request = h.place }) s.replies }) acts h.ended None None h.by (r.both.box.sent + 1)
 
-  same_links : SameLinks r.both.box (side_behind i r item).both.box
-  same_links = record { long = replied.long; same = replied.same }
-
-  pub goes_sent : GoesOn i names notes s r own xs item
+  pub goes_sent : GoesOn i names notes k.unswept s r own xs item
+  unfolding between
   goes_sent = record {
     state = state';
     ended = h.ended;
@@ -222,8 +227,10 @@ module _ (i : Interface) (names : List Name) (notes : List Note) (s : State) (r 
     outbox = refl;
     room = refl;
     few = record { lives = (let few = h.few in omega (arith, few)); going = omega arith };
-    links = same_links;
-    calm = subst (EachOf (IsCalm (side_behind i r item).both.box)) (sym h.effects_are) (h.calm (side_behind i r item).both.box (all_calm_on r.both.box (side_behind i r item).both.box same_links (Send cid h.sn reply ∷ []) (sends.takes, tt)).0);
+    same = refl;
+    begins = ap is_some_effect h.effects_are ∙ h.some;
+    waits = (let more = more_count s.replies.waiting there.place (record { log_place = r.both.box.sent; request = h.place }) in let some = some_first (filter_map reply_sent (effects_by i r item)) (cid, reply) (ap (λ (es : List Effect). first_of (filter_map reply_sent es)) h.effects_are ∙ h.part.sends) in omega (arith, more, some));
+    notes_kept = refl;
     walk = λ o limits acts first late rest led. walk o limits acts first late rest led;
   }
 
@@ -233,11 +240,6 @@ module _ (i : Interface) (names : List Name) (notes : List Note) (s : State) (r 
     (h : IsHeaded i names notes s r own xs (plain_item start a void None (Some reply)) start a) where
   abbrev number : ℕ
   number = stat_sn_of i.outbox.session r.both.trace (connection_of a.request)
-
-  first_calm : (b : Box) (x : Start) → IsCalm b (start_effect x a.request)
-  first_calm b AtTurn = tt
-  first_calm b AtArrival = tt
-  first_calm b AfterWaiting = tt
 
   pub executed_answering : IsAnswering i names notes s r own xs (plain_item start a void None (Some reply)) (Some (a.request)) (connection_of a.request) a.event reply
   executed_answering = record {
@@ -266,7 +268,7 @@ module _ (i : Interface) (names : List Name) (notes : List Note) (s : State) (r 
     slots = h.slots;
     distinct = h.distinct;
     over = over_still i names notes s r own xs k (plain_item start a void None (Some reply)) start a h;
-    calm = λ b takes. each_plain (IsCalm b) number start a void None (Some reply) [] (first_calm b start) (λ n. tt) (λ c. tt) (λ x is. takes) (λ q u. tt);
+    some = refl;
     of_it = refl;
     walk = λ o limits acts first late rest sent.
         ap (λ w. on_effects false ((void_effects void ++ (Send (connection_of a.request) number reply ∷ [])) ++ rest) w) (h.walk o limits acts first sent late)
@@ -312,7 +314,7 @@ module _ (i : Interface) (names : List Name) (notes : List Note) (s : State) (r 
     slots = slots_same (size_for i.outbox.session.window) s.commands.room names s.held r.both.trace (rejection ∷ r.both.trace) (held_same r.both.trace rejection v) k.slots;
     distinct = distinct_same r.both.trace rejection v (λ e. omega arith) k.distinct;
     over = λ p some. k.over p some;
-    calm = λ b takes. (takes, tt);
+    some = refl;
     of_it = refl;
     walk = λ o limits acts first late rest sent. refl;
   }

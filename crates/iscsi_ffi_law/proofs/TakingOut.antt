@@ -64,11 +64,11 @@ abbrev pub empty_effects : List Arrival → List Effect
 empty_effects bs = map (λ (b : Arrival). Empty (wire b.number)) bs
 
 -- what stands for the trace as far as the item went: a request executes, which has its use still; `ended`: the uses that have ended
-pub record IsOut (i : Interface) (names : List Name) (notes : List Note) (s : State) (r : Side) (own : Option ℕ) (xs : List (Option ℕ)) (t : Trace) (place : ℕ) (ended : List (Option ℕ)) (v : HeldNumbers) (fs : WaitingFunctions) : Type 0 where
+pub record IsOut (i : Interface) (names : List Name) (notes : List Note) (s : State) (r : Side) (own : Option ℕ) (xs : List (Option ℕ)) (t : Trace) (place : Option ℕ) (ended : List (Option ℕ)) (v : HeldNumbers) (fs : WaitingFunctions) : Type 0 where
   pub long : length v.places ≡ length s.held.places
   pub long_functions : length fs.waiting ≡ length s.functions.waiting
   pub functions_are : AreFunctions (cids i) names fs (waiting t)
-  pub uses : (p : ℕ) → count_by (is_place p) v.places + count_lists (λ (f : WaitingFunction). f.request == p) fs.waiting + (one (place == p) + endings ended p) ≡ count_held p s + count_functions p s + (ending own p + endings xs p)
+  pub uses : (p : ℕ) → count_by (is_place p) v.places + count_lists (λ (f : WaitingFunction). f.request == p) fs.waiting + (ending place p + endings ended p) ≡ count_held p s + count_functions p s + (ending own p + endings xs p)
   pub fewer : length ended + held_or_waiting v fs ≤ length xs + held_or_waiting s.held s.functions
   pub requests : EachOf (IsRequest (record s { held = v; functions = fs }) t) names
   pub noted : EachOf (IsNote (record s { held = v; functions = fs }) r.both.box.links) notes
@@ -78,7 +78,7 @@ pub record IsOut (i : Interface) (names : List Name) (notes : List Note) (s : St
 
 module _ (i : Interface) (names : List Name) (notes : List Note) (s : State) (r : Side) (own : Option ℕ) (xs : List (Option ℕ)) (k : IsBetween i names notes s r own xs) where
   -- it has begun to execute
-  pub headed_out : (start : Start) (a : Arrival) (h : IsHeaded i names notes s r own xs (plain_item start a None None None) start a) → IsOut i names notes s r own xs (plain_item start a None None None ∷ r.both.trace) h.place xs h.held h.functions
+  pub headed_out : (start : Start) (a : Arrival) (h : IsHeaded i names notes s r own xs (plain_item start a None None None) start a) → IsOut i names notes s r own xs (plain_item start a None None None ∷ r.both.trace) (Some (h.place)) xs h.held h.functions
   headed_out start a h = record {
     long = h.long;
     long_functions = h.long_functions;
@@ -93,7 +93,7 @@ module _ (i : Interface) (names : List Name) (notes : List Note) (s : State) (r 
   }
 
   -- so it stands for a trace that holds the same, and in which the same functions wait
-  pub out_as : (t t' : Trace) (place : ℕ) (ended : List (Option ℕ)) (v : HeldNumbers) (fs : WaitingFunctions) → ((n : ℕ) → held t' n ≡ held t n) → shown admitted_by t' ≡ shown admitted_by t → waiting t' ≡ waiting t → IsOut i names notes s r own xs t place ended v fs → IsOut i names notes s r own xs t' place ended v fs
+  pub out_as : (t t' : Trace) (place : Option ℕ) (ended : List (Option ℕ)) (v : HeldNumbers) (fs : WaitingFunctions) → ((n : ℕ) → held t' n ≡ held t n) → shown admitted_by t' ≡ shown admitted_by t → waiting t' ≡ waiting t → IsOut i names notes s r own xs t place ended v fs → IsOut i names notes s r own xs t' place ended v fs
   out_as t t' place ended v fs holds admitted waits h = record {
     long = h.long;
     long_functions = h.long_functions;
@@ -122,7 +122,7 @@ module _ (i : Interface) (names : List Name) (notes : List Note) (s : State) (r 
 
   -- ---- one is taken out
 
-  module _ (t : Trace) (place : ℕ) (ended : List (Option ℕ)) (v : HeldNumbers) (fs : WaitingFunctions) (h : IsOut i names notes s r own xs t place ended v fs) (b : Arrival) (is : held t b.number ≡ Some b) where
+  module _ (t : Trace) (place : Option ℕ) (ended : List (Option ℕ)) (v : HeldNumbers) (fs : WaitingFunctions) (h : IsOut i names notes s r own xs t place ended v fs) (b : Arrival) (is : held t b.number ≡ Some b) where
     abbrev size : ℕ
     size = size_for i.outbox.session.window
 
@@ -191,15 +191,15 @@ module _ (i : Interface) (names : List Name) (notes : List Note) (s : State) (r 
 
     -- its use ends; `ys`: the uses that have ended as the walk comes there
     pub one_walk : (wired : wire b.number ≡ cmd_sn b.request) (kept : Commands) (ys : List (Option ℕ)) (o : OutboxState) (acts : List Action) (by : Option StopReason) (sent : ℕ)
-        → on_effect false (Empty (wire b.number)) (walk_in o (record s { held = v; functions = fs; commands = kept }) acts ys (Some place) None by sent)
-        ≡ walk_in o (record s { held = with_held (cmd_sn b.request) None v; functions = fs; commands = kept }) acts (ys ++ Some gone_place ∷ []) (Some place) None by sent
+        → on_effect false (Empty (wire b.number)) (walk_in o (record s { held = v; functions = fs; commands = kept }) acts ys place None by sent)
+        ≡ walk_in o (record s { held = with_held (cmd_sn b.request) None v; functions = fs; commands = kept }) acts (ys ++ Some gone_place ∷ []) place None by sent
     one_walk wired kept ys o acts by sent =
-        ap (λ n. on_effect false (Empty n) (walk_in o before acts ys (Some place) None by sent)) wired
-        ∙ ap (λ (z : Option ℕ). walking (λ (d : Doing). release_if z (in_state (λ (x : State). record x { held = with_held (cmd_sn b.request) None x.held }) d)) (walk_in o before acts ys (Some place) None by sent)) it_stands.slot
-        ∙ ap (λ (d : Doing). record { doing = d; current = Some place; own = None; by = by; sent = sent }) (one_released (Some (it_stands.place)) (walk_in o after acts ys (Some place) None by sent).doing)
+        ap (λ n. on_effect false (Empty n) (walk_in o before acts ys place None by sent)) wired
+        ∙ ap (λ (z : Option ℕ). walking (λ (d : Doing). release_if z (in_state (λ (x : State). record x { held = with_held (cmd_sn b.request) None x.held }) d)) (walk_in o before acts ys place None by sent)) it_stands.slot
+        ∙ ap (λ (d : Doing). record { doing = d; current = place; own = None; by = by; sent = sent }) (one_released (Some (it_stands.place)) (walk_in o after acts ys place None by sent).doing)
         ∙ ap (λ (c : Core). record {
           doing = record { state = record after { outbox = o; cookies = c.cookies; commands = c.commands }; actions = acts; forgets = c.forgets };
-          current = Some place;
+          current = place;
           own = None;
           by = by;
           sent = sent;
@@ -214,23 +214,23 @@ module _ (i : Interface) (names : List Name) (notes : List Note) (s : State) (r 
   -- ---- several, one after the other
 
   -- what they come to
-  pub record AreOut (t : Trace) (place : ℕ) (ended : List (Option ℕ)) (v : HeldNumbers) (fs : WaitingFunctions) (bs : List Arrival) : Type 0 where
+  pub record AreOut (t : Trace) (place : Option ℕ) (ended : List (Option ℕ)) (v : HeldNumbers) (fs : WaitingFunctions) (bs : List Arrival) : Type 0 where
     pub held_then : HeldNumbers
     pub places : List (Option ℕ)
     pub many : length places ≡ length bs
     pub out : IsOut i names notes s r own xs (emptied_by bs t) place (ended ++ places) held_then fs
     pub walk : (kept : Commands) (ys : List (Option ℕ)) (o : OutboxState) (acts : List Action) (by : Option StopReason) (sent : ℕ) (rest : List Effect)
-        → on_effects false (empty_effects bs ++ rest) (walk_in o (record s { held = v; functions = fs; commands = kept }) acts ys (Some place) None by sent)
-        ≡ on_effects false rest (walk_in o (record s { held = held_then; functions = fs; commands = kept }) acts (ys ++ places) (Some place) None by sent)
+        → on_effects false (empty_effects bs ++ rest) (walk_in o (record s { held = v; functions = fs; commands = kept }) acts ys place None by sent)
+        ≡ on_effects false rest (walk_in o (record s { held = held_then; functions = fs; commands = kept }) acts (ys ++ places) place None by sent)
 
-  pub all_out : (bs : List Arrival) (t : Trace) (place : ℕ) (ended : List (Option ℕ)) (v : HeldNumbers) (fs : WaitingFunctions) → IsOut i names notes s r own xs t place ended v fs
+  pub all_out : (bs : List Arrival) (t : Trace) (place : Option ℕ) (ended : List (Option ℕ)) (v : HeldNumbers) (fs : WaitingFunctions) → IsOut i names notes s r own xs t place ended v fs
       → EachOf (λ (b : Arrival). held t b.number ≡ Some b) bs → InOrder (λ (b c : Arrival). (b.number == c.number) ≡ false) bs → EachOf (λ (b : Arrival). wire b.number ≡ cmd_sn b.request) bs → AreOut t place ended v fs bs
   all_out [] t place ended v fs h there apart wired = record {
     held_then = v;
     places = [];
     many = refl;
     out = subst (λ (ys : List (Option ℕ)). IsOut i names notes s r own xs t place ys v fs) (sym (append-nil ended)) h;
-    walk = λ kept ys o acts by sent rest. ap (λ (zs : List (Option ℕ)). on_effects false rest (walk_in o (record s { held = v; functions = fs; commands = kept }) acts zs (Some place) None by sent)) (sym (append-nil ys));
+    walk = λ kept ys o acts by sent rest. ap (λ (zs : List (Option ℕ)). on_effects false rest (walk_in o (record s { held = v; functions = fs; commands = kept }) acts zs place None by sent)) (sym (append-nil ys));
   }
   all_out (b ∷ bs) t place ended v fs h there apart wired =
       let gone : ℕ = gone_place t place ended v fs h b there.0 in
@@ -246,7 +246,7 @@ module _ (i : Interface) (names : List Name) (notes : List Note) (s : State) (r 
         walk = λ kept ys o acts by sent rest.
             ap (λ w. on_effects false (empty_effects bs ++ rest) w) (one_walk t place ended v fs h b there.0 wired.0 kept ys o acts by sent)
             ∙ later.walk kept (ys ++ Some gone ∷ []) o acts by sent rest
-            ∙ ap (λ (zs : List (Option ℕ)). on_effects false rest (walk_in o (record s { held = later.held_then; functions = fs; commands = kept }) acts zs (Some place) None by sent)) (append_assoc ys (Some gone ∷ []) later.places);
+            ∙ ap (λ (zs : List (Option ℕ)). on_effects false rest (walk_in o (record s { held = later.held_then; functions = fs; commands = kept }) acts zs place None by sent)) (append_assoc ys (Some gone ∷ []) later.places);
       }
     where
       each_still : (cs : List Arrival) → EachOf (λ (c : Arrival). held t c.number ≡ Some c) cs → EachOf (λ (c : Arrival). (b.number == c.number) ≡ false) cs → EachOf (λ (c : Arrival). held ((Empties b ∷ []) ∷ t) c.number ≡ Some c) cs

@@ -18,7 +18,7 @@ use Rattle.iscsi_history.proofs.FormItems.{Does, does_after, does_function, does
 use Rattle.iscsi_history.proofs.Forms.{AfterWaiting, AtArrival, AtTurn, Deeds, IsDone, Start, marks_done, start_mark}
 use Rattle.iscsi_history.proofs.HeldLemmas.{held-number}
 use Rattle.iscsi_outbox_rules.proofs.ClosedParts.{EachOn}
-use Rattle.iscsi_ffi_law.proofs.Opens.{OpensIf, opens_after, opens_function, opens_reply}
+use Rattle.iscsi_ffi_law.proofs.Opens.{Opens, opens_after, opens_function, opens_reply}
 
 -- why an item is due that isn't the first one
 abbrev pub IsDueBy : Trace → Start → Arrival → Type 0
@@ -33,7 +33,7 @@ pub record IsDue (o : Setting) (t : Trace) (item : List Mark) : Type 0 where
   pub is : item ≡ start_mark start a ∷ marks_done a deeds
   pub due : IsDueBy t start a
   pub done : IsDone o t start a deeds
-  pub opens : OpensIf a (marks_done a deeds)
+  pub opens : Opens o a (marks_done a deeds)
 
 module _ (o : Setting) where
   abbrev pub AreDue : Trace → List (List Mark) → Type 0
@@ -43,8 +43,8 @@ module _ (o : Setting) where
   due-append t [] ys h k = k
   due-append t (x ∷ xs) ys h k = (h.0, due-append (x ∷ t) xs ys h.1 k)
 
-  due_by : (t : Trace) (start : Start) (a : Arrival) (ms : List Mark) → IsDueBy t start a → Does o t start a ms → OpensIf a ms → IsDue o t (start_mark start a ∷ ms)
-  due_by t start a ms due d opens = record { start = start; a = a; deeds = d.deeds; is = ap (λ xs. start_mark start a ∷ xs) d.is; due = due; done = d.done; opens = subst (OpensIf a) d.is opens }
+  due_by : (t : Trace) (start : Start) (a : Arrival) (ms : List Mark) → IsDueBy t start a → Does o t start a ms → Opens o a ms → IsDue o t (start_mark start a ∷ ms)
+  due_by t start a ms due d opens = record { start = start; a = a; deeds = d.deeds; is = ap (λ xs. start_mark start a ∷ xs) d.is; due = due; done = d.done; opens = subst (Opens o a) d.is opens }
 
   functions_due : (as' : List Arrival) (t : Trace) → AreDue t (functions o as' t)
   functions_due [] t = tt
@@ -75,7 +75,7 @@ module _ (o : Setting) where
     IsIgnored : (why : Why) → items ≡ (Ignores why ∷ []) ∷ [] → Becomes t a items
     IsRejected : items ≡ rejected a ∷ [] → Becomes t a items
     IsReceived : (rest : List (List Mark)) → is_immediate a.request ≡ false → is_received t a.number ≡ false → items ≡ (Admits a ∷ []) ∷ rest → AreDue ((Admits a ∷ []) ∷ t) rest → Becomes t a items
-    IsExecuted : (d : Deeds) (rest : List (List Mark)) → is_immediate a.request ≡ true → IsDone o t AtArrival a d → OpensIf a (marks_done a d) → items ≡ (Executes a ∷ marks_done a d) ∷ rest → AreDue ((Executes a ∷ marks_done a d) ∷ t) rest → Becomes t a items
+    IsExecuted : (d : Deeds) (rest : List (List Mark)) → is_immediate a.request ≡ true → IsDone o t AtArrival a d → Opens o a (marks_done a d) → items ≡ (Executes a ∷ marks_done a d) ∷ rest → AreDue ((Executes a ∷ marks_done a d) ∷ t) rest → Becomes t a items
     IsPostponed : (rest : List (List Mark)) → is_immediate a.request ≡ true → waiting_on (connection_of a.request) t < MOST_WAITING → items ≡ (Waits a ∷ []) ∷ rest → AreDue ((Waits a ∷ []) ∷ t) rest → Becomes t a items
 
   turns : (t : Trace) (item : List Mark) → AreDue (item ∷ t) (agenda o (exp_of o t) (exp_of o (item ∷ t) - exp_of o t) (item ∷ t))
@@ -86,23 +86,23 @@ module _ (o : Setting) where
     deeds : Deeds
     is : item ≡ Executes a ∷ marks_done a deeds
     done : IsDone o t AtArrival a deeds
-    opens : OpensIf a (marks_done a deeds)
+    opens : Opens o a (marks_done a deeds)
 
   data AtOnce (t : Trace) (a : Arrival) (item : List Mark) : Type 0 where
     Now : Starts t a item → AtOnce t a item
     Later : waiting_on (connection_of a.request) t < MOST_WAITING → item ≡ Waits a ∷ [] → AtOnce t a item
 
-  starts : (t : Trace) (a : Arrival) (ms : List Mark) → Does o t AtArrival a ms → OpensIf a ms → AtOnce t a (Executes a ∷ ms)
-  starts t a ms d opens = Now (record { deeds = d.deeds; is = ap (λ xs. Executes a ∷ xs) d.is; done = d.done; opens = subst (OpensIf a) d.is opens })
+  starts : (t : Trace) (a : Arrival) (ms : List Mark) → Does o t AtArrival a ms → Opens o a ms → AtOnce t a (Executes a ∷ ms)
+  starts t a ms d opens = Now (record { deeds = d.deeds; is = ap (λ xs. Executes a ∷ xs) d.is; done = d.done; opens = subst (Opens o a) d.is opens })
 
   waiting_once : (t : Trace) (a : Arrival) → AtOnce t a (waiting_item o t a)
   waiting_once t a = by_tests (nat_lt (max_of o t + 1) a.number) (nat_lt (exp_of o t) a.number) (nat_le MOST_WAITING (waiting_on (connection_of a.request) t)) refl
     where
       by_tests : (b c d : Bool) → nat_le MOST_WAITING (waiting_on (connection_of a.request) t) ≡ d
           → AtOnce t a (cond b (Executes a ∷ reply_on a (Task (itt a.request) 255)) (cond (not c) (execution o t (Executes a) a) (cond d (Executes a ∷ reply_on a (Reject 6 (header_of a.request))) (Waits a ∷ []))))
-      by_tests true c d is = starts t a _ (does_reply o t AtArrival a (Task (itt a.request) 255) refl) (opens_reply a (Task (itt a.request) 255))
+      by_tests true c d is = starts t a _ (does_reply o t AtArrival a (Task (itt a.request) 255) refl) (opens_reply o a (Task (itt a.request) 255))
       by_tests false false d is = starts t a _ (does_after o t AtArrival a) (opens_after o ((Executes a ∷ []) ∷ t) a)
-      by_tests false true true is = starts t a _ (does_reply o t AtArrival a (Reject 6 (header_of a.request)) refl) (opens_reply a (Reject 6 (header_of a.request)))
+      by_tests false true true is = starts t a _ (does_reply o t AtArrival a (Reject 6 (header_of a.request)) refl) (opens_reply o a (Reject 6 (header_of a.request)))
       by_tests false true false is = Later (⊎_elim (λ few. few) (λ many. absurd (false≢true (sym is ∙ le-leb MOST_WAITING (waiting_on (connection_of a.request) t) many))) (cases_lt (waiting_on (connection_of a.request) t) MOST_WAITING)) refl
 
   immediate_once : (t : Trace) (a : Arrival) → AtOnce t a (immediate_item o t a)

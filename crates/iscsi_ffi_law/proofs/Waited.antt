@@ -17,7 +17,7 @@ use Rattle.iscsi_outbox_law.specs.Commands.{is_under_way, link_in}
 use Rattle.iscsi_outbox_law.proofs.PairLemmas.{each-weaken}
 use Rattle.iscsi_outbox_law.proofs.PlaceLemmas.{IsPlace, conns_of, known_any, one_place}
 use Rattle.iscsi_outbox_law.proofs.Standing.{cids_are, links_apart, stands_nowhere, stands_there}
-use Rattle.iscsi_outbox_steps.specs.State.{Limits, State as OutboxState, limits_of, place_of}
+use Rattle.iscsi_outbox_steps.specs.State.{Limits, State as OutboxState, place_of}
 use Rattle.iscsi_requests.specs.Functions.{WaitingFunctions}
 use Rattle.iscsi_requests.specs.Numbers.{size_for}
 use Rattle.iscsi_requests.specs.declared.functions.WaitingFunction.{WaitingFunction}
@@ -33,7 +33,7 @@ use Rattle.iscsi_ffi_law.specs.Names.{Name, Note, place_named}
 use Rattle.iscsi_ffi_law.specs.Parts.{AreFunctions, IsNote, IsRequest}
 use Rattle.iscsi_ffi_law.specs.Uses.{count_functions, count_held, count_lists}
 use Rattle.iscsi_ffi_law.proofs.Asked.{find_nothing}
-use Rattle.iscsi_ffi_law.proofs.Between.{IsBetween, IsHeaded, distinct_same, held_same}
+use Rattle.iscsi_ffi_law.proofs.Between.{IsBetween, IsFound, IsHeaded, distinct_same, held_same}
 use Rattle.iscsi_ffi_law.proofs.Functions.{both, count_left, it_waits, left, left_are, long_left, number_found, waits_left, less_left}
 use Rattle.iscsi_ffi_law.proofs.Members.{each_in, in_counted, in_each}
 use Rattle.iscsi_ffi_law.proofs.NameLemmas.{Named, found_named, place_event}
@@ -49,36 +49,41 @@ pub record IsCid (i : Interface) (cid p : ℕ) : Type 0 where
   pub at : get_or (cids i) p 0 ≡ cid
   pub apart : (q : ℕ) → q < length (cids i) → get_or (cids i) q 0 ≡ cid → q ≡ p
 
-pub cid_known : (i : Interface) (names : List Name) (notes : List Note) (s : State) (r : Side) (own : Option ℕ) (xs : List (Option ℕ)) (k : IsBetween i names notes s r own xs) → are_distinct i.outbox.session.conns ≡ true → (cid : ℕ) → is_known cid i.outbox.session.conns ≡ true
-    → (p : ℕ) × ((place_of s.outbox cid ≡ Some p) × IsCid i cid p)
-cid_known i names notes s r own xs k distinct cid known =
-    let found = by_place (place_of s.outbox cid) refl in
-    let there : IsPlace r.both.box.links cid found.0 = stands_there (is_under_way i.outbox r.both.box.links) i.outbox s.outbox r.both.box k.outbox cid found.0 found.1 in (
-      found.0,
-      (
-        found.1,
-        record {
-          within = (let w = there.within in let l = many in omega (arith, w, l));
-          at = in_links found.0 there.within ∙ there.is;
-          apart = λ q short same. let inside : q < length r.both.box.links = (let l = many in omega (arith, short, l)) in
-              one_place r.both.box.links q found.0 (links_apart (is_under_way i.outbox r.both.box.links) i.outbox s.outbox r.both.box k.outbox distinct) inside there.within (sym (in_links q inside) ∙ same ∙ sym there.is);
-        },
-      ),
-    )
-  where
-    by_place : (x : Option ℕ) → place_of s.outbox cid ≡ x → (p : ℕ) × (place_of s.outbox cid ≡ Some p)
-    by_place (Some p) at = (p, at)
-    by_place None none =
-        absurd (false≢true (sym (stands_nowhere (is_under_way i.outbox r.both.box.links) i.outbox s.outbox r.both.box k.outbox cid none) ∙ ap (list_any (λ c. c == cid)) (k.outbox.links.conns ∙ cids_are (is_under_way i.outbox r.both.box.links) i.outbox s.outbox r.both.box k.outbox) ∙ sym (known_any cid i.outbox.session.conns) ∙ known))
+module _ (i : Interface) (names : List Name) (notes : List Note) (s : State) (r : Side) (own : Option ℕ) (xs : List (Option ℕ)) (k : IsBetween i names notes s r own xs) (distinct : are_distinct i.outbox.session.conns ≡ true) where
+  pub cids_named : conns_of r.both.box.links ≡ cids i
+  cids_named = k.outbox.links.conns ∙ ap (λ (l : Limits). l.cids) k.outbox.sizes.limits
 
-    are : conns_of r.both.box.links ≡ cids i
-    are = k.outbox.links.conns ∙ ap (λ (l : Limits). l.cids) k.outbox.sizes.limits
+  many : length r.both.box.links ≡ length (cids i)
+  many = sym (length-map r.both.box.links (λ (l : Link). l.conn)) ∙ ap length cids_named
 
-    many : length r.both.box.links ≡ length (cids i)
-    many = sym (length-map r.both.box.links (λ (l : Link). l.conn)) ∙ ap length are
+  in_links : (q : ℕ) → q < length r.both.box.links → get_or (cids i) q 0 ≡ (link_in r.both.box.links q).conn
+  in_links q inside = ap (λ cs. get_or cs q 0) (sym cids_named) ∙ get_or-map (λ (l : Link). l.conn) r.both.box.links q (new_link 0) 0 inside
 
-    in_links : (q : ℕ) → q < length r.both.box.links → get_or (cids i) q 0 ≡ (link_in r.both.box.links q).conn
-    in_links q inside = ap (λ cs. get_or cs q 0) (sym are) ∙ get_or-map (λ (l : Link). l.conn) r.both.box.links q (new_link 0) 0 inside
+  -- the connection in this place
+  pub cid_at : (p : ℕ) → p < length (cids i) → IsCid i (get_or (cids i) p 0) p
+  cid_at p short = record {
+    within = short;
+    at = refl;
+    apart = λ q lt same.
+        let here : p < length r.both.box.links = omega (arith, short, many) in
+        let there : q < length r.both.box.links = omega (arith, lt, many) in
+        one_place r.both.box.links q p (links_apart (is_under_way i.outbox r.both.box.links) i.outbox s.outbox r.both.box k.outbox distinct) there here (sym (in_links q there) ∙ same ∙ in_links p here);
+  }
+
+  pub cid_in : (cid p : ℕ) → IsCid i cid p → IsPlace r.both.box.links cid p
+  cid_in cid p c = (let inside : p < length r.both.box.links = (let lt = c.within in omega (arith, lt, many)) in record { within = inside; is = sym (in_links p inside) ∙ c.at })
+
+  pub cid_known : (cid : ℕ) → is_known cid i.outbox.session.conns ≡ true → (p : ℕ) × ((place_of s.outbox cid ≡ Some p) × IsCid i cid p)
+  cid_known cid known =
+      let found = by_place (place_of s.outbox cid) refl in
+      let there : IsPlace r.both.box.links cid found.0 = stands_there (is_under_way i.outbox r.both.box.links) i.outbox s.outbox r.both.box k.outbox cid found.0 found.1 in
+      let is : get_or (cids i) found.0 0 ≡ cid = in_links found.0 there.within ∙ there.is in
+      (found.0, (found.1, subst (λ c. IsCid i c found.0) is (cid_at found.0 (let w = there.within in omega (arith, w, many)))))
+    where
+      by_place : (x : Option ℕ) → place_of s.outbox cid ≡ x → (p : ℕ) × (place_of s.outbox cid ≡ Some p)
+      by_place (Some p) at = (p, at)
+      by_place None none =
+          absurd (false≢true (sym (stands_nowhere (is_under_way i.outbox r.both.box.links) i.outbox s.outbox r.both.box k.outbox cid none) ∙ ap (list_any (λ c. c == cid)) (k.outbox.links.conns ∙ cids_are (is_under_way i.outbox r.both.box.links) i.outbox s.outbox r.both.box k.outbox) ∙ sym (known_any cid i.outbox.session.conns) ∙ known))
 
 module _ (i : Interface) (names : List Name) (notes : List Note) (s : State) (r : Side) (xs : List (Option ℕ)) (k : IsBetween i names notes s r None xs) (distinct : are_distinct i.outbox.session.conns ≡ true) (a : Arrival) (other : (a.event == r.both.event) ≡ false) (first : is_first_waiting r.both.trace a)
     (known : is_known (connection_of a.request) i.outbox.session.conns ≡ true) (void : Option ℕ) (entering : Option RulesCommand) (reply : Option Reply) where
@@ -169,10 +174,10 @@ module _ (i : Interface) (names : List Name) (notes : List Note) (s : State) (r 
     walk = λ o limits acts early sent late. by_first early late o limits acts sent;
   }
     where
-      by_first : (early : Bool) → (early && not (a.event == r.both.event)) ≡ false → (o : OutboxState) → o.limits ≡ limits_of i.outbox → (acts : List Action) (sent : ℕ)
+      by_first : (early : Bool) → (early && not (a.event == r.both.event)) ≡ false → (o : OutboxState) → IsFound i o → (acts : List Action) (sent : ℕ)
           → on_effect early (start_effect AfterWaiting a.request) (walk_at o s acts xs None sent) ≡ walk_in o (record s { held = s.held; functions = rest }) acts xs (Some (its.request)) None (Some (reason_by a.request (Some (its.request)))) sent
       by_first true late o limits acts sent = absurd (false≢true (sym late ∙ ap not other))
       by_first false late o limits acts sent =
-          ap (λ z. function_on a.request z (walk_at o s acts xs None sent)) (ap (λ (l : Limits). position (λ (c : ℕ). c == connection_of a.request) l.cids) (limits ∙ sym k.outbox.sizes.limits) ∙ place.1.0)
+          ap (λ z. function_on a.request z (walk_at o s acts xs None sent)) (ap (λ (l : Limits). position (λ (c : ℕ). c == connection_of a.request) l.cids) (limits.limits ∙ sym k.outbox.sizes.limits) ∙ place.1.0)
           ∙ ap (λ z. executes a.request z (walking (in_state (λ t. record t { functions = rest })) (walk_at o s acts xs None sent)))
           (number_found (cids i) names notes s.functions (waiting r.both.trace) k.functions k.sizes.functions once a first place.0 place.1.1.within place.1.1.at place.1.1.apart)

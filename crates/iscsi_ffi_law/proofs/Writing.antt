@@ -1,7 +1,7 @@
 -- The oldest PDU of a connection that wasn't written is.
-use Rattle.std.proofs.Common.{◌≡◌, ℕ, zero, suc, ◌+◌, ◌<◌, ◌≤◌, ◌==◌, ◌&&◌, ⊎_elim, cond, nat_lt, Bool, true, false, List, [], ◌∷◌, ◌++◌, length, map, drop, count_by, filter, Option, Some, None, refl, ap, sym, subst, ◌∙◌, arith, lt-ltb, le-ltb, length-drop, length-set, ne_eqb}
+use Rattle.std.proofs.Common.{◌≡◌, ℕ, zero, suc, ◌+◌, ◌<◌, ◌≤◌, ◌==◌, ◌&&◌, ⊎_elim, cond, nat_lt, Bool, true, false, List, [], ◌∷◌, ◌++◌, length, drop, count_by, Option, Some, None, refl, ap, sym, subst, ◌∙◌, arith, lt-ltb, le-ltb, length-drop, length-set, ne_eqb}
 use Rattle.std.proofs.lemmas.Bool.{cond_both, eqb-true, eq-eqb, cases_eq}
-use Rattle.std.proofs.lemmas.List.{get_or-set_same, get_or-set_other}
+use Rattle.std.proofs.lemmas.List.{append-nil, get_or-set_same, get_or-set_other}
 use Rattle.iscsi_history.proofs.CountLemmas.{one, count-cons}
 use Rattle.iscsi_outbox_rules.specs.rules.Calls as outbox
 use Rattle.iscsi_outbox_rules.specs.rules.Boxes.{Box, Handed, Link}
@@ -29,7 +29,7 @@ use Rattle.iscsi_ffi_steps.specs.Steps.{Side as StepsSide, write_on}
 use Rattle.iscsi_ffi_steps.specs.Walk.{Doing, release_if}
 use Rattle.iscsi_ffi_law.specs.Alike.{GoesAlike}
 use Rattle.iscsi_ffi_law.specs.Fit.{IsFit}
-use Rattle.iscsi_ffi_law.specs.Names.{Note}
+use Rattle.iscsi_ffi_law.specs.Names.{handed_notes, note_places, waiting_notes}
 use Rattle.iscsi_ffi_law.specs.Parts.{IsAbout, IsConn, IsOneUse, noted_in}
 use Rattle.iscsi_ffi_law.specs.Stands.{Stands}
 use Rattle.iscsi_ffi_law.specs.Uses.{is_place, uses_of}
@@ -38,6 +38,7 @@ use Rattle.iscsi_ffi_law.proofs.Ends.{EndsAlike, ends_alike, moved_ends, left_fi
 use Rattle.iscsi_ffi_law.proofs.Finish.{as_many_links}
 use Rattle.iscsi_ffi_law.proofs.Lists.{lists_set}
 use Rattle.iscsi_ffi_law.proofs.Moved.{all_queued, run_same, uses_run, with_box}
+use Rattle.iscsi_ffi_law.proofs.NotePlaces.{handed_whole, waiting_whole}
 use Rattle.iscsi_ffi_law.proofs.Quiet.{IsSettledBy, SameQueue, runs_by_tasks, settled_by, settled_tasks}
 use Rattle.iscsi_ffi_law.proofs.Releasing.{ending}
 
@@ -181,16 +182,22 @@ module _ (i : Interface) (s : StepsSide) (r : Side) (h : Stands i s r) (cid : �
               (subst (λ k. PairsOf (IsAbout h.names h.notes (with_box r (after_call i.outbox r.both.box (outbox.Writes cid))) k) xs ws) (sym conn)
               (pairs-weaken (IsAbout h.names h.notes r (link_in r.both.box.links p).conn) (IsAbout h.names h.notes (with_box r (after_call i.outbox r.both.box (outbox.Writes cid))) (link_in r.both.box.links p).conn) xs ws
               (λ y z k. record { named = k.named; noted = k.noted }) written_now.1)));
-          noted =
-              ap (λ k. map (λ (n : Note). Some n.place) (filter (λ (n : Note). n.conn == k) h.notes)) conn ∙ conn_now.noted
-              ∙ ap (λ ys. noted_in ys (left_to_write (link_in r.both.box.links p)) ++ of_conn p s.state.noted.handed) waits
-              ∙ ap (λ hs. noted_in (x ∷ xs) hs ++ of_conn p s.state.noted.handed) left
-              ∙ parts (is_noted w.out.pdu)
-              ∙ ap (λ hs. cond (is_noted w.out.pdu) (x ∷ []) [] ++ (noted_in xs hs ++ of_conn p s.state.noted.handed)) (sym left')
-              ∙ ap (λ ys. cond (is_noted w.out.pdu) (x ∷ []) [] ++ (noted_in ys (left_to_write (link_in (after_call i.outbox r.both.box (outbox.Writes cid)).links p)) ++ of_conn p s.state.noted.handed)) (sym here_left);
+          noted = record {
+            gone_handed = cond (is_noted w.out.pdu) (x ∷ []) [];
+            gone_waiting = [];
+            gone_are = sym (append-nil (cond (is_noted w.out.pdu) (x ∷ []) []));
+            waiting_are = ap (λ k. note_places k (waiting_notes h.notes)) conn
+                ∙ waiting_whole h.notes (link_in r.both.box.links p).conn (of_conn p s.state.noted.handed) (noted_in (of_conn p s.state.unwritten.handed) (left_to_write (link_in r.both.box.links p))) conn_now.noted;
+            handed_are =
+                ap (λ k. note_places k (handed_notes h.notes)) conn
+                ∙ handed_whole h.notes (link_in r.both.box.links p).conn (of_conn p s.state.noted.handed) (noted_in (of_conn p s.state.unwritten.handed) (left_to_write (link_in r.both.box.links p))) conn_now.noted
+                ∙ ap (λ ys. noted_in ys (left_to_write (link_in r.both.box.links p))) waits ∙ ap (noted_in (x ∷ xs)) left ∙ parts (is_noted w.out.pdu)
+                ∙ ap (λ hs. cond (is_noted w.out.pdu) (x ∷ []) [] ++ noted_in xs hs) (sym left')
+                ∙ ap (λ ys. cond (is_noted w.out.pdu) (x ∷ []) [] ++ noted_in ys (left_to_write (link_in (after_call i.outbox r.both.box (outbox.Writes cid)).links p))) (sym here_left);
+          };
         }
       where
-        parts : (v : Bool) → cond v (x ∷ noted_in xs ws) (noted_in xs ws) ++ of_conn p s.state.noted.handed ≡ cond v (x ∷ []) [] ++ (noted_in xs ws ++ of_conn p s.state.noted.handed)
+        parts : (v : Bool) → cond v (x ∷ noted_in xs ws) (noted_in xs ws) ≡ cond v (x ∷ []) [] ++ noted_in xs ws
         parts true = refl
         parts false = refl
 

@@ -1,7 +1,6 @@
 -- What is premised of a request that is taken: of the rules' side alone.
 use Rattle.std.specs.Prelude.{◌≡◌, ◌<◌, ◌≤◌, ◌+◌, ◌-◌, ◌^◌, ◌==◌, ◌&&◌, ◌||◌, not, ℕ, Bool, true, false, count_by, length, Option, Some, None, List, [], ◌∷◌, ◌++◌}
-use Rattle.iscsi_history.specs.promises.Replies.{executed_in}
-use Rattle.std.specs.List.{filter_map, find, list_all, list_any}
+use Rattle.std.specs.List.{filter_map, find, list_any}
 use Rattle.iscsi_wire.specs.declared.reply.Reply.{Reply}
 use Rattle.iscsi_wire.specs.Fields.{cmd_sn, connection_of, request_of}
 use Rattle.iscsi_wire.specs.Serial.{wire}
@@ -9,11 +8,12 @@ use Rattle.iscsi_history.specs.declared.effect.Effect.{Effect}
 use Rattle.iscsi_history.specs.declared.event.Event.TheVariants.{Arrive}
 use Rattle.iscsi_history.specs.rules.Agenda.{arrival_of, items_of}
 use Rattle.iscsi_history.specs.rules.Execution.{exp_of}
+use Rattle.iscsi_history.specs.rules.Logout.{is_open}
 use Rattle.iscsi_history.specs.rules.Management.{MOST_WAITING, waiting_on}
 use Rattle.iscsi_history.specs.rules.Settings.{Setting}
 use Rattle.iscsi_requests.specs.Numbers.{IsInWindow, size_for}
 use Rattle.iscsi_history.specs.rules.Run.{effects_of_item, entry_of}
-use Rattle.iscsi_history.specs.rules.Trace.{Admits, Arrival, ClosesConn, ClosesSession, Command, Empties, Executes, Mark, Trace, enters, entered, first_of, has, held, is_among, is_delivered, is_emptied, leaves_ticket, live, shown, waiting}
+use Rattle.iscsi_history.specs.rules.Trace.{Admits, Arrival, Command, Empties, Executes, Mark, Trace, enters, entered, first_of, has, held, is_among, is_delivered, is_emptied, leaves_ticket, live, shown, waiting}
 use Rattle.iscsi_outbox_rules.specs.promises.Room.{Fits, places}
 use Rattle.iscsi_outbox_rules.specs.rules.Boxes.{Box, Handed, Link}
 use Rattle.iscsi_outbox_rules.specs.rules.Calls as outbox
@@ -100,11 +100,14 @@ emptying _ = None
 pub record IsStepFit (i : Interface) (r : Side) (item : List Mark) : Type 0 where
   pub fit : IsItemFit i.outbox r.both.box (effects_by i r item)
   pub sends : (conn : ℕ) (reply : Reply) → first_of (filter_map reply_sent (effects_by i r item)) ≡ Some (conn, reply) → IsSendFit i.outbox r.both.box conn
+  pub one_reply : length (filter_map reply_sent (effects_by i r item)) ≤ 1
   pub enters : (c : Command) → filter_map enters item ≡ c ∷ [] → IsFreshCommand r c
   pub waited : (a : Arrival) → first_of item ≡ Some (Executes a) → list_any (λ (b : Arrival). b.event == a.event) (waiting r.both.trace) ≡ true → ((a.event == r.both.event) ≡ false) × is_first_waiting r.both.trace a
   pub leaves : EachOf (IsLeavingFit i r item) (filter_map leaving item)
   -- the number of a request that is taken out is as it came
   pub emptied : EachOf (λ (a : Arrival). wire a.number ≡ cmd_sn a.request) (filter_map emptying item)
+  -- functions wait on open connections
+  pub waits : EachOf (λ (a : Arrival). is_open i.outbox.session r.both.trace (connection_of a.request) ≡ true) (waiting r.both.trace)
 
 -- the side behind an item
 abbrev pub side_behind : Interface → Side → List Mark → Side
@@ -151,6 +154,8 @@ pub record IsEventFit (i : Interface) (r : Side) (cid : ℕ) (header : List ℕ)
   pub stale : NoneIsFresh r.both.box
   -- it finds no more commands live, has no more items, enables no more commands, and leaves no more of them live than there are places for
   pub sent : r.both.box.sent < 2 ^ 64 - 1
+  -- there are places for the replies that wait, and for those that it sends
+  pub replies : replies_waiting r.both.box + length (filter_map reply_sent (effects_then i r cid header)) ≤ places i.outbox
   pub found : length (live r.both.trace) ≤ places i.outbox
   pub short : length (items_of i.outbox.session r.both.event r.both.trace (Arrive cid header)) ≤ places i.outbox
   pub enabled : length (filter_map ticket_enabled (effects_then i r cid header)) ≤ places i.outbox
@@ -171,23 +176,8 @@ pub record IsArrivalFit (i : Interface) (r : Side) (cid : ℕ) (header : List �
 
 -- ---- what becomes of it
 
--- nothing is closed by it, or this connection
-abbrev pub is_plain : ℕ → Mark → Bool
-is_plain cid (ClosesConn conn) = conn == cid
-is_plain cid ClosesSession = false
-is_plain cid _ = true
-
--- by an item nothing is closed but the connection on which its request came, as by a Logout of it where others are open. Commands may leave by
--- it, and requests that are held may be taken out
-abbrev pub is_plain_item : List Mark → Bool
-is_plain_item item = elim (executed_in item) [ Some a ↦ list_all (is_plain (connection_of a.request)) item | None ↦ true ]
-
-abbrev pub are_plain : List (List Mark) → Bool
-are_plain items = list_all is_plain_item items
-
--- its items are plain; those that it enables and that are withheld complete behind it, one after the other
-pub record IsPlainArrival (i : Interface) (r : Side) (cid : ℕ) (header : List ℕ) : Type 0 where
-  pub plain : are_plain (items_then i r cid header) ≡ true
+-- those that it enables and that are withheld complete behind it, one after the other
+pub record IsBehindFit (i : Interface) (r : Side) (cid : ℕ) (header : List ℕ) : Type 0 where
   pub withheld : let w = happening i r (Arrive cid header) in AreDoneFit i (length (live w.side.both.trace)) w
 
 -- the place of its request is one of those that there are

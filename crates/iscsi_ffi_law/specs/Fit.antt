@@ -1,6 +1,6 @@
 -- A premise, of the box that a call finds and of the one that it leaves: they hold together, and have room. So it is at each call of a list
 -- of which what is taken is what a session gives (`follows_sound`, `HasRoom` and `IsShort` of the outbox).
-use Rattle.std.specs.Prelude.{◌≡◌, ◌<◌, ◌-◌, ◌^◌, true, length, ℕ, ◌==◌, ◌&&◌}
+use Rattle.std.specs.Prelude.{◌≡◌, ◌<◌, ◌-◌, ◌^◌, true, length, ℕ, ◌==◌, ◌&&◌, []}
 use Rattle.iscsi_history.specs.rules.Settings.{are_distinct}
 use Rattle.iscsi_outbox_rules.specs.promises.Room.{Fits}
 use Rattle.iscsi_outbox_rules.specs.rules.Boxes.{Box, Link, Task}
@@ -27,6 +27,8 @@ pub record IsFit (i : Interface) (found left : Box) : Type 0 where
   pub some : 0 < length (cids i)
   pub sound : IsSound i.outbox found
   pub sound_after : IsSound i.outbox left
+  -- nothing waits on a connection that another one's Logout closed
+  pub emptied : EachOf (λ (l : Link). l.cut ≡ true → l.queue ≡ []) left.links
   pub fits : Fits i.outbox found
   pub time : found.time < 2 ^ 64 - 1
   pub few : AreFew found

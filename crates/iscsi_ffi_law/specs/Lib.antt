@@ -6,6 +6,6 @@ pub mod Fit
 pub mod Done
 pub mod Arrived
 pub mod Alike
-pub mod Lists
 pub mod Sides
-pub mod Left
+pub mod Lost
+pub mod Lists

@@ -12,11 +12,11 @@ use Rattle.iscsi_ffi_rules.specs.rules.Clearing.{TASK_ABORTED}
 use Rattle.iscsi_ffi_rules.specs.rules.Run.{after_call, cids, heard_in, is_going, is_lost, refusal_of}
 use Rattle.iscsi_ffi_rules.specs.rules.Sides.{Side}
 use Rattle.iscsi_ffi_steps.specs.Steps.{Side as StepsSide, after, called, ended, told}
-use Rattle.iscsi_ffi_law.specs.Alike.{GoesAlike, TellAlike, said}
-use Rattle.iscsi_ffi_law.specs.Arrived.{IsArrivalFit, IsPlaced, IsPlainArrival}
+use Rattle.iscsi_ffi_law.specs.Alike.{TellAlike, said}
+use Rattle.iscsi_ffi_law.specs.Arrived.{IsArrivalFit, IsPlaced, IsBehindFit}
 use Rattle.iscsi_ffi_law.specs.Done.{AllDone}
 use Rattle.iscsi_ffi_law.specs.Fit.{IsFit, IsOrderly}
-use Rattle.iscsi_ffi_law.specs.Stands.{Stands}
+use Rattle.iscsi_ffi_law.specs.Lost.{IsOpenLoss}
 
 -- each call answers, and tells, by the steps as by the rules
 abbrev pub AreAlike : Interface → StepsSide → Side → List Call → Type 0
@@ -24,10 +24,6 @@ AreAlike i s r [] = Unit {0}
 AreAlike i s r (c ∷ cs) =
     ((called i c s).answer ≡ said (after_call i r c).answer) × TellAlike (told (ended (called i c s).going)) (after_call i r c).told.actions
     × AreAlike i (after (ended (called i c s).going)) (after_call i r c).told.side cs
-
--- it goes alike in these states
-abbrev pub Goes : Interface → StepsSide → Side → Call → Type 0
-Goes i s r c = Stands i s r → GoesAlike i s r c
 
 -- the box that a call of the outbox leaves is fit
 abbrev pub Leaves : Interface → Side → outbox.Call → Type 0
@@ -54,17 +50,17 @@ pub record HasRoom (i : Interface) (s : StepsSide) (r : Side) : Type 0 where
   pub fit : IsFit i r.both.box r.both.box
   pub room : length s.state.commands.items + 2 * length (cids i) ≤ s.state.room
 
--- a request is taken, by whose items nothing is closed but the connection on which a Logout came; there is a place for it, one of those that there are
+-- a request is taken; there is a place for it, one of those that there are
 pub record IsArrival (i : Interface) (s : StepsSide) (r : Side) (cid : ℕ) (header : List ℕ) : Type 0 where
   pub fit : IsArrivalFit i r cid header
   pub taken : refusal_of i r cid ≡ None
   pub room : is_some (next_place s.state.cookies) ≡ true
   pub placed : (place : ℕ) → next_place s.state.cookies ≡ Some place → IsPlaced s.state place
-  pub plain : IsPlainArrival i (heard_in i r cid header) cid header
+  pub behind : IsBehindFit i (heard_in i r cid header) cid header
 
--- what is asked of each call. Of a request by which something else is closed, and of a connection that is lost and isn't closed, it is premised that they go alike
+-- what is asked of each call
 abbrev pub Meets : Interface → StepsSide → Side → Call → Type 0
-Meets i s r (Arrives cid header cookie) = (Leaves i r (outbox.Hears cid 0 0) × IsRefused i r cid) ⊎ IsArrival i s r cid header ⊎ Goes i s r (Arrives cid header cookie)
+Meets i s r (Arrives cid header cookie) = (Leaves i r (outbox.Hears cid 0 0) × IsRefused i r cid) ⊎ IsArrival i s r cid header
 Meets i s r (Completes ticket status) = (Leaves i r (outbox.Stops ticket) × (is_going r ticket ≡ false))
     ⊎ ((is_going r ticket ≡ true) × AllDone i r ticket (if contains r.marked ticket then TASK_ABORTED else status))
 Meets i s r (Stops ticket) = (Leaves i r (outbox.Stops ticket) × ((is_going r ticket && contains r.marked ticket) ≡ false))
@@ -74,7 +70,7 @@ Meets i s r (Puts p cookie) = Leaves i r (outbox.Puts p) × IsOrderly r × (is_s
 Meets i s r (Writes cid) = Leaves i r (outbox.Writes cid)
 Meets i s r (Hears cid exp_stat_sn tag) = Leaves i r (outbox.Hears cid exp_stat_sn tag)
 Meets i s r (Joins cid stat_sn) = Leaves i r (outbox.Joins cid stat_sn)
-Meets i s r (Loses cid) = (Leaves i r (outbox.Hears cid 0 0) × IsGone i r cid) ⊎ IsClosed i r cid ⊎ Goes i s r (Loses cid)
+Meets i s r (Loses cid) = (Leaves i r (outbox.Hears cid 0 0) × IsGone i r cid) ⊎ IsClosed i r cid ⊎ IsOpenLoss i r cid
 Meets i s r (Clears unit) = HasRoom i s r
 Meets i s r (Cleared unit) = Leaves i r (outbox.Clears unit)
 

@@ -1,5 +1,5 @@
 -- The parts of what the steps keep, and what they stand for in the rules.
-use Rattle.std.specs.Prelude.{◌≡◌, ◌<◌, ◌≤◌, ℕ, ◌+◌, ◌*◌, ◌==◌, ◌&&◌, ◌||◌, not, Bool, true, false, List, [], ◌∷◌, ◌++◌, length, map, filter, count_by, nat_lt, get_or, Option, Some, None, is_some, if◌then◌else◌}
+use Rattle.std.specs.Prelude.{◌≡◌, ◌<◌, ◌≤◌, ℕ, ◌+◌, ◌*◌, ◌==◌, ◌&&◌, ◌||◌, not, Bool, true, false, List, [], ◌∷◌, ◌++◌, length, filter, count_by, nat_lt, get_or, Option, Some, None, is_some, if◌then◌else◌}
 use Rattle.std.specs.List.{find, list_any}
 use Rattle.iscsi_wire.specs.Fields.{cmd_sn, connection_of}
 use Rattle.iscsi_history.specs.rules.Trace.{Arrival, Command as RulesCommand, Trace, entered, has, held, leaves_ticket, was_free}
@@ -24,7 +24,7 @@ use Rattle.iscsi_ffi_rules.specs.rules.Needs.{is_about, is_held, is_noted, is_wa
 use Rattle.iscsi_ffi_steps.specs.State.{State}
 use Rattle.iscsi_outbox_steps.specs.State.{State as OutboxState}
 use Rattle.iscsi_outbox_steps.specs.Steps.{is_running_ticket}
-use Rattle.iscsi_ffi_law.specs.Names.{Name, Note, count_words, place_named}
+use Rattle.iscsi_ffi_law.specs.Names.{Name, Note, count_words, handed_notes, note_places, place_named, waiting_notes}
 use Rattle.iscsi_ffi_law.specs.Uses.{count_functions, count_held, count_lists, is_place}
 
 -- ---- names
@@ -212,9 +212,18 @@ pub record IsQueued (names : List Name) (t : Trace) (answers : List ℕ) (undue 
 
 -- ---- a connection
 
+-- the places of its own PDUs that are of no command: those that wait, and those that were handed out and aren't written; `gone`: of those
+-- that are needed no more, which came before them
+pub record AreNotesOn (notes : List Note) (conn : ℕ) (gone waiting unwritten : List (Option ℕ)) : Type 0 where
+  pub gone_handed : List (Option ℕ)
+  pub gone_waiting : List (Option ℕ)
+  pub gone_are : gone ≡ gone_handed ++ gone_waiting
+  pub waiting_are : note_places conn (waiting_notes notes) ≡ gone_waiting ++ waiting
+  pub handed_are : note_places conn (handed_notes notes) ≡ gone_handed ++ unwritten
+
 -- the connection in this place; `gone`: the places of own PDUs of it that are needed no more
 pub record IsConn (names : List Name) (notes : List Note) (gone : List (Option ℕ)) (s : State) (r : Side) (p : ℕ) (l : Link) : Type 0 where
   pub replies : EachOf (λ (x : WaitingReply). IsAnswered names r.answers x.log_place x.request) (of_conn p s.replies.waiting)
   pub queued : IsQueued names r.both.trace r.answers r.both.box.undue (of_conn p s.replies.waiting) (length (of_conn p s.noted.handed)) l
   pub written : PairsOf (IsAbout names notes r l.conn) (of_conn p s.unwritten.handed) (left_to_write l)
-  pub noted : map (λ (n : Note). Some n.place) (filter (λ (n : Note). n.conn == l.conn) notes) ≡ gone ++ (noted_in (of_conn p s.unwritten.handed) (left_to_write l) ++ of_conn p s.noted.handed)
+  pub noted : AreNotesOn notes l.conn gone (of_conn p s.noted.handed) (noted_in (of_conn p s.unwritten.handed) (left_to_write l))

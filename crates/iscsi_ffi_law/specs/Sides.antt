@@ -1,5 +1,5 @@
 -- What holds of the rules' side, whatever calls come: where its options are valid, and the list isn't longer than words count.
-use Rattle.std.specs.Prelude.{◌≡◌, ◌<◌, ◌≤◌, ◌-◌, ◌^◌, ◌&&◌, ◌++◌, ℕ, true, false, List, [], ◌∷◌, length, None, if◌then◌else◌}
+use Rattle.std.specs.Prelude.{◌≡◌, ◌+◌, ◌<◌, ◌≤◌, ◌-◌, ◌^◌, ◌&&◌, ◌++◌, ℕ, true, false, List, [], ◌∷◌, length, None, if◌then◌else◌}
 use Rattle.std.specs.List.{filter_map}
 use Rattle.iscsi_history.specs.declared.effect.Effect.{Effect}
 use Rattle.iscsi_history.specs.declared.event.Event.TheVariants.{Arrive}
@@ -12,7 +12,7 @@ use Rattle.iscsi_outbox_rules.specs.promises.Room.{is_other, places}
 use Rattle.iscsi_outbox_rules.specs.rules.Boxes.{Box, Handed, Link}
 use Rattle.iscsi_outbox_rules.specs.rules.Calls as outbox
 use Rattle.iscsi_outbox_rules.specs.rules.Calls.{Opening}
-use Rattle.iscsi_outbox_rules.specs.rules.Items.{after_item, ticket_enabled}
+use Rattle.iscsi_outbox_rules.specs.rules.Items.{after_item, reply_sent, ticket_enabled}
 use Rattle.iscsi_outbox_rules.specs.rules.Run.{after_call as after_box_call}
 use Rattle.iscsi_outbox_rules.specs.rules.Words.{contains, replies_waiting}
 use Rattle.iscsi_outbox_law.specs.Pairs.{EachOf}
@@ -78,7 +78,9 @@ pub record IsHeardFit (i : Interface) (r : Side) (cid : ℕ) (header : List ℕ)
   pub steps : AreLeavingFit i r (items_then i r cid header) → AreStepsFit i r (items_then i r cid header)
   pub stale : NoneIsFresh r.both.box
   pub sent : r.both.box.sent < 2 ^ 64 - 1
+  -- there are places for the replies that wait, and for those that it sends
   pub replies : replies_waiting r.both.box < places i.outbox
+  pub sends : replies_waiting r.both.box + length (filter_map reply_sent (effects_then i r cid header)) ≤ places i.outbox
   pub handed : EachOf (λ (l : Link). EachOf (λ (h : Handed). IsBefore r.both.box.sent h.out.sent) l.handed) r.both.box.links
   -- it has no more items, enables no more commands, and leaves no more of them live than there are places for
   pub short : length (items_then i r cid header) ≤ places i.outbox

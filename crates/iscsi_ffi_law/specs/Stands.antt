@@ -16,7 +16,7 @@ use Rattle.iscsi_ffi_rules.specs.rules.Clearing.{next_withheld}
 use Rattle.iscsi_ffi_rules.specs.rules.Sides.{Side}
 use Rattle.iscsi_ffi_steps.specs.State.{State, actions_room}
 use Rattle.iscsi_ffi_steps.specs.Steps.{Side as StepsSide}
-use Rattle.iscsi_ffi_law.specs.Names.{Name, Note, asked_of, noted_of}
+use Rattle.iscsi_ffi_law.specs.Names.{AreNoted, Name, Note, asked_of}
 use Rattle.iscsi_ffi_law.specs.Uses.{count_lists, uses_of}
 use Rattle.iscsi_ffi_law.specs.Parts.{AreApart, AreCommands, AreCounted, AreFunctions, AreHeld, AreKept, IsBefore, IsConn, IsLiveNamed, IsNote, IsOneUse, IsRequest, IsUndue}
 
@@ -41,7 +41,7 @@ pub record AreFlags (i : Interface) (s : State) (r : Side) : Type 0 where
 -- places of own PDUs that are needed no more
 pub record AreRequests (names : List Name) (notes : List Note) (pending : ℕ → ℕ) (gone : ℕ → List (Option ℕ)) (s : State) (r : Side) : Type 0 where
   pub asked : map asked_of names ≡ r.asked
-  pub noted : map noted_of notes ≡ r.noted
+  pub noted : AreNoted notes r.noted r.handed_notes
   pub apart : AreApart names notes
   pub kept : AreKept names notes s.cookies
   pub counted : AreCounted s.cookies

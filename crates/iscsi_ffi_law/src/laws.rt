@@ -2,12 +2,13 @@
 
 ghost use Rattle.std.specs.Prelude.{◌≡◌, ◌<◌, ◌≤◌, ◌&&◌, ◌+◌, ◌*◌, ◌^◌, ℕ, List, None, Some, cond, false, is_some, length, true};
 ghost use Rattle.iscsi_ffi_law.specs.Alike.{GoesAlike};
-ghost use Rattle.iscsi_ffi_law.specs.Arrived.{IsArrivalFit, IsPlaced, IsPlainArrival};
+ghost use Rattle.iscsi_ffi_law.specs.Arrived.{IsArrivalFit, IsPlaced, IsBehindFit};
 ghost use Rattle.iscsi_ffi_law.specs.Done.{AllDone};
 ghost use Rattle.iscsi_ffi_law.specs.Fit.{IsFit, IsOrderly};
 ghost use Rattle.iscsi_history.specs.rules.Settings.{is_known};
 ghost use Rattle.iscsi_history.specs.rules.Trace.{is_closed};
 ghost use Rattle.iscsi_ffi_law.specs.Lists.{AreAlike, MeetFrom};
+ghost use Rattle.iscsi_ffi_law.specs.Lost.{IsOpenLoss};
 ghost use Rattle.iscsi_ffi_law.specs.Stands.{Stands};
 ghost use Rattle.iscsi_ffi_rules.specs.rules.Calls.{Arrives, Call, Cleared, Clears, Completes, Hears, Interface, Joins, Loses, Nexts, Puts, Stops, Writes};
 ghost use Rattle.iscsi_ffi_rules.specs.rules.Clearing.{TASK_ABORTED};
@@ -66,9 +67,12 @@ pub fn puts_law()
     ensures alike { (i : Interface) (s : StepsSide) (r : Side) → Stands i s r → (p : OwnPdu) (cookie : ℕ) → IsFit i r.both.box (after_call i.outbox r.both.box (PutsBox p)) → IsOrderly r → is_some (next_place s.state.cookies) ≡ true → GoesAlike i s r (Puts p cookie) }
 {}
 
-/// A connection is lost that the session has closed: all that is kept for it is let go. One premise more: that of the rules' side.
+/// A connection is lost. If the session has closed it, all that is kept for it is let go; one premise more: that of the rules' side. Else the session
+/// hears of a Logout too, that closes the connection: what it takes out goes as by any Logout (`arrives_law`), and its answer goes nowhere. What is
+/// premised of the rules' side then is said in `IsOpenLoss`.
 pub fn loses_law()
     ensures alike { (i : Interface) (s : StepsSide) (r : Side) → Stands i s r → (cid : ℕ) → IsFit i r.both.box (after_call i.outbox r.both.box (LosesBox cid)) → IsOrderly r → is_closed cid r.both.trace ≡ true → is_known cid i.outbox.session.conns ≡ true → is_lost r cid ≡ false → GoesAlike i s r (Loses cid) }
+    ensures unclosed { (i : Interface) (s : StepsSide) (r : Side) → Stands i s r → (cid : ℕ) → IsOpenLoss i r cid → GoesAlike i s r (Loses cid) }
 {}
 
 /// Another session's reset: the commands of the unit are marked, and those that were told to start are told to stop. One premise more: room to
@@ -85,21 +89,19 @@ pub fn done_law()
     ensures stops { (i : Interface) (s : StepsSide) (r : Side) → Stands i s r → (ticket : ℕ) → (is_going r ticket && contains r.marked ticket) ≡ true → AllDone i r ticket TASK_ABORTED → GoesAlike i s r (Stops ticket) }
 {}
 
-/// A request is taken, by whose items nothing is closed but the connection on which a Logout came, and not the session: it is passed over, rejected,
-/// held, waits as a function, or executes, and the held requests whose turn comes by it, and the functions that waited for that, execute one after
-/// the other. Each of them is answered at once, or not at all, or enters as a command, or commands leave by it: those that were told to start are
-/// told to stop. Or a request that is held is taken out by it, and is over. By a Logout all commands of its connection leave, and what is held and
-/// waits there is over. What is enabled then, and is live still, starts, or is withheld, and those that are complete behind it, one after the other.
-/// What is premised of the rules' side is said in `IsArrivalFit` and `IsPlainArrival`; two premises more: a place for a word, which is one of those
-/// that there are.
+/// A request is taken: it is passed over, rejected, held, waits as a function, or executes, and the held requests whose turn comes by it, and the
+/// functions that waited for that, execute one after the other. Each of them is answered at once, or not at all, or enters as a command, or commands
+/// leave by it: those that were told to start are told to stop. Or a request that is held is taken out by it, and is over. By a Logout that closes a
+/// connection, or the session, all commands leave that came there, what is held and waits there is over, and so are the replies and own PDUs that
+/// wait on another connection than its own. What is enabled then, and is live still, starts, or is withheld, and those that are complete behind it,
+/// one after the other. What is premised of the rules' side is said in `IsArrivalFit` and `IsBehindFit`; two premises more: a place for a word, which
+/// is one of those that there are.
 pub fn arrives_law()
-    ensures alike { (i : Interface) (s : StepsSide) (r : Side) → Stands i s r → (cid : ℕ) (header : List ℕ) (cookie : ℕ) → IsArrivalFit i r cid header → refusal_of i r cid ≡ None → is_some (next_place s.state.cookies) ≡ true → ((place : ℕ) → next_place s.state.cookies ≡ Some place → IsPlaced s.state place) → IsPlainArrival i (heard_in i r cid header) cid header → GoesAlike i s r (Arrives cid header cookie) }
+    ensures alike { (i : Interface) (s : StepsSide) (r : Side) → Stands i s r → (cid : ℕ) (header : List ℕ) (cookie : ℕ) → IsArrivalFit i r cid header → refusal_of i r cid ≡ None → is_some (next_place s.state.cookies) ≡ true → ((place : ℕ) → next_place s.state.cookies ≡ Some place → IsPlaced s.state place) → IsBehindFit i (heard_in i r cid header) cid header → GoesAlike i s r (Arrives cid header cookie) }
 {}
 
 /// A list of calls: each is answered by the steps as by the rules, and tells the same in the same order, but for what is forgotten, which is
-/// the same in any order. What is asked of each call is said in `Meets`. It is still a premise there that two kinds of calls by which the session
-/// takes an event go alike: a request by whose items the session is closed, or a connection on which its Logout didn't come, and the loss of a
-/// connection that isn't closed.
+/// the same in any order. What is asked of each call is said in `Meets`.
 pub fn lists_law()
     ensures alike { (i : Interface) (calls : List Call) → MeetFrom i (begun i) (opened i) calls → AreAlike i (begun i) (opened i) calls }
 {}

@@ -1,7 +1,6 @@
 //! What holds of the rules' side, and of that of the steps, whatever calls come: laws of the definitions, which no code is needed for.
 
 ghost use Rattle.std.specs.Prelude.{List};
-ghost use Rattle.iscsi_ffi_law.specs.Left.{LeftFrom};
 ghost use Rattle.iscsi_ffi_law.specs.Lists.{AreAlike};
 ghost use Rattle.iscsi_ffi_law.specs.Sides.{AreFitFrom, IsOfBytes, IsOpening, IsShort};
 ghost use Rattle.iscsi_ffi_rules.specs.rules.Calls.{Call, Interface};
@@ -18,7 +17,7 @@ pub fn fits_law()
 
 /// A list of calls: each is answered by the steps as by the rules, and tells the same in the same order (`lists_law`), where the options are within
 /// their limits and the list isn't too long. All else that the laws of the calls premise follows, of the rules' side (`fits_law`) and of that
-/// of the steps: a place for each request, no more uses than are counted, room to tell. What is left as a premise is said in `Left`.
+/// of the steps: a place for each request, no more uses than are counted, room to tell.
 pub fn alike_law()
-    ensures alike { (i : Interface) (calls : List Call) → IsOpening i → IsShort i calls → EachOf IsOfBytes calls → LeftFrom i (begun i) (opened i) calls → AreAlike i (begun i) (opened i) calls }
+    ensures alike { (i : Interface) (calls : List Call) → IsOpening i → IsShort i calls → EachOf IsOfBytes calls → AreAlike i (begun i) (opened i) calls }
 {}

@@ -336,7 +336,7 @@ module _ (i : Interface) where
     event = λ s acts e h. record { follows = follows_event o s.both e h.follows; core = core_event o s.both.event s.both.trace e s.both.box s.answers (follows_forms o.session s.both h.follows) h.core };
     by_other = λ s acts c is h. sound_other s c is h;
     clearing = λ s acts unit h. sound_same s _ refl refl h;
-    beside = λ s acts asked noted awake over h. sound_same s (record s { asked = asked; noted = noted; awake = awake; over = over }) refl refl h;
+    beside = λ s acts asked noted handed awake over h. sound_same s (record s { asked = asked; noted = noted; handed_notes = handed; awake = awake; over = over }) refl refl h;
     aside = λ s acts more each h. h;
   }
 
@@ -351,9 +351,9 @@ module _ (i : Interface) where
     );
     by_other = λ s acts c is h. (sound_other s c is h.0, free_other v s c is h.0 h.1);
     clearing = λ s acts unit h. (sound_same s _ refl refl h.0, free_same v s _ refl refl h.1);
-    beside = λ s acts asked noted awake over h. (
-      sound_same s (record s { asked = asked; noted = noted; awake = awake; over = over }) refl refl h.0,
-      free_same v s (record s { asked = asked; noted = noted; awake = awake; over = over }) refl refl h.1,
+    beside = λ s acts asked noted handed awake over h. (
+      sound_same s (record s { asked = asked; noted = noted; handed_notes = handed; awake = awake; over = over }) refl refl h.0,
+      free_same v s (record s { asked = asked; noted = noted; handed_notes = handed; awake = awake; over = over }) refl refl h.1,
     );
     aside = λ s acts more each h. h;
   }
@@ -363,7 +363,7 @@ module _ (i : Interface) where
     event = λ s acts e h. (let z : v < s.both.event + 1 = omega (arith, h) in z);
     by_other = λ s acts c is h. h;
     clearing = λ s acts unit h. h;
-    beside = λ s acts asked noted awake over h. h;
+    beside = λ s acts asked noted handed awake over h. h;
     aside = λ s acts more each h. h;
   }
 
@@ -374,6 +374,7 @@ module _ (i : Interface) where
     clearing = λ s acts unit h. h;
     arrives = λ s acts new h. list_any-append (λ (a : Asked). a.event == v) s.asked (new ∷ []) ∙ or_first (is_asked s.asked v) (is_asked (new ∷ []) v) h;
     notes = λ s acts more h. h;
+    hands = λ s acts conn h. h;
     sleeps = λ s acts conn h. h;
   }
 

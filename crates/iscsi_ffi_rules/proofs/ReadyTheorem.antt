@@ -30,10 +30,10 @@ use Rattle.iscsi_ffi_rules.specs.declared.refusal.Refusal.{Refusal}
 use Rattle.iscsi_ffi_rules.specs.declared.refusal.Refusal.TheVariants.{UnknownConnection, NotJoined}
 use Rattle.iscsi_ffi_rules.specs.rules.Calls.{Interface, Call, Arrives, Completes, Stops, Nexts, Puts, Writes, Hears, Joins, Loses, Clears, Cleared}
 use Rattle.iscsi_ffi_rules.specs.rules.Sides.{Asked, Noted, Side, opened}
-use Rattle.iscsi_ffi_rules.specs.rules.Needs.{is_needed}
+use Rattle.iscsi_ffi_rules.specs.rules.Needs.{first_noted, is_needed, is_noted, without_first}
 use Rattle.iscsi_ffi_rules.specs.rules.Clearing.{TASK_ABORTED, next_withheld, status_of}
 use Rattle.iscsi_ffi_rules.specs.rules.Happening.{Told, stop, stops_in, resets_in, is_complete, is_reset, reset, reason_of, is_started, leaving, starting, start, stepped, happening, withholding, happens, other, quiet}
-use Rattle.iscsi_ffi_rules.specs.rules.Run.{Blocked, NoneGoes, NoneIsLeft, Goes, Refused, Stale, Answered, done, answers, refusal_of, heard_in, arrive, is_going, stopped, complete, stops, clear, parting, is_lost, lose, cookie_handed, is_blocked, asleep, next, noted_with, put, gives, cids, newly_ready, newly_over, parted, forgets, ended, called, after_call}
+use Rattle.iscsi_ffi_rules.specs.rules.Run.{Blocked, NoneGoes, NoneIsLeft, Goes, Refused, Stale, Answered, done, answers, refusal_of, heard_in, arrive, is_going, stopped, complete, stops, clear, parting, is_lost, lose, cookie_handed, handed_on, is_blocked, asleep, next, noted_with, put, gives, cids, newly_ready, newly_over, parted_handed, parted_waiting, forgets, ended, called, after_call}
 use Rattle.iscsi_ffi_rules.specs.promises.Deeds.{Deed, deeds_from, side_after}
 use Rattle.iscsi_ffi_rules.specs.promises.Ready.{is_ready, is_in_vain, is_awake_from, ReadyHolds}
 use Rattle.iscsi_ffi_rules.proofs.NeedForms.{both_none}
@@ -128,11 +128,14 @@ module _ (i : Interface) where
     awake_next s c = cond_both (is_blocked i s c) (answers s Blocked) _ (Awake s (Nexts c)) (λ is. by_staying s s refl) (λ is. by_given (given i.outbox s.both.box c))
       where
         by_given : (g : Given) → Awake s (Nexts c) (elim g [
-          | Hands h ↦ record { told = quiet (other i s (outbox.Nexts c)); answer = Goes h (cookie_handed s c h.out) }
+          | Hands h ↦ record { told = quiet (handed_on c h.out (other i s (outbox.Nexts c))); answer = Goes h (cookie_handed s c h.out) }
           | Nothing ↦ answers (asleep c s) NoneGoes
           | IsOver ↦ answers (asleep c s) NoneIsLeft
         ])
-        by_given (Hands h) = by_staying s s refl
+        by_given (Hands h) =
+            let s' : Side = other i s (outbox.Nexts c) in
+            by_staying s (handed_on c h.out s')
+            (cond_both (is_noted h.out.pdu) (record s' { noted = without_first c 1 s'.noted; handed_notes = s'.handed_notes ++ first_noted c 1 s'.noted }) s' (λ (x : Side). x.awake ≡ s.awake) (λ is. refl) (λ is. refl))
         by_given Nothing = by_sleeping s c
         by_given IsOver = by_sleeping s c
 
@@ -195,6 +198,7 @@ module _ (i : Interface) where
           both_none (is_ready conn) acts (map (stop s ClearedReason) (filter (is_started s) (left_to_clear s unit))) h (none_of_map (stop s ClearedReason) (filter (is_started s) (left_to_clear s unit)) (λ c. refl));
       arrives = λ s acts new h. h;
       notes = λ s acts more h. h;
+      hands = λ s acts c h. h;
       sleeps = λ s acts c h. h;
     }
 
@@ -203,9 +207,9 @@ module _ (i : Interface) where
         let ready : List Action = map (λ c. Ready c) (newly_ready i w.side) in
         let over : List Action = map (λ c. Close c) (newly_over i w.side) in
         let gone : list_any (is_ready conn) (forgets w.side) ≡ false
-        = both_none (is_ready conn) (map (λ (a : Asked). Forget a.cookie) (filter (λ (a : Asked). not (is_needed w.side a)) w.side.asked)) (map (λ (n : Noted). Forget n.cookie) (parted w.side.both.box.links w.side.noted).needless)
+        = both_none (is_ready conn) (map (λ (a : Asked). Forget a.cookie) (filter (λ (a : Asked). not (is_needed w.side a)) w.side.asked)) (map (λ (n : Noted). Forget n.cookie) ((parted_waiting w.side).needless ++ (parted_handed w.side).needless))
         (none_of_map (λ (a : Asked). Forget a.cookie) (filter (λ (a : Asked). not (is_needed w.side a)) w.side.asked) (λ a. refl))
-        (none_of_map (λ (n : Noted). Forget n.cookie) (parted w.side.both.box.links w.side.noted).needless (λ n. refl)) in
+        (none_of_map (λ (n : Noted). Forget n.cookie) ((parted_waiting w.side).needless ++ (parted_handed w.side).needless) (λ n. refl)) in
         list_any-append (is_ready conn) (w.actions ++ ready ++ over) (forgets w.side)
         ∙ ap (λ b. list_any (is_ready conn) (w.actions ++ ready ++ over) || b) gone ∙ or_comm (list_any (is_ready conn) (w.actions ++ ready ++ over)) false
         ∙ list_any-append (is_ready conn) (w.actions ++ ready) over

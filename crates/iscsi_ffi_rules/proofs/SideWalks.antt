@@ -21,10 +21,10 @@ use Rattle.iscsi_ffi_rules.specs.declared.refusal.Refusal.{Refusal}
 use Rattle.iscsi_ffi_rules.specs.declared.refusal.Refusal.TheVariants.{UnknownConnection, NotJoined}
 use Rattle.iscsi_ffi_rules.specs.rules.Calls.{Interface, Call, Arrives, Completes, Stops, Nexts, Puts, Writes, Hears, Joins, Loses, Clears, Cleared}
 use Rattle.iscsi_ffi_rules.specs.rules.Sides.{Asked, Noted, Side, opened}
-use Rattle.iscsi_ffi_rules.specs.rules.Needs.{is_needed}
+use Rattle.iscsi_ffi_rules.specs.rules.Needs.{first_noted, is_needed, is_noted, without_first}
 use Rattle.iscsi_ffi_rules.specs.rules.Clearing.{TASK_ABORTED, is_marked, next_withheld, status_of}
 use Rattle.iscsi_ffi_rules.specs.rules.Happening.{Told, is_started, happening, withholding, withheld, happens, stop, other, quiet}
-use Rattle.iscsi_ffi_rules.specs.rules.Run.{Blocked, NoneGoes, NoneIsLeft, Goes, Refused, Stale, Answered, done, answers, refusal_of, word_at, tag_heard, heard_in, arrive, is_going, stopped, complete, stops, clear, parting, is_lost, lose, cookie_handed, is_blocked, asleep, next, noted_with, put, newly_ready, newly_over, parted, forgets, ended, called, after_call}
+use Rattle.iscsi_ffi_rules.specs.rules.Run.{Blocked, NoneGoes, NoneIsLeft, Goes, Refused, Stale, Answered, done, answers, refusal_of, word_at, tag_heard, heard_in, arrive, is_going, stopped, complete, stops, clear, parting, is_lost, lose, cookie_handed, handed_on, is_blocked, asleep, next, noted_with, put, newly_ready, newly_over, parted_handed, parted_waiting, forgets, ended, called, after_call}
 use Rattle.iscsi_ffi_rules.specs.promises.Deeds.{deeds_from, deeds_of, told_in, side_after, side_of}
 
 -- it is no word to a unit
@@ -47,6 +47,7 @@ pub record InCall (i : Interface) (P : Side → List Action → Type 0) : Type 0
       → P (record s { marked = s.marked ++ map (λ (c : Command). c.ticket) (left_to_clear s unit) }) (acts ++ map (stop s ClearedReason) (filter (is_started s) (left_to_clear s unit)))
   pub arrives : (s : Side) (acts : List Action) (new : Asked) → P s acts → P (record s { asked = s.asked ++ new ∷ [] }) acts
   pub notes : (s : Side) (acts : List Action) (more : List Noted) → P s acts → P (record s { noted = s.noted ++ more }) acts
+  pub hands : (s : Side) (acts : List Action) (conn : ℕ) → P s acts → P (record s { noted = without_first conn 1 s.noted; handed_notes = s.handed_notes ++ first_noted conn 1 s.noted }) acts
   pub sleeps : (s : Side) (acts : List Action) (conn : ℕ) → P s acts → P (asleep conn s) acts
 
 -- and to its end
@@ -55,7 +56,7 @@ pub record Kept (i : Interface) (P : Side → List Action → Type 0) : Type 0 w
   pub by_other : (s : Side) (acts : List Action) (c : outbox.Call) → is_other c ≡ true → P s acts → P (other i s c) acts
   pub clearing : (s : Side) (acts : List Action) (unit : ℕ) → P s acts
       → P (record s { marked = s.marked ++ map (λ (c : Command). c.ticket) (left_to_clear s unit) }) (acts ++ map (stop s ClearedReason) (filter (is_started s) (left_to_clear s unit)))
-  pub beside : (s : Side) (acts : List Action) (asked : List Asked) (noted : List Noted) (awake over : List ℕ) → P s acts → P (record s { asked = asked; noted = noted; awake = awake; over = over }) acts
+  pub beside : (s : Side) (acts : List Action) (asked : List Asked) (noted handed : List Noted) (awake over : List ℕ) → P s acts → P (record s { asked = asked; noted = noted; handed_notes = handed; awake = awake; over = over }) acts
   pub aside : (s : Side) (acts more : List Action) → EachOf (λ a. is_aside a ≡ true) more → P s acts → P s (acts ++ more)
 
 pub in_call : (i : Interface) (P : Side → List Action → Type 0) → Kept i P → InCall i P
@@ -63,9 +64,10 @@ in_call i P k = record {
   event = k.event;
   by_other = k.by_other;
   clearing = k.clearing;
-  arrives = λ s acts new h. k.beside s acts (s.asked ++ new ∷ []) s.noted s.awake s.over h;
-  notes = λ s acts more h. k.beside s acts s.asked (s.noted ++ more) s.awake s.over h;
-  sleeps = λ s acts conn h. k.beside s acts s.asked s.noted (asleep conn s).awake s.over h;
+  arrives = λ s acts new h. k.beside s acts (s.asked ++ new ∷ []) s.noted s.handed_notes s.awake s.over h;
+  notes = λ s acts more h. k.beside s acts s.asked (s.noted ++ more) s.handed_notes s.awake s.over h;
+  hands = λ s acts conn h. k.beside s acts s.asked (without_first conn 1 s.noted) (s.handed_notes ++ first_noted conn 1 s.noted) s.awake s.over h;
+  sleeps = λ s acts conn h. k.beside s acts s.asked s.noted s.handed_notes (asleep conn s).awake s.over h;
 }
 
 module _ (i : Interface) (P : Side → List Action → Type 0) (k : InCall i P) where
@@ -156,11 +158,15 @@ module _ (i : Interface) (P : Side → List Action → Type 0) (k : InCall i P) 
       (λ is. on_quiet acts s h) (λ is. by_given (given i.outbox s.both.box conn))
     where
       by_given : (g : Given) → let a : Answered = elim g [
-        | Hands h ↦ record { told = quiet (other i s (outbox.Nexts conn)); answer = Goes h (cookie_handed s conn h.out) }
+        | Hands h ↦ record { told = quiet (handed_on conn h.out (other i s (outbox.Nexts conn))); answer = Goes h (cookie_handed s conn h.out) }
         | Nothing ↦ answers (asleep conn s) NoneGoes
         | IsOver ↦ answers (asleep conn s) NoneIsLeft
       ] in On acts a.told
-      by_given (Hands g) = on_other acts s (outbox.Nexts conn) refl h
+      by_given (Hands g) =
+          let s' : Side = other i s (outbox.Nexts conn) in
+          on_quiet acts (handed_on conn g.out s')
+          (cond_both (is_noted g.out.pdu) (record s' { noted = without_first conn 1 s'.noted; handed_notes = s'.handed_notes ++ first_noted conn 1 s'.noted }) s' (λ (x : Side). P x acts)
+          (λ is. k.hands s' acts conn (k.by_other s acts (outbox.Nexts conn) refl h)) (λ is. k.by_other s acts (outbox.Nexts conn) refl h))
       by_given Nothing = on_quiet acts (asleep conn s) (k.sleeps s acts conn h)
       by_given IsOver = on_quiet acts (asleep conn s) (k.sleeps s acts conn h)
 
@@ -198,12 +204,12 @@ module _ (i : Interface) (P : Side → List Action → Type 0) (k : Kept i P) wh
       let over : List Action = map (λ conn. Close conn) (newly_over i s) in
       let s' : Side = (ended i w).side in
       let asides : (a : Action) → Type 0 = λ a. is_aside a ≡ true in
-      let beside : P s' (acts ++ w.actions) = k.beside s (acts ++ w.actions) s'.asked s'.noted s'.awake s'.over h in
+      let beside : P s' (acts ++ w.actions) = k.beside s (acts ++ w.actions) s'.asked s'.noted s'.handed_notes s'.awake s'.over h in
       subst (P s') (append_assoc acts (w.actions ++ ready ++ over) (forgets s))
       (k.aside s' (acts ++ (w.actions ++ ready ++ over)) (forgets s)
       (each-append asides (map (λ (a : Asked). Forget a.cookie) (filter (λ (a : Asked). not (is_needed s a)) s.asked)) _
       (all_aside (λ (a : Asked). Forget a.cookie) (filter (λ (a : Asked). not (is_needed s a)) s.asked) (λ a. refl))
-      (all_aside (λ (n : Noted). Forget n.cookie) (parted s.both.box.links s.noted).needless (λ n. refl)))
+      (all_aside (λ (n : Noted). Forget n.cookie) ((parted_waiting s).needless ++ (parted_handed s).needless) (λ n. refl)))
       (subst (P s') (append_assoc acts (w.actions ++ ready) over)
       (k.aside s' (acts ++ (w.actions ++ ready)) over (all_aside (λ conn. Close conn) (newly_over i s) (λ conn. refl))
       (subst (P s') (append_assoc acts w.actions ready)

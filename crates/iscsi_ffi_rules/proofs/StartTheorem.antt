@@ -524,7 +524,7 @@ module _ (i : Interface) where
     event = by_event;
     by_other = λ s acts c is h. record { follows = record { events = h.follows.events; at = h.follows.at; is = h.follows.is }; starts = h.starts; told = h.told; stops = h.stops; order = h.order };
     clearing = by_clearing;
-    beside = λ s acts asked noted awake over h. record { follows = h.follows; starts = h.starts; told = h.told; stops = h.stops; order = h.order };
+    beside = λ s acts asked noted handed awake over h. record { follows = h.follows; starts = h.starts; told = h.told; stops = h.stops; order = h.order };
     aside = by_aside;
   }
 

@@ -1,5 +1,5 @@
 -- A word that was given once is named no more once it was to be forgotten.
-use Rattle.std.proofs.Common.{◌≡◌, ℕ, zero, suc, ◌+◌, ◌-◌, ◌≤◌, ◌==◌, ◌&&◌, ◌||◌, not, cond, Bool, true, false, List, [], ◌∷◌, ◌++◌, map, filter, filter_map, find, count_by, length, Option, Some, None, refl, ap, sym, subst, ◌∙◌, arith, eq-eqb}
+use Rattle.std.proofs.Common.{◌≡◌, ℕ, ◌+◌, ◌≤◌, ◌==◌, ◌&&◌, ◌||◌, not, cond, Bool, true, false, List, [], ◌∷◌, ◌++◌, map, filter, filter_map, find, count_by, Option, Some, None, refl, ap, sym, subst, ◌∙◌, arith, eq-eqb}
 use Rattle.std.specs.List.{list_any, flat_map}
 use Rattle.std.proofs.lemmas.Bool.{false≢true, cond_both}
 use Rattle.std.proofs.lemmas.Bool.Decides.{nat_tests}
@@ -29,15 +29,15 @@ use Rattle.iscsi_ffi_rules.specs.declared.refusal.Refusal.{Refusal}
 use Rattle.iscsi_ffi_rules.specs.declared.refusal.Refusal.TheVariants.{UnknownConnection, NotJoined}
 use Rattle.iscsi_ffi_rules.specs.rules.Calls.{Interface, Call, Arrives, Completes, Stops, Nexts, Puts, Writes, Hears, Joins, Loses, Clears, Cleared}
 use Rattle.iscsi_ffi_rules.specs.rules.Sides.{Asked, Noted, Side, cookie_of, opened}
-use Rattle.iscsi_ffi_rules.specs.rules.Needs.{is_needed, is_noted, noted_on}
+use Rattle.iscsi_ffi_rules.specs.rules.Needs.{is_needed, is_noted}
 use Rattle.iscsi_ffi_rules.specs.rules.Clearing.{TASK_ABORTED}
 use Rattle.iscsi_ffi_rules.specs.rules.Happening.{Told, stop, stops_in, resets_in, is_complete, is_reset, reset, reason_of, is_started, leaving, starting, start, stepped, happens, other, quiet}
-use Rattle.iscsi_ffi_rules.specs.rules.Run.{Answer, Blocked, NoneGoes, NoneIsLeft, Goes, Refused, Stale, Taken, Put, Joined, Answered, done, answers, refusal_of, heard_in, is_going, stopped, parting, is_lost, cookie_of_ticket, noted_waiting, cookie_noted, cookie_handed, is_blocked, asleep, newly_ready, newly_over, parted, forgets, ended, called, after_call}
+use Rattle.iscsi_ffi_rules.specs.rules.Run.{Answer, Blocked, NoneGoes, NoneIsLeft, Goes, Refused, Stale, Taken, Put, Joined, Answered, done, answers, refusal_of, heard_in, is_going, stopped, parting, is_lost, cookie_of_ticket, cookie_noted, cookie_handed, handed_on, is_blocked, asleep, newly_ready, newly_over, parted_handed, parted_waiting, forgets, ended, called, after_call}
 use Rattle.iscsi_ffi_rules.specs.promises.Deeds.{Deed, deeds_from}
 use Rattle.iscsi_ffi_rules.specs.promises.Words.{gives_word, is_forget, count_kept, Mention, Names, Forgets, mentions_of, mentions_in, mentions, is_named, ForgottenLast}
-use Rattle.iscsi_ffi_rules.proofs.NeedForms.{none_filtered, both_none, counted_none}
+use Rattle.iscsi_ffi_rules.proofs.NeedForms.{both_none, counted_none}
 use Rattle.iscsi_ffi_rules.proofs.SideWalks.{left_to_clear, InCall, on_called}
-use Rattle.iscsi_ffi_rules.proofs.WordTheorem.{Calm, calm_called, ended_counted}
+use Rattle.iscsi_ffi_rules.proofs.WordTheorem.{Calm, calm_called, ended_counted, handed_counted}
 
 some_counted : {A : Type 0} (p : A → Bool) (xs : List A) → list_any p xs ≡ true → 1 ≤ count_by p xs
 some_counted p [] h = absurd (false≢true h)
@@ -129,6 +129,7 @@ module _ (word : ℕ) (some : (word == 0) ≡ false) where
         both_none names acts (map (stop s ClearedReason) (filter (is_started s) (left_to_clear s unit))) (h none) (unnamed_stops s (unkept s none) ClearedReason (filter (is_started s) (left_to_clear s unit)));
     arrives = λ s acts new h none. h (omega (arith, none, sum_by-append (λ (a : Asked). cond (a.cookie == word) 1 0) s.asked (new ∷ [])));
     notes = λ s acts more h none. h (omega (arith, none, sum_by-append (λ (n : Noted). cond (n.cookie == word) 1 0) s.noted more));
+    hands = λ s acts conn h none. h (omega (arith, none, handed_counted word conn s));
     sleeps = λ s acts conn h. h;
   }
 
@@ -147,10 +148,14 @@ module _ (word : ℕ) (some : (word == 0) ≡ false) where
   abbrev is_word : Option ℕ → Bool
   is_word x = elim x [ Some cookie ↦ (cookie == word) | None ↦ false ]
 
-  other_noted : (place : ℕ) (noted : List Noted) → list_any (λ (n : Noted). n.cookie == word) noted ≡ false → is_word (elim (nth place noted) [ Some n ↦ Some n.cookie | None ↦ None ]) ≡ false
-  other_noted place [] h = refl
-  other_noted zero (n ∷ noted) h = (or_none (n.cookie == word) (list_any (λ (m : Noted). m.cookie == word) noted) h).0
-  other_noted (suc place) (n ∷ noted) h = other_noted place noted (or_none (n.cookie == word) (list_any (λ (m : Noted). m.cookie == word) noted) h).1
+  other_noted : (conn : ℕ) (noted : List Noted) → list_any (λ (n : Noted). n.cookie == word) noted ≡ false → is_word (elim (find (λ (n : Noted). n.conn == conn) noted) [ Some n ↦ Some n.cookie | None ↦ None ]) ≡ false
+  other_noted conn [] h = refl
+  other_noted conn (n ∷ noted) h =
+      let parts = or_none (n.cookie == word) (list_any (λ (m : Noted). m.cookie == word) noted) h in
+      elim (n.conn == conn) as (λ b. is_word (elim (cond b (Some n) (find (λ (m : Noted). m.conn == conn) noted)) [ Some m ↦ Some m.cookie | None ↦ None ]) ≡ false) [
+        | true ↦ parts.0
+        | false ↦ other_noted conn noted parts.1
+      ]
 
   other_handed : (s : Side) (conn : ℕ) (out : Outgoing) → Unkept s → is_word (cookie_handed s conn out) ≡ false
   other_handed s conn out u = by_sent out.sent
@@ -164,7 +169,7 @@ module _ (word : ℕ) (some : (word == 0) ≡ false) where
       by_command (Some c) = other_cookie s.asked c.arrival.event u.asked
 
       own : is_word (cookie_noted s conn) ≡ false
-      own = let noted : List Noted = noted_on conn s.noted in other_noted (length noted - noted_waiting s conn) noted (none_filtered (λ (n : Noted). n.cookie == word) (λ (n : Noted). n.conn == conn) s.noted u.noted)
+      own = other_noted conn s.noted u.noted
 
       by_ticket : (x : Option ℕ) → is_word (elim x [ Some ticket ↦ cookie_of_ticket s ticket | None ↦ (cond (is_noted out.pdu) (cookie_noted s conn) None) ]) ≡ false
       by_ticket (Some ticket) = by_command (find (λ (c : Command). c.ticket == ticket) (entered s.both.trace))
@@ -199,7 +204,7 @@ module _ (word : ℕ) (some : (word == 0) ≡ false) where
       cond_both (is_blocked i s conn) (answers s Blocked) _ (λ (a : Answered). Silent a.answer) (λ is. refl) (λ is. by_given (given i.outbox s.both.box conn))
     where
       by_given : (g : Given) → let a : Answered = elim g [
-        | Hands h ↦ record { told = quiet (other i s (outbox.Nexts conn)); answer = Goes h (cookie_handed s conn h.out) }
+        | Hands h ↦ record { told = quiet (handed_on conn h.out (other i s (outbox.Nexts conn))); answer = Goes h (cookie_handed s conn h.out) }
         | Nothing ↦ answers (asleep conn s) NoneGoes
         | IsOver ↦ answers (asleep conn s) NoneIsLeft
       ] in Silent a.answer
@@ -291,9 +296,9 @@ module _ (word : ℕ) (some : (word == 0) ≡ false) where
 
     unnamed_forgets : (s : Side) → list_any names (forgets s) ≡ false
     unnamed_forgets s =
-        both_none names (map (λ (a : Asked). Forget a.cookie) (filter (λ (a : Asked). not (is_needed s a)) s.asked)) (map (λ (n : Noted). Forget n.cookie) (parted s.both.box.links s.noted).needless)
+        both_none names (map (λ (a : Asked). Forget a.cookie) (filter (λ (a : Asked). not (is_needed s a)) s.asked)) (map (λ (n : Noted). Forget n.cookie) ((parted_waiting s).needless ++ (parted_handed s).needless))
         (unnamed_map (λ (a : Asked). Forget a.cookie) (filter (λ (a : Asked). not (is_needed s a)) s.asked) (λ a. refl))
-        (unnamed_map (λ (n : Noted). Forget n.cookie) (parted s.both.box.links s.noted).needless (λ n. refl))
+        (unnamed_map (λ (n : Noted). Forget n.cookie) ((parted_waiting s).needless ++ (parted_handed s).needless) (λ n. refl))
 
     unnamed_words : (w : Told) → list_any names w.actions ≡ false → list_any names (words w) ≡ false
     unnamed_words w h =

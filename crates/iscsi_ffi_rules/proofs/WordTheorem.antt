@@ -29,10 +29,10 @@ use Rattle.iscsi_ffi_rules.specs.declared.refusal.Refusal.{Refusal}
 use Rattle.iscsi_ffi_rules.specs.declared.refusal.Refusal.TheVariants.{UnknownConnection, NotJoined}
 use Rattle.iscsi_ffi_rules.specs.rules.Calls.{Interface, Call, Arrives, Completes, Stops, Nexts, Puts, Writes, Hears, Joins, Loses, Clears, Cleared}
 use Rattle.iscsi_ffi_rules.specs.rules.Sides.{Asked, Noted, Side, opened}
-use Rattle.iscsi_ffi_rules.specs.rules.Needs.{is_needed, needless_on, first_noted, without_first}
+use Rattle.iscsi_ffi_rules.specs.rules.Needs.{is_needed, is_noted, needless_on, first_noted, noted_unwritten, noted_waiting, without_first}
 use Rattle.iscsi_ffi_rules.specs.rules.Clearing.{TASK_ABORTED, is_marked, next_withheld, status_of}
 use Rattle.iscsi_ffi_rules.specs.rules.Happening.{Told, stops_in, resets_in, is_complete, is_reset, reset, reason_of, is_started, leaving, starting, start, stepped, happening, withholding, withheld, happens, stop, other, quiet}
-use Rattle.iscsi_ffi_rules.specs.rules.Run.{Blocked, NoneGoes, NoneIsLeft, Goes, Put, Refused, Stale, Answered, done, answers, refusal_of, heard_in, arrive, is_going, stopped, complete, stops, clear, parting, is_lost, lose, cookie_handed, is_blocked, asleep, next, noted_with, put, newly_ready, newly_over, parted, forgets, ended, called}
+use Rattle.iscsi_ffi_rules.specs.rules.Run.{Blocked, NoneGoes, NoneIsLeft, Goes, Put, Refused, Stale, Answered, done, answers, refusal_of, heard_in, arrive, is_going, stopped, complete, stops, clear, parting, is_lost, lose, cookie_handed, handed_on, is_blocked, asleep, next, noted_with, put, newly_ready, newly_over, parted, parted_handed, parted_waiting, forgets, ended, called}
 use Rattle.iscsi_ffi_rules.specs.promises.Deeds.{Deed, deeds_from, told_in, side_after}
 use Rattle.iscsi_ffi_rules.specs.promises.Words.{gives_word, is_forget, count_kept, ComesBackOnce}
 
@@ -120,6 +120,33 @@ module _ (word : ℕ) where
   same : (s : Side) → count_kept word s ≡ count_kept word s + 0
   same s = omega arith
 
+  abbrev has_word : Noted → Bool
+  has_word n = n.cookie == word
+
+  none_first : (conn count : ℕ) (noted : List Noted) → (count == 0) ≡ true → first_noted conn count noted ≡ []
+  none_first conn count [] h = refl
+  none_first conn count (n ∷ noted) h =
+      cond_both (n.conn == conn) (cond (count == 0) [] (n ∷ first_noted conn (count - 1) noted)) (first_noted conn count noted) (λ (xs : List Noted). xs ≡ [])
+      (λ is. ap (λ b. cond b [] (n ∷ first_noted conn (count - 1) noted)) h) (λ isnt. none_first conn count noted h)
+
+  first_counted : (conn count : ℕ) (noted : List Noted) → count_by has_word (first_noted conn count noted) + count_by has_word (without_first conn count noted) ≡ count_by has_word noted
+  first_counted conn count [] = refl
+  first_counted conn count (n ∷ noted) = by_tests (first_counted conn count noted) (first_counted conn (count - 1) noted) (n.conn == conn) (count == 0) refl
+    where
+      by_tests : count_by has_word (first_noted conn count noted) + count_by has_word (without_first conn count noted) ≡ count_by has_word noted
+          → count_by has_word (first_noted conn (count - 1) noted) + count_by has_word (without_first conn (count - 1) noted) ≡ count_by has_word noted → (b z : Bool) → (count == 0) ≡ z
+          → count_by has_word (cond b (cond z [] (n ∷ first_noted conn (count - 1) noted)) (first_noted conn count noted)) + count_by has_word (cond (b && not z) (without_first conn (count - 1) noted) (n ∷ without_first conn count noted)) ≡ count_by has_word (n ∷ noted)
+      by_tests same less true true is =
+          omega (arith, same, ap (count_by has_word) (none_first conn count noted is), count-cons has_word n (without_first conn count noted), count-cons has_word n noted)
+      by_tests same less true false is =
+          omega (arith, less, count-cons has_word n (first_noted conn (count - 1) noted), count-cons has_word n noted)
+      by_tests same less false z is =
+          omega (arith, same, count-cons has_word n (without_first conn count noted), count-cons has_word n noted)
+
+  -- the word of one that is handed out is kept still
+  pub handed_counted : (conn : ℕ) (s : Side) → count_kept word (record s { noted = without_first conn 1 s.noted; handed_notes = s.handed_notes ++ first_noted conn 1 s.noted }) ≡ count_kept word s
+  handed_counted conn s = omega (arith, first_counted conn 1 s.noted, sum_by-append (λ (n : Noted). cond (has_word n) 1 0) s.handed_notes (first_noted conn 1 s.noted))
+
   -- ---- calls
 
   calm_arrive : (i : Interface) (s : Side) (conn : ℕ) (header : List ℕ) (cookie : ℕ) → let a = arrive i s conn header cookie in Calm s (one (gives_word word (Arrives conn header cookie) a.answer)) a.told
@@ -182,11 +209,14 @@ module _ (word : ℕ) where
       (λ is. calm_quiet s s 0 (same s)) (λ is. by_given (given i.outbox s.both.box conn))
     where
       by_given : (g : Given) → let a : Answered = elim g [
-        | Hands h ↦ record { told = quiet (other i s (outbox.Nexts conn)); answer = Goes h (cookie_handed s conn h.out) }
+        | Hands h ↦ record { told = quiet (handed_on conn h.out (other i s (outbox.Nexts conn))); answer = Goes h (cookie_handed s conn h.out) }
         | Nothing ↦ answers (asleep conn s) NoneGoes
         | IsOver ↦ answers (asleep conn s) NoneIsLeft
       ] in Calm s 0 a.told
-      by_given (Hands h) = calm_quiet s (other i s (outbox.Nexts conn)) 0 (same s)
+      by_given (Hands h) =
+          let s' : Side = other i s (outbox.Nexts conn) in
+          cond_both (is_noted h.out.pdu) (record s' { noted = without_first conn 1 s'.noted; handed_notes = s'.handed_notes ++ first_noted conn 1 s'.noted }) s' (λ (x : Side). Calm s 0 (quiet x))
+          (λ is. calm_quiet s _ 0 (omega (arith, handed_counted conn s))) (λ is. calm_quiet s s' 0 (same s))
       by_given Nothing = calm_quiet s (asleep conn s) 0 (same s)
       by_given IsOver = calm_quiet s (asleep conn s) 0 (same s)
 
@@ -225,39 +255,16 @@ module _ (word : ℕ) where
   split_counted : {A : Type 0} (p q : A → Bool) (xs : List A) → count_by p (filter q xs) + count_by p (filter (λ x. not (q x)) xs) ≡ count_by p xs
   split_counted p q xs = omega (arith, count-filter p q xs, count-filter p (λ x. not (q x)) xs, count-split p q xs)
 
-  abbrev has_word : Noted → Bool
-  has_word n = n.cookie == word
-
-  none_first : (conn count : ℕ) (noted : List Noted) → (count == 0) ≡ true → first_noted conn count noted ≡ []
-  none_first conn count [] h = refl
-  none_first conn count (n ∷ noted) h =
-      cond_both (n.conn == conn) (cond (count == 0) [] (n ∷ first_noted conn (count - 1) noted)) (first_noted conn count noted) (λ (xs : List Noted). xs ≡ [])
-      (λ is. ap (λ b. cond b [] (n ∷ first_noted conn (count - 1) noted)) h) (λ isnt. none_first conn count noted h)
-
-  first_counted : (conn count : ℕ) (noted : List Noted) → count_by has_word (first_noted conn count noted) + count_by has_word (without_first conn count noted) ≡ count_by has_word noted
-  first_counted conn count [] = refl
-  first_counted conn count (n ∷ noted) = by_tests (first_counted conn count noted) (first_counted conn (count - 1) noted) (n.conn == conn) (count == 0) refl
-    where
-      by_tests : count_by has_word (first_noted conn count noted) + count_by has_word (without_first conn count noted) ≡ count_by has_word noted
-          → count_by has_word (first_noted conn (count - 1) noted) + count_by has_word (without_first conn (count - 1) noted) ≡ count_by has_word noted → (b z : Bool) → (count == 0) ≡ z
-          → count_by has_word (cond b (cond z [] (n ∷ first_noted conn (count - 1) noted)) (first_noted conn count noted)) + count_by has_word (cond (b && not z) (without_first conn (count - 1) noted) (n ∷ without_first conn count noted)) ≡ count_by has_word (n ∷ noted)
-      by_tests same less true true is =
-          omega (arith, same, ap (count_by has_word) (none_first conn count noted is), count-cons has_word n (without_first conn count noted), count-cons has_word n noted)
-      by_tests same less true false is =
-          omega (arith, less, count-cons has_word n (first_noted conn (count - 1) noted), count-cons has_word n noted)
-      by_tests same less false z is =
-          omega (arith, same, count-cons has_word n (without_first conn count noted), count-cons has_word n noted)
-
-  parted_counted : (links : List Link) (noted : List Noted) → count_by has_word (parted links noted).needless + count_by has_word (parted links noted).needed ≡ count_by has_word noted
-  parted_counted [] noted = omega arith
-  parted_counted (l ∷ links) noted =
-      let count = needless_on l noted in
+  parted_counted : (left : Link → ℕ) (links : List Link) (noted : List Noted) → count_by has_word (parted left links noted).needless + count_by has_word (parted left links noted).needed ≡ count_by has_word noted
+  parted_counted left [] noted = omega arith
+  parted_counted left (l ∷ links) noted =
+      let count = needless_on left l noted in
       let rest = without_first l.conn count noted in
       omega (
         arith,
-        sum_by-append (λ (n : Noted). cond (has_word n) 1 0) (first_noted l.conn count noted) (parted links rest).needless,
+        sum_by-append (λ (n : Noted). cond (has_word n) 1 0) (first_noted l.conn count noted) (parted left links rest).needless,
         first_counted l.conn count noted,
-        parted_counted links rest,
+        parted_counted left links rest,
       )
 
   pub ended_counted : (i : Interface) (w : Told) → count_kept word (ended i w).side + back (ended i w).actions ≡ count_kept word w.side + back w.actions
@@ -266,20 +273,23 @@ module _ (word : ℕ) where
       let ready : List ℕ = newly_ready i s in
       let over : List ℕ = newly_over i s in
       let forgotten : List Asked = filter (λ (a : Asked). not (is_needed s a)) s.asked in
-      let noted : List Noted = (parted s.both.box.links s.noted).needless in
+      let waiting : List Noted = (parted_waiting s).needless in
+      let handed : List Noted = (parted_handed s).needless in
       let asked_word : Asked → Bool = λ a. a.cookie == word in
       omega (
         arith,
         back-append (w.actions ++ map (λ conn. Ready conn) ready ++ map (λ conn. Close conn) over) (forgets s),
         back-append (w.actions ++ map (λ conn. Ready conn) ready) (map (λ conn. Close conn) over),
         back-append w.actions (map (λ conn. Ready conn) ready),
-        back-append (map (λ (a : Asked). Forget a.cookie) forgotten) (map (λ (n : Noted). Forget n.cookie) noted),
+        back-append (map (λ (a : Asked). Forget a.cookie) forgotten) (map (λ (n : Noted). Forget n.cookie) (waiting ++ handed)),
         none_of_map (λ conn. Ready conn) ready (λ conn. refl),
         none_of_map (λ conn. Close conn) over (λ conn. refl),
         count_by-map (is_forget word) (λ (a : Asked). Forget a.cookie) forgotten,
-        count_by-map (is_forget word) (λ (n : Noted). Forget n.cookie) noted,
+        count_by-map (is_forget word) (λ (n : Noted). Forget n.cookie) (waiting ++ handed),
+        sum_by-append (λ (n : Noted). cond (has_word n) 1 0) waiting handed,
         split_counted asked_word (is_needed s) s.asked,
-        parted_counted s.both.box.links s.noted,
+        parted_counted noted_waiting s.both.box.links s.noted,
+        parted_counted noted_unwritten s.both.box.links s.handed_notes,
       )
 
   -- ---- all calls

@@ -8,7 +8,7 @@ use Rattle.iscsi_ffi_rules.specs.rules.Calls.{Interface}
 use Rattle.iscsi_ffi_rules.specs.examples.Rows.{Row, Said, IsTaken, IsRefused, IsStale, IsPut, IsJoined, GoesOut, IsBlocked, Nothing, NothingMore, interface}
 use Rattle.iscsi_ffi_rules.specs.examples.CommandRows.{one_command_rows, aborted_rows, held_rows}
 use Rattle.iscsi_ffi_rules.specs.examples.ClearRows.{cleared_rows, aborted_too_rows, busy_still_rows}
-use Rattle.iscsi_ffi_rules.specs.examples.ConnectionRows.{lost_rows, own_rows}
+use Rattle.iscsi_ffi_rules.specs.examples.ConnectionRows.{cut_rows, lost_rows, own_rows}
 use Rattle.iscsi_ffi_rules.specs.examples.LogoutRows.{logout_rows, unstarted_rows, shared, shared_rows, exhausted_rows}
 use Rattle.iscsi_ffi_rules.specs.examples.OtherRows.{late_rows, marked_rows, refused_rows, heard_rows, told_again_rows}
 use Rattle.iscsi_ffi_steps.specs.Steps.{Answer, Taken, Refused, Stale, Put, Joined, Goes, Blocked, NoneGoes, NoneIsLeft, answered_by}
@@ -52,6 +52,10 @@ lost = refl
 pub own : Worked (interface (setting 1 4)) own_rows
 unfolding Rules.bars_as
 own = refl
+
+pub cut : Worked (interface (of_two 4)) cut_rows
+unfolding Rules.bars_as
+cut = refl
 
 pub logout : Worked (interface (setting 1 4)) logout_rows
 unfolding Rules.bars_as

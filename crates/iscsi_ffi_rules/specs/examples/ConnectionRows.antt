@@ -1,10 +1,10 @@
--- Worked lists: connections that are lost, and the target's own PDUs.
+-- Worked lists: connections that are lost or closed, and the target's own PDUs.
 use Rattle.std.specs.Prelude.{List, [], ◌∷◌, refl, Some, None}
 use Rattle.iscsi_tasks.specs.Rules as Rules
-use Rattle.iscsi_history.specs.examples.Rows.{command, of_two, setting}
+use Rattle.iscsi_history.specs.examples.Rows.{command, logout_now, of_two, setting}
 use Rattle.iscsi_outbox_rules.specs.rules.Boxes.{Notices, Owns}
 use Rattle.iscsi_outbox_rules.specs.examples.Rows.{data_of, message}
-use Rattle.iscsi_ffi_rules.specs.declared.action.Action.TheVariants.{Stop, Ready, Forget}
+use Rattle.iscsi_ffi_rules.specs.declared.action.Action.TheVariants.{Stop, Ready, Close, Forget}
 use Rattle.iscsi_ffi_rules.specs.declared.action.StopReason.TheVariants.{Lost}
 use Rattle.iscsi_ffi_rules.specs.declared.refusal.Refusal.TheVariants.{NotJoined}
 use Rattle.iscsi_ffi_rules.specs.rules.Calls.{Arrives, Nexts}
@@ -50,3 +50,20 @@ own_rows =
 pub own : Worked (interface (setting 1 4)) own_rows
 unfolding Rules.bars_as
 own = refl
+
+-- a Logout closes another connection, on which one own PDU is being written and another one waits: that goes out no more, so its word
+-- comes back; the word of the first one comes back once it is written
+abbrev pub cut_rows : List Row
+cut_rows =
+    joins 1 1
+    ∷ joins 2 1
+    ∷ puts (message 2) 5 (Ready 2 ∷ [])
+    ∷ puts (message 2) 6 []
+    ∷ goes 2 (Owns (message 2)) 1 1 4 (Some 5)
+    ∷ arrives 1 (logout_now 1 0xc1 1 2) 9 (Ready 1 ∷ Close 2 ∷ Forget 6 ∷ [])
+    ∷ is_written 2 (Forget 5 ∷ [])
+    ∷ []
+
+pub cut : Worked (interface (of_two 4)) cut_rows
+unfolding Rules.bars_as
+cut = refl

@@ -22,7 +22,8 @@ is_forget word _ = false
 
 -- how often it is kept
 abbrev pub count_kept : ℕ → Side → ℕ
-count_kept word s = count_by (λ (a : Asked). a.cookie == word) s.asked + count_by (λ (n : Noted). n.cookie == word) s.noted
+count_kept word s =
+    count_by (λ (a : Asked). a.cookie == word) s.asked + count_by (λ (n : Noted). n.cookie == word) s.noted + count_by (λ (n : Noted). n.cookie == word) s.handed_notes
 
 abbrev pub ComesBackOnce : Interface → List Call → Type 0
 ComesBackOnce i cs = (word : ℕ) → count_by (λ (d : Deed). gives_word word d.call d.answer) (deeds_of i cs) ≡ count_by (is_forget word) (told_in (deeds_of i cs)) + count_kept word (side_of i cs)

@@ -1,5 +1,5 @@
 -- Which requests are needed still: nothing of any other one is.
-use Rattle.std.specs.Prelude.{ℕ, ◌+◌, ◌-◌, ◌==◌, ◌&&◌, ◌||◌, not, Bool, true, false, List, [], ◌∷◌, length, filter, count_by, Option, Some, None, is_some, if◌then◌else◌}
+use Rattle.std.specs.Prelude.{ℕ, ◌-◌, ◌==◌, ◌&&◌, ◌||◌, not, Bool, true, false, List, [], ◌∷◌, length, filter, count_by, Option, Some, None, is_some, if◌then◌else◌}
 use Rattle.std.specs.List.{find, list_any}
 use Rattle.iscsi_history.specs.rules.Trace.{Arrival, Command, Mark, Admits, Trace, shown, held, waiting, live, entered}
 use Rattle.iscsi_outbox_rules.specs.declared.own_pdu.OwnPdu.TheVariants.{OfCommand, OfConnection}
@@ -71,16 +71,20 @@ is_noted (Replies reply) = false
 is_noted (Pings tag) = false
 is_noted Notices = false
 
--- so many of a connection wait, or are handed out and not written
-abbrev pub count_noted : Link → ℕ
-count_noted l = count_by (λ (out : Outgoing). is_noted out.pdu) l.queue + count_by (λ (h : Handed). is_noted h.out.pdu) (left_to_write l)
+-- so many of a connection wait
+abbrev pub noted_waiting : Link → ℕ
+noted_waiting l = count_by (λ (out : Outgoing). is_noted out.pdu) l.queue
+
+-- so many were handed out, and aren't written
+abbrev pub noted_unwritten : Link → ℕ
+noted_unwritten l = count_by (λ (h : Handed). is_noted h.out.pdu) (left_to_write l)
 
 abbrev pub noted_on : ℕ → List Noted → List Noted
 noted_on conn noted = filter (λ (n : Noted). n.conn == conn) noted
 
--- those of a connection go in the order in which they came, so the last ones are needed
-abbrev pub needless_on : Link → List Noted → ℕ
-needless_on l noted = length (noted_on l.conn noted) - count_noted l
+-- those of a connection go in the order in which they came, so the last ones are needed: so many as are left
+abbrev pub needless_on : (Link → ℕ) → Link → List Noted → ℕ
+needless_on left l noted = length (noted_on l.conn noted) - left l
 
 -- the first so many of a connection
 abbrev pub first_noted : ℕ → ℕ → List Noted → List Noted

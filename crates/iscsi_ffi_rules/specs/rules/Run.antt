@@ -1,5 +1,5 @@
 -- What each call answers, what it tells, and the state after it.
-use Rattle.std.specs.Prelude.{ℕ, ◌+◌, ◌-◌, ◌*◌, ◌/◌, ◌%◌, ◌==◌, ◌&&◌, not, nat_le, Bool, true, false, List, [], ◌∷◌, ◌++◌, length, map, take, drop, replicate, filter, count_by, Option, Some, None, if◌then◌else◌}
+use Rattle.std.specs.Prelude.{ℕ, ◌+◌, ◌*◌, ◌/◌, ◌%◌, ◌==◌, ◌&&◌, not, nat_le, Bool, true, false, List, [], ◌∷◌, ◌++◌, length, map, take, drop, replicate, filter, Option, Some, None, if◌then◌else◌}
 use Rattle.std.specs.List.{find}
 use Rattle.iscsi_wire.specs.Fields.{big_endian_from}
 use Rattle.iscsi_wire.specs.Replies.{NO_TAG}
@@ -24,7 +24,7 @@ use Rattle.iscsi_ffi_rules.specs.declared.refusal.Refusal.{Refusal}
 use Rattle.iscsi_ffi_rules.specs.declared.refusal.Refusal.TheVariants.{UnknownConnection, NotJoined, Exhausted, Busy}
 use Rattle.iscsi_ffi_rules.specs.rules.Calls.{Interface, Call, Arrives, Completes, Stops, Nexts, Puts, Writes, Hears, Joins, Loses, Clears, Cleared}
 use Rattle.iscsi_ffi_rules.specs.rules.Sides.{Asked, Noted, Side, cookie_of, opened}
-use Rattle.iscsi_ffi_rules.specs.rules.Needs.{is_needed, is_noted, noted_on, needless_on, first_noted, without_first}
+use Rattle.iscsi_ffi_rules.specs.rules.Needs.{is_needed, is_noted, needless_on, first_noted, noted_unwritten, noted_waiting, without_first}
 use Rattle.iscsi_ffi_rules.specs.rules.Clearing.{TASK_ABORTED, is_marked}
 use Rattle.iscsi_ffi_rules.specs.rules.Happening.{Told, happens, is_started, other, quiet, stop, withheld}
 
@@ -137,18 +137,20 @@ lose i s conn =
 abbrev pub cookie_of_ticket : Side → ℕ → Option ℕ
 cookie_of_ticket s ticket = elim (find (λ (c : Command). c.ticket == ticket) (entered s.both.trace)) [ Some c ↦ Some (cookie_of s.asked c.arrival.event) | None ↦ None ]
 
--- the word for an own PDU that is of no command: those that wait on its connection came last
-abbrev pub noted_waiting : Side → ℕ → ℕ
-noted_waiting s conn = elim (link_of s.both.box conn) [ Some l ↦ count_by (λ (out : Outgoing). is_noted out.pdu) l.queue | None ↦ 0 ]
-
+-- the word for an own PDU that is of no command: the first one of those that wait on its connection
 abbrev pub cookie_noted : Side → ℕ → Option ℕ
-cookie_noted s conn = let noted = noted_on conn s.noted in elim (nth (length noted - noted_waiting s conn) noted) [ Some n ↦ Some n.cookie | None ↦ None ]
+cookie_noted s conn = elim (find (λ (n : Noted). n.conn == conn) s.noted) [ Some n ↦ Some n.cookie | None ↦ None ]
 
 abbrev pub cookie_handed : Side → ℕ → Outgoing → Option ℕ
 cookie_handed s conn out = elim (out.sent) [
   | Some place ↦ elim (nth place s.answers) [ Some event ↦ Some (cookie_of s.asked event) | None ↦ None ]
   | None ↦ elim (out.ticket) [ Some ticket ↦ cookie_of_ticket s ticket | None ↦ (if is_noted out.pdu then cookie_noted s conn else None) ]
 ]
+
+-- it waits no more then
+abbrev pub handed_on : ℕ → Outgoing → Side → Side
+handed_on conn out s =
+    if is_noted out.pdu then record s { noted = without_first conn 1 s.noted; handed_notes = s.handed_notes ++ first_noted conn 1 s.noted } else s
 
 abbrev pub is_blocked : Interface → Side → ℕ → Bool
 is_blocked i s conn = elim (link_of s.both.box conn) [ Some l ↦ is_open l && nat_le i.unwritten (length (unwritten l)) | None ↦ false ]
@@ -160,7 +162,7 @@ abbrev pub next : Interface → Side → ℕ → Answered
 next i s conn =
     if is_blocked i s conn then answers s Blocked
     else elim (given i.outbox s.both.box conn) [
-      | Hands h ↦ record { told = quiet (other i s (outbox.Nexts conn)); answer = Goes h (cookie_handed s conn h.out) }
+      | Hands h ↦ record { told = quiet (handed_on conn h.out (other i s (outbox.Nexts conn))); answer = Goes h (cookie_handed s conn h.out) }
       | Nothing ↦ answers (asleep conn s) NoneGoes
       | IsOver ↦ answers (asleep conn s) NoneIsLeft
     ]
@@ -201,18 +203,25 @@ pub record Parted : Type 0 where
   pub needless : List Noted
   pub needed : List Noted
 
--- connection by connection
-abbrev pub parted : List Link → List Noted → Parted
-parted [] noted = record { needless = []; needed = noted }
-parted (l ∷ links) noted =
-    let count = needless_on l noted in
-    let rest = parted links (without_first l.conn count noted) in
+-- connection by connection, by how many of each are left
+abbrev pub parted : (Link → ℕ) → List Link → List Noted → Parted
+parted left [] noted = record { needless = []; needed = noted }
+parted left (l ∷ links) noted =
+    let count = needless_on left l noted in
+    let rest = parted left links (without_first l.conn count noted) in
     record { needless = first_noted l.conn count noted ++ rest.needless; needed = rest.needed }
+
+-- of those that wait, which are needed; and of those that were handed out
+abbrev pub parted_waiting : Side → Parted
+parted_waiting s = parted noted_waiting s.both.box.links s.noted
+
+abbrev pub parted_handed : Side → Parted
+parted_handed s = parted noted_unwritten s.both.box.links s.handed_notes
 
 abbrev pub forgets : Side → List Action
 forgets s =
     map (λ (a : Asked). Forget a.cookie) (filter (λ (a : Asked). not (is_needed s a)) s.asked)
-    ++ map (λ (n : Noted). Forget n.cookie) (parted s.both.box.links s.noted).needless
+    ++ map (λ (n : Noted). Forget n.cookie) ((parted_waiting s).needless ++ (parted_handed s).needless)
 
 abbrev pub ended : Interface → Told → Told
 ended i w =
@@ -224,7 +233,8 @@ ended i w =
         awake = s.awake ++ ready;
         over = s.over ++ over;
         asked = filter (is_needed s) s.asked;
-        noted = (parted s.both.box.links s.noted).needed;
+        noted = (parted_waiting s).needed;
+        handed_notes = (parted_handed s).needed;
       };
       actions = w.actions ++ map (λ conn. Ready conn) ready ++ map (λ conn. Close conn) over ++ forgets s;
     }

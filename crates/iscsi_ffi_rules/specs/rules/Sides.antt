@@ -18,7 +18,8 @@ pub record Noted : Type 0 where
 pub record Side : Type 0 where
   pub both : Both
   pub asked : List Asked  -- the requests that aren't forgotten, oldest first
-  pub noted : List Noted  -- so the own PDUs
+  pub noted : List Noted  -- so the own PDUs that wait
+  pub handed_notes : List Noted  -- and those that were handed out
   pub answers : List ℕ  -- of each reply of the session's log, the event of the request that it answers
   pub told : List ℕ  -- the tickets that were told to start
   pub marked : List ℕ  -- the tickets that another session's reset takes out
@@ -30,6 +31,7 @@ opened i = record {
   both = begun i.outbox;
   asked = [];
   noted = [];
+  handed_notes = [];
   answers = [];
   told = [];
   marked = [];
