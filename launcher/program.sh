@@ -1,45 +1,61 @@
 # shellcheck shell=bash
-# The program: where it stands, and whether it is that of the sources as they are, and of this kit.
+# What is built and kept, the program or the archive for C: where it stands, and whether it is that of the sources as they are,
+# and of this kit.
 #
-# choose_program sets `root`, `crates`, `sources`, `crate`, `built`, `kept`, `stamp` and `seen`, and find_program sets
-# `proved`, which says where the program was proved: here or elsewhere.
+# choose_program and choose_archive set `root`, `crates`, `sources`, `crate`, `built`, `kept`, `stamp` and `seen`, and find_kept
+# sets `proved`, which says where it was proved: here or elsewhere.
 
 # The places of the program for a processor, and of what it is made of.
 choose_program() {
+    root=$top${1:+/out/$1} crate=$top${1:+/out/$1}/crates/iscsi_replay
+    built=$crate/out/iscsi_replay
+    choose iscsi_replay "$top/out/bin/iscsi_replay${1:+-$1}"
+}
+
+# Those of the archive. It has no program, but is kept as one is.
+choose_archive() {
+    root=$top crate=$top/crates/iscsi_c
+    built=$crate/out/libiscsi_c.a
+    choose iscsi_c "$top/out/lib/libiscsi_c.a"
+}
+
+# What a crate makes is kept there, and is of that crate and those below it.
+choose() {
     local name part
-    root=$top${1:+/out/$1}
-    kept=$top/out/bin/iscsi_replay${1:+-$1}
-    mapfile -t crates < <(crates_of_program)
+    kept=$2
+    mapfile -t crates < <(crates_of "$1")
     sources=(crates.txt)
     for name in "${crates[@]}"; do
         for part in src specs proofs; do
             [ ! -d "$top/crates/$name/$part" ] || sources+=("crates/$name/$part")
         done
     done
-    crate=$root/crates/iscsi_replay
-    built=$crate/out/iscsi_replay
-    # Nothing tells of what sources the program is that stands in the crate. So a copy is kept, with a stamp that does,
-    # and none but this copy is run. The gate, too, takes crates/*/out away.
+    # Nothing tells of what sources it is what stands in the crate. So a copy is kept, with a stamp that does, and none but
+    # this copy is taken. The gate, too, takes crates/*/out away.
     stamp=$kept.stamp seen=$kept.seen
 }
 
-# The crates that the program is made of, the lowest first, and it last. crates.txt has the lowest first.
-crates_of_program() {
-    awk -F: '
-        !/^#/ { name[++count] = $1; below[count] = $2 }
+# The crates that a crate is made of, the lowest first, and it last. crates.txt has the lowest first.
+crates_of() {
+    awk -F: -v top="$1" '
+        !/^#/ { sub(/ .*/, "", $1); name[++count] = $1; below[count] = $2 }
         END {
-            used["iscsi_replay"]
+            used[top]
             for (at = count; at > 0; at--)
                 if (name[at] in used) { split(below[at], names, " "); for (one in names) used[names[one]] }
             for (at = 1; at <= count; at++) if (name[at] in used) print name[at]
         }' "$top/crates.txt"
 }
 
-# Finds the program to run, if one is kept that was proved of the sources as they are. The sums are spared where nothing
-# was written since they were taken last.
+# Finds the program to run, if one is kept that was proved of the sources as they are.
 find_program() {
+    [ -x "$kept" ] && find_kept
+}
+
+# Finds what is kept, if it was proved so. The sums are spared where nothing was written since they were taken last.
+find_kept() {
     local now lines
-    [ -f "$kept" ] && [ -x "$kept" ] && [ -r "$stamp" ] || return 1
+    [ -f "$kept" ] && [ -r "$stamp" ] || return 1
     mapfile -t lines < "$stamp"
     now=$(listing)
     if [ -z "$now" ] || [ "$now" != "$(cat "$seen" 2> /dev/null)" ]; then
@@ -104,7 +120,7 @@ basis() {
     [ -n "$by" ] && sum_of_sources && echo "$by"
 }
 
-# Keeps the program that was built and proved of this, and says beside it of what, where, and which file it is.
+# Keeps what was built and proved of this, and says beside it of what, where, and which file it is.
 keep() {
     mkdir -p "${kept%/*}" && draw && cp "$built" "$kept.$$" &&
         { echo "$1" && place && sum_of "$kept.$$"; } > "$stamp.$$" &&
