@@ -1,5 +1,5 @@
 """A session with the target that is captured, read by tools/capture, compared by tools/compare, and checked by
-tests/trace."""
+tests/lib/trace."""
 
 import glob
 import os
@@ -34,7 +34,7 @@ def play(folder, tally):
     port = str(target.port)
     tally.attempt("tools/capture of the session", lambda: why_not_read(capture.path, port, folder, 1, CONNECTIONS))
     tally.attempt("tools/compare of the session", lambda: why_different(folder))
-    tally.attempt("tests/trace of the session", lambda: why_at_fault(target.trace, capture.path, port))
+    tally.attempt("tests/lib/trace of the session", lambda: why_at_fault(target.trace, capture.path, port))
     if why := qemu.why_absent():
         tally.say("skipped", "tools/compare of QEMU's session", why)
     else:
@@ -83,5 +83,5 @@ def why_different(folder):
 
 
 def why_at_fault(trace, path, port):
-    done = run([os.path.join(TOP, "tests", "trace"), trace, path, "--port", port, "--fence"], 60)
+    done = run([os.path.join(TOP, "tests", "lib", "trace"), trace, path, "--port", port, "--fence"], 60)
     return done.stdout.strip() if done.returncode else None

@@ -10,7 +10,7 @@ import time
 TOP = os.path.abspath(os.path.join(os.path.dirname(os.path.realpath(__file__)), "..", ".."))
 PROGRAM = os.path.join(TOP, "examples", "target", "target", "release", "target")
 NAME = "iqn.2026-01.example.cundarrix:ram"
-INITIATOR = os.path.join(TOP, "tests", "initiator")
+INITIATOR = os.path.join(TOP, "tests", "lib", "initiator")
 TOLD = re.compile(r" at 127\.0\.0\.1:(\d+),")
 WAIT_BUILD, WAIT_START, WAIT_END = 170, 30, 20
 

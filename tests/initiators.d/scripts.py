@@ -1,4 +1,4 @@
-"""Sessions that tests/initiator plays with the target, and the replies that must come of them."""
+"""Sessions that tests/lib/initiator plays with the target, and the replies that must come of them."""
 
 import re
 
@@ -49,7 +49,7 @@ SCRIPTS = {
 
 
 def play(target, connections, lines, seconds=20):
-    """What tests/initiator prints of these lines. `Failed` where it can't be run to its end."""
+    """What tests/lib/initiator prints of these lines. `Failed` where it can't be run to its end."""
     words = [INITIATOR, f"127.0.0.1:{target.port}", NAME, "--connections", str(connections), *lines]
     done = run(words, seconds)
     if done.returncode:

@@ -15,7 +15,7 @@ def command(cmd_sn, tag, cid=1, unit=0, first="01", low=1, end="28"):
 
 
 def example(name, *words):
-    with open(os.path.join(TOP, "examples", name + ".recording"), encoding="ascii") as file:
+    with open(os.path.join(TOP, "examples", "recordings", name + ".recording"), encoding="ascii") as file:
         return replay(file.read(), *words)
 
 

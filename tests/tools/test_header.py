@@ -53,7 +53,7 @@ class Lines(unittest.TestCase):
         self.assertEqual(16383, request("scsi", *WORDS, "--cmdsn", "ffffffff", "--lun", "16383").unit)
 
     def test_the_documented_header(self):
-        with open(os.path.join(TOP, "examples", "abort-task.recording"), encoding="ascii") as file:
+        with open(os.path.join(TOP, "examples", "recordings", "abort-task.recording"), encoding="ascii") as file:
             recording = file.read().splitlines()
         self.assertIn(line("scsi", "--cid", "1", "--itt", "a3", "--cmdsn", "3").rstrip(), recording)
         self.assertIn(line("task-management", "--cid", "1", "--itt", "b1", "--cmdsn", "5", "--immediate",

@@ -1,4 +1,4 @@
-"""Tests of tests/initiator against a small target that takes what comes and answers each request at once."""
+"""Tests of tests/lib/initiator against a small target that takes what comes and answers each request at once."""
 
 import importlib.machinery
 import importlib.util
@@ -16,7 +16,7 @@ sys.path.insert(0, os.path.join(TOP, "tools"))
 from lib.pdu import DATA_OUT, LOGIN, LOGOUT, NO_TAG, Request, number  # noqa: E402
 from lib.streams import Splitter  # noqa: E402
 
-PROGRAM = os.path.join(TOP, "tests", "initiator")
+PROGRAM = os.path.join(TOP, "tests", "lib", "initiator")
 NAME = "iqn.2026-01.example:disk"
 RESETTING, PINGING = 0x66, 0x67
 ANSWERS = {0x00: 0x20, 0x01: 0x21, 0x02: 0x22, 0x06: 0x26}

@@ -90,7 +90,7 @@ class ShortPage(Page):
     @classmethod
     def setUpClass(cls):
         super().setUpClass()
-        with open(os.path.join(TOP, "examples", "abort-task.report"), encoding="ascii") as file:
+        with open(os.path.join(TOP, "examples", "recordings", "abort-task.report"), encoding="ascii") as file:
             report = file.read()
         cls.lines = events_of(report)
         cls.explained = run_tool("explain", "-", text=report).stdout

@@ -1,5 +1,5 @@
 """Captures of a busy session, as they come: begun late, with packets lost, with the first bytes of each packet alone. What the program
-answers is what the target did, but for what the tools say was lost. The session is made here, with a fixed seed; `tests/tools/long` does
+answers is what the target did, but for what the tools say was lost. The session is made here, with a fixed seed; `tests/by-hand/long-captures` does
 the same with captures of tgt from the loopback.
 """
 

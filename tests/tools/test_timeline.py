@@ -28,7 +28,7 @@ SCSI = "C 1 0181" + "00" * 14 + "{tag:08x}" + "00" * 4 + "{cmd_sn:08x}" + "00" *
 
 
 def recording_of(name):
-    with open(os.path.join(TOP, "examples", name + ".recording"), encoding="ascii") as file:
+    with open(os.path.join(TOP, "examples", "recordings", name + ".recording"), encoding="ascii") as file:
         return file.read()
 
 

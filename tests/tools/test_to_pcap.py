@@ -20,7 +20,7 @@ UNKNOWN = "C 1 1e80000000000300" + "00" * 40
 
 
 def example(name):
-    with open(os.path.join(TOP, "examples", name + ".recording"), encoding="ascii") as file:
+    with open(os.path.join(TOP, "examples", "recordings", name + ".recording"), encoding="ascii") as file:
         return file.read()
 
 

@@ -78,7 +78,8 @@ fn top() -> PathBuf {
 #[test]
 fn examples() {
     let (mut count, mut replies) = (0, 0);
-    for entry in fs::read_dir(top().join("examples")).expect("examples/") {
+    let folders = ["examples", "examples/recordings"];
+    for entry in folders.iter().flat_map(|folder| fs::read_dir(top().join(folder)).expect("a folder")) {
         let path = entry.expect("an entry").path();
         if path.extension().is_some_and(|is| is == "recording") {
             let recording = fs::read(&path).expect("a recording");

@@ -67,7 +67,7 @@ def failing_reads():
     for run, how in product((ONE, ONE_BY_THREADS, example("logout"), example("abort-task")), ("error", "interrupt")):
         judge_reads(tally, run, how)
     for name in ("logout", "abort-task"):
-        recording = (common.EXAMPLES / f"{name}.recording").read_bytes()
+        recording = common.EXAMPLES[name].read_bytes()
         judge_reads(tally, Run(f"{name} with threads", THREADS, recording, 1, b"", common.READ), "error")
     return tally
 
@@ -206,8 +206,7 @@ def fitting_cases():
 
 def examples():
     """All examples, with the options that the program has by itself and with others."""
-    names = sorted(path.stem for path in common.EXAMPLES.glob("*.recording"))
-    return [example(name, words) for name, words in product(names, ([], ["--window", "4", "--units", "2"]))]
+    return [example(name, words) for name, words in product(sorted(common.EXAMPLES), ([], ["--window", "4", "--units", "2"]))]
 
 
 def judge_python(tally, name, call, out):

@@ -24,7 +24,7 @@ enum { SYS_READ = 0, SYS_WRITE = 1, SYS_OPEN = 2, SYS_MMAP = 9, SYS_NANOSLEEP = 
 enum { READ_WRITE = 2, PROT_BOTH = 3, MAP_SHARED = 1 };
 enum { EINTR = 4, EIO = 5, EAGAIN = 11, ENOMEM = 12 };
 
-// What was asked, and what was refused. The order is that of tests/hostile/common.py.
+// What was asked, and what was refused. The order is that of tests/lib/hostile/common.py.
 struct note {
     long allocs, threads, ended, refused;
 };

@@ -131,7 +131,7 @@ def serves():
 def recordings():
     """The recordings that the program is given: a command, the examples, and one whose report is written in pieces."""
     yield "one-command", [], (CASES / "one-command" / "recording").read_bytes()
-    for path in sorted(EXAMPLES.glob("*.recording")):
+    for _, path in sorted(EXAMPLES.items()):
         yield path.name, [], path.read_bytes()
         yield path.name, ["--window", "4", "--units", "2"], path.read_bytes()
     many = b"".join(b"C 1 %s\n" % nop_out(sn, sn).encode() for sn in range(1, 1001))

@@ -9,7 +9,7 @@ import sys
 from bisect import bisect_left
 from dataclasses import dataclass, field
 
-sys.path.insert(0, os.path.join(os.path.dirname(os.path.realpath(__file__)), "..", "..", "tools"))
+sys.path.insert(0, os.path.join(os.path.dirname(os.path.realpath(__file__)), "..", "..", "..", "tools"))
 from lib.pdu import DATA_IN, NOP_IN, R2T, REJECT, SCSI_COMMAND, SCSI_RESPONSE, TASK_MANAGEMENT, \
     TASK_MANAGEMENT_RESPONSE  # noqa: E402
 

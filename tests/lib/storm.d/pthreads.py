@@ -14,9 +14,11 @@ MODULE = re.compile(r"^((?:pub )?mod )", re.MULTILINE)
 
 def build_over_pthreads(folder):
     """The path of the program, built in this folder."""
-    for name in ("target", "disk"):
-        copy_of(name, os.path.join(folder, "over-pthreads", name))
-    copy = os.path.join(folder, "over-pthreads", "target")
+    copy = os.path.join(folder, "over-pthreads")
+    shutil.rmtree(copy, ignore_errors=True)
+    shutil.copytree(os.path.join(TOP, "examples", "target"), copy, ignore=shutil.ignore_patterns("target"))
+    for crate in (copy, os.path.join(copy, "disk")):
+        put_locks_in(crate)
     rewrite(os.path.join(copy, "Cargo.toml"), lambda text: text.replace("../../bindings", f"{TOP}/bindings"))
     done = run(["cargo", "build", "--release", "--offline"], WAIT_BUILD, cwd=copy,
                env={**os.environ, "CARGO_PROFILE_RELEASE_DEBUG": "1"})
@@ -25,10 +27,8 @@ def build_over_pthreads(folder):
     return os.path.join(copy, "target", "release", "target")
 
 
-def copy_of(name, copy):
-    """Copies a crate of the examples, with pthreads.rs in the place of std::sync."""
-    shutil.rmtree(copy, ignore_errors=True)
-    shutil.copytree(os.path.join(TOP, "examples", name), copy, ignore=shutil.ignore_patterns("target"))
+def put_locks_in(copy):
+    """Puts pthreads.rs in the place of std::sync, in the copy of a crate."""
     for file in os.listdir(os.path.join(copy, "src")):
         rewrite(os.path.join(copy, "src", file), lambda text: USE.sub("use crate::pthreads::", text))
     rewrite(os.path.join(copy, "src", "lib.rs"), lambda text: MODULE.sub(r"mod pthreads;\n\1", text, count=1))

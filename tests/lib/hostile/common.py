@@ -7,9 +7,10 @@ import tempfile
 from pathlib import Path
 from typing import NamedTuple, Optional
 
-TOP = Path(__file__).resolve().parents[2]
+TOP = Path(__file__).resolve().parents[3]
 CASES = TOP / "tests" / "cases"
-EXAMPLES = TOP / "examples"
+# The recordings of examples/, by their names.
+EXAMPLES = {path.stem: path for folder in ("examples", "examples/recordings") for path in (TOP / folder).glob("*.recording")}
 PROGRAM = TOP / "out" / "bin" / "iscsi_replay"
 DRIVER = TOP / "crates" / "iscsi_faults" / "out" / "iscsi_faults"
 # Where tests/faults leaves the injector.

@@ -303,7 +303,7 @@ def recordings():
 def examples():
     """The recordings of examples/, with the words that their remarks say. Their reports are the program's own."""
     found = []
-    for path in sorted(common.EXAMPLES.glob("*.recording")):
+    for _, path in sorted(common.EXAMPLES.items()):
         data = path.read_bytes()
         said = re.search(r"To be replayed with (--\w+ \w+)", data.decode())
         words = tuple(said[1].split()) if said else ()

@@ -1,5 +1,5 @@
-# Recordings that are replayed with threads, and what must hold of the reports: for tests/run and tests/threads-soak.
-# They have $program and $work, and are in the folder of this file.
+# Recordings that are replayed with threads, and what must hold of the reports: for tests/run and tests/by-hand/threads-soak.
+# They have $program and $work, and are in the folder tests.
 
 # Where the program can be held to one processor, the words for it.
 one_processor=()
@@ -15,7 +15,7 @@ make_threads() {
     local window=${windows[number % 5]} first=${firsts[number % 9]}
     conns=${conns[number % 4]} units=${units[number / 4 % 3]}
     awk -v seed="$number" -v conns="$conns" -v units="$units" -v numbers="${numbers[number % 11]}" \
-        -v window="$window" -v first="$first" -v end="${ends[number % 7]}" -f threads/recording.awk > "$work/recording"
+        -v window="$window" -v first="$first" -v end="${ends[number % 7]}" -f lib/threads/recording.awk > "$work/recording"
     threads_words=(--first "$first" --window "$window" --units "$units")
     ((number * 5 % 13 < 4)) && threads_words+=(--depth 4)
     ((number * 7 % 17 < 9)) && threads_words+=(--level 2)
@@ -38,7 +38,7 @@ judge_threads() {
     fi
     [ "$1" = 0 ] || wrong="; status $1"
     [ -s "$work/err" ] && wrong="$wrong; a text on standard error"
-    said=$(awk -v first="${threads_words[1]}" -f threads/check.awk "$work/recording" "$work/out" 2>&1) || said="no check; $said"
+    said=$(awk -v first="${threads_words[1]}" -f lib/threads/check.awk "$work/recording" "$work/out" 2>&1) || said="no check; $said"
     [ -n "$said" ] && wrong="$wrong; $said"
     { grep '^conn ' "$work/recording"; cat "$work/out"; } > "$work/journal"
     timeout 60 "$program" "${threads_words[@]}" < "$work/journal" > "$work/again" 2> "$work/again.err" || wrong="$wrong; its report can't be read again"

@@ -1,4 +1,4 @@
-"""Tests of tests/trace: a small run of two connections that has no fault, and tampered ones, each of which is found."""
+"""Tests of tests/lib/trace: a small run of two connections that has no fault, and tampered ones, each of which is found."""
 
 import os
 import re
@@ -9,7 +9,7 @@ import tempfile
 import unittest
 
 HERE = os.path.dirname(os.path.realpath(__file__))
-TOP = os.path.abspath(os.path.join(HERE, "..", ".."))
+TOP = os.path.abspath(os.path.join(HERE, "..", "..", ".."))
 sys.path[:0] = [HERE, os.path.join(TOP, "tools")]
 from lib.pcap import ACK, PUSH, Side, file_header, frame, handshake, record  # noqa: E402
 from lib.pdu import lun_of  # noqa: E402
@@ -18,7 +18,7 @@ from lib.frames import Segment  # noqa: E402
 from checks import judge  # noqa: E402
 from observed import read_trace  # noqa: E402
 
-PROGRAM = os.path.join(TOP, "tests", "trace")
+PROGRAM = os.path.join(TOP, "tests", "lib", "trace")
 PORT, FIRST, TSIH, OTHER, BEGIN = 3260, 0xfffffffe, 7, 8, 1_700_000_000
 COMPLETE, NO_TASK = 0, 1
 ABORT_TASK, ABORT_TASK_SET, CLEAR_TASK_SET, LOGICAL_UNIT_RESET = 1, 2, 4, 5

@@ -49,7 +49,7 @@ ONE_BY_THREADS = ONE._replace(name="one-command with threads", words=THREADS)
 
 def example(name, words=()):
     """An example, with the report that the program gives where nothing fails."""
-    recording = (common.EXAMPLES / f"{name}.recording").read_bytes()
+    recording = common.EXAMPLES[name].read_bytes()
     report = common.run(words, recording, program=common.PROGRAM).out
     return Run(" ".join([name, *words]), list(words), recording, 0, report)
 

@@ -5,7 +5,7 @@ import re
 import sys
 from dataclasses import dataclass
 
-TOP = os.path.abspath(os.path.join(os.path.dirname(os.path.realpath(__file__)), "..", ".."))
+TOP = os.path.abspath(os.path.join(os.path.dirname(os.path.realpath(__file__)), "..", "..", ".."))
 sys.path.insert(0, os.path.join(TOP, "tools"))
 from lib.captures import BadCapture, first_moment, sessions_of  # noqa: E402
 
