@@ -5,6 +5,7 @@ ghost use Rattle.iscsi_outbox.specs.Options.{RefusesAs};
 ghost use Rattle.iscsi_ffi_desk.specs.Options.{opened, refusal_of};
 
 mod clearing;
+mod commonest;
 mod dropping;
 mod ending;
 mod handing;

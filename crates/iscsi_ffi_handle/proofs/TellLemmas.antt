@@ -8,7 +8,6 @@ use Rattle.iscsi_requests.specs.Conns.{oldest}
 use Rattle.iscsi_ffi.specs.Standing.{Sided, is_waiting, taken_one, waiting}
 use Rattle.iscsi_ffi_handle.specs.declared.plain.PlainAction.{PlainAction}
 use Rattle.iscsi_ffi_handle.specs.Plain.{plain_action}
-use Rattle.iscsi_ffi_handle.specs.declared.plain.PlainTold.{PlainTold}
 use Rattle.iscsi_ffi_handle.specs.Telling.{room_in, side_after, taken_many, told_after, written_over}
 
 -- ---- what waits
@@ -103,6 +102,27 @@ idle_many n m v le to = sym (ap (λ k. taken_many k v) (sum n m to) ∙ idle_fro
 
 pub all_taken : (n m : ℕ) (xs : List Action) → length xs ≤ n → n ≤ m → take n xs ≡ take m xs
 all_taken n m xs le to = take_all n xs le ∙ sym (take_all m xs (omega (arith, le, to)))
+
+-- as many as wait, or as there is room for: all that there is room for
+pub whole_many : (n m : ℕ) (v : Sided) → n ≡ min (length (waiting v)) m → taken_many n v ≡ taken_many m v
+whole_many n m v is = by_length (nat_lt n (length (waiting v))) refl
+  where
+    by_length : (b : Bool) → nat_lt n (length (waiting v)) ≡ b → taken_many n v ≡ taken_many m v
+    by_length false ge = idle_many n m v (ltb-false n (length (waiting v)) ge) (omega (arith, is))
+    by_length true lt =
+        let more : n < length (waiting v) = ltb-true n (length (waiting v)) lt in
+        let same : n ≡ m = omega (arith, is, more) in
+        ap (λ k. taken_many k v) same
+
+pub whole_taken : (n m : ℕ) (xs : List Action) → n ≡ min (length xs) m → take n xs ≡ take m xs
+whole_taken n m xs is = by_length (nat_lt n (length xs)) refl
+  where
+    by_length : (b : Bool) → nat_lt n (length xs) ≡ b → take n xs ≡ take m xs
+    by_length false ge = all_taken n m xs (ltb-false n (length xs) ge) (omega (arith, is))
+    by_length true lt =
+        let more : n < length xs = ltb-true n (length xs) lt in
+        let same : n ≡ m = omega (arith, is, more) in
+        ap (λ k. take k xs) same
 
 -- ---- where none waits, nothing is handed over
 

@@ -1,10 +1,12 @@
 //! The bytes of a PDU that goes out.
 
-ghost use Rattle.std.specs.Prelude.{◌≡◌, ◌≤◌, ◌++◌, List, length};
+ghost use Rattle.std.specs.Prelude.{◌≡◌, ◌≤◌, ◌++◌, List, None, length};
+ghost use Rattle.iscsi_wire.specs.Replies.{bytes_4, header_of, tail_of};
 ghost use Rattle.iscsi_ffi_handle.specs.Bytes.{bytes_of, kind_code, plain_pdu, put_first, tail_in};
 
 use crate::plain::PlainPdu;
 use iscsi_outbox::{Handed, Pdu, header};
+use iscsi_wire::Reply;
 
 /// How many bytes a header has.
 const HEADER: usize = 48;
@@ -35,21 +37,69 @@ fn write_bytes(handed: &Handed, buffer: &mut [u8]) -> u8
     ensures length { result ≡ length (bytes_of handed.now) }
 {
     match &handed.pdu {
-        Pdu::Reply(sent) => {
-            let pdu = sent.reply.encode(handed.stat_sn, handed.exp, handed.max);
-            let tail = pdu.tail();
-            let (front, behind) = buffer.split_at_mut(HEADER);
-            front.copy_from_slice(pdu.header());
-            let (data, _) = behind.split_at_mut(tail.len());
-            data.copy_from_slice(tail);
-            (HEADER + tail.len()) as u8
-        }
-        _ => {
-            let (front, _) = buffer.split_at_mut(HEADER);
-            front.copy_from_slice(&header(handed));
-            HEADER as u8
-        }
+        Pdu::Reply(sent) => write_reply(
+            &sent.reply,
+            handed.stat_sn,
+            handed.exp,
+            handed.max,
+            buffer,
+        ),
+        _ => write_header(&header(handed), buffer),
     }
+}
+
+/// Writes the bytes of a reply with these numbers, and says how many there are.
+fn write_reply(reply: &Reply, stat_sn: u32, exp: u32, max: u32, buffer: &mut [u8]) -> u8
+    requires { 96 ≤ length buffer.old }
+    ensures buffer { buffer.new ≡ put_first (header_of reply.now stat_sn exp max ++ tail_of reply.now) buffer.old }
+    ensures length { result ≡ length (header_of reply.now stat_sn exp max ++ tail_of reply.now) }
+{
+    // Most replies are of this kind.
+    if let Reply::Scsi { itt, status, sense } = reply
+        && let None = sense
+    {
+        return write_header(&scsi_header(*itt, *status, stat_sn, exp, max), buffer);
+    }
+    let pdu = reply.encode(stat_sn, exp, max);
+    let tail = pdu.tail();
+    let (front, behind) = buffer.split_at_mut(HEADER);
+    front.copy_from_slice(pdu.header());
+    let (data, _) = behind.split_at_mut(tail.len());
+    data.copy_from_slice(tail);
+    (HEADER + tail.len()) as u8
+}
+
+/// Writes a header, and says how many bytes it has.
+#[inline(always)]
+fn write_header(header: &[u8; 48], buffer: &mut [u8]) -> u8
+    requires { 96 ≤ length buffer.old }
+    ensures buffer { buffer.new ≡ put_first header.now buffer.old }
+    ensures length { result ≡ 48 }
+{
+    let (front, _) = buffer.split_at_mut(HEADER);
+    front.copy_from_slice(header);
+    HEADER as u8
+}
+
+/// The header of a SCSI Response without sense, as `Reply::encode` gives it: eight bytes at a time.
+#[inline(always)]
+fn scsi_header(itt: u32, status: u8, stat_sn: u32, exp: u32, max: u32) -> [u8; 48]
+    ensures { result ≡ header_of (Reply.Scsi itt status None) stat_sn exp max }
+{
+    let mut header = [0u8; HEADER];
+    header[..8].copy_from_slice(&[0x21, 0x80, 0, status, 0, 0, 0, 0]);
+    header[16..24].copy_from_slice(&pair(itt, 0));
+    header[24..32].copy_from_slice(&pair(stat_sn, exp));
+    header[32..40].copy_from_slice(&pair(max, 0));
+    header
+}
+
+/// Two numbers in four bytes each, the highest byte first.
+#[inline(always)]
+fn pair(first: u32, second: u32) -> [u8; 8]
+    ensures { result ≡ bytes_4 first ++ bytes_4 second }
+{
+    (u64::from(first) * (1 << 32) + u64::from(second)).to_be_bytes()
 }
 
 fn kind_code(pdu: &Pdu) -> u8

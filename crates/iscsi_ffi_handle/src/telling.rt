@@ -34,7 +34,7 @@ fn hand_over_some(side: &mut Side, actions: &mut [PlainAction]) -> PlainTold
 {
     let room = actions.len().min(MOST);
     let count = side.waiting().min(room as u32);
-    for index in 0..room {
+    for index in 0..count as usize {
         let Some(action) = side.take_action() else {
             break;
         };

@@ -177,7 +177,7 @@ none_closed s (e ∷ es) none =
     let both = neither (is_close e) (list_any is_close es) none in
     ap (λ r. r ++ closed_in s es) (no_close s e both.0) ∙ none_closed s es both.1
 
-close_nothing : (r : Option Request) (s : State) → close r [] s ≡ s
+pub close_nothing : (r : Option Request) (s : State) → close r [] s ≡ s
 close_nothing None s = refl
 close_nothing (Some r) s = elim (place_of s (connection_of r)) as (λ (o : Option ℕ). elim o as (λ (q : Option ℕ). State) [ Some by ↦ s | None ↦ s ] ≡ s) [ Some by ↦ refl | None ↦ refl ]
 

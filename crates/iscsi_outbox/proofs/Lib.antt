@@ -2,6 +2,7 @@ pub mod KnownLemmas
 pub mod TrailLemmas
 pub mod ChoiceLemmas
 pub mod CloseLemmas
+pub mod CommonestLemmas
 pub mod SettleLemmas
 pub mod SendLemmas
 pub mod WalkLemmas

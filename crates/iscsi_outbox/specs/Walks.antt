@@ -1,5 +1,5 @@
 -- Walks over the effects of an event, as the code takes them. For private contracts alone.
-use Rattle.std.specs.Prelude.{ℕ, ◌==◌, ◌^◌, ◌&&◌, ◌||◌, ◌++◌, not, nat_le, nat_lt, filter, slice_index_or, Bool, true, false, List, [], ◌∷◌, Option, Some, None, if◌then◌else◌}
+use Rattle.std.specs.Prelude.{ℕ, ◌==◌, ◌^◌, ◌&&◌, ◌||◌, ◌++◌, not, nat_le, nat_lt, filter, filter_map, slice_index_or, Bool, true, false, List, [], ◌∷◌, Option, Some, None, if◌then◌else◌}
 use Rattle.iscsi_wire.specs.declared.request.Request.{Request}
 use Rattle.std.specs.List.{list_any}
 use Rattle.iscsi_wire.specs.declared.reply.Reply.{Reply}
@@ -8,7 +8,9 @@ use Rattle.iscsi_wire.specs.Serial.{lift}
 use Rattle.iscsi_history.specs.declared.effect.Numbers.{Numbers}
 use Rattle.iscsi_history.specs.declared.effect.Effect.{Effect}
 use Rattle.iscsi_history.specs.declared.effect.Effect.TheVariants.{CloseConn, CloseSession}
+use Rattle.iscsi_history.specs.promises.Order.{in_parts}
 use Rattle.iscsi_history.specs.rules.Execution.{unit_named}
+use Rattle.iscsi_outbox_rules.specs.rules.Items.{ticket_enabled}
 use Rattle.iscsi_outbox_state.specs.declared.lane.Aim.{Aim}
 use Rattle.iscsi_outbox_state.specs.declared.lane.Aim.TheVariants.{Tag, Unit as AtUnit}
 use Rattle.iscsi_tracked.specs.declared.command.Command.{Command}
@@ -16,7 +18,7 @@ use Rattle.iscsi_tracked.specs.declared.command.Phase.{Phase}
 use Rattle.iscsi_tracked.specs.declared.command.Phase.TheVariants.{Dormant, Fresh, Started, Running, Gone}
 use Rattle.iscsi_tracked.specs.Tracked.{find_ticket}
 use Rattle.iscsi_outbox_steps.specs.State.{State, place_of}
-use Rattle.iscsi_outbox_steps.specs.Steps.{close_each, enter_command, entering}
+use Rattle.iscsi_outbox_steps.specs.Steps.{after_items, close_each, enter_command, entering, tell}
 
 abbrev pub is_close : Effect → Bool
 is_close (CloseConn conn) = true
@@ -46,6 +48,10 @@ is_in phase c = is_same_phase c.phase phase
 abbrev pub before_parts : List Effect → List (List Effect) → List (List Effect)
 before_parts item [] = item ∷ []
 before_parts item (first ∷ rest) = (item ++ first) ∷ rest
+
+-- the effects of an event, but for its numbers
+abbrev pub after_event : List Effect → State → State
+after_event effects s = tell (filter_map ticket_enabled effects) (after_items (in_parts effects) s)
 
 -- the numbers of an event are noted
 abbrev pub numbered_by : Numbers → State → State

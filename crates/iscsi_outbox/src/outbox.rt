@@ -12,6 +12,7 @@ ghost use Rattle.iscsi_outbox_steps.specs.Steps.{joined, may_join};
 mod asking;
 mod choosing;
 mod closing;
+mod commonest;
 mod handing;
 mod leaving;
 mod numbers;

@@ -1,6 +1,6 @@
 //! At the end of a call: who may hand out, and what is to be closed.
 
-ghost use Rattle.std.specs.Prelude.{◌≡◌, ◌<◌, length};
+ghost use Rattle.std.specs.Prelude.{◌≡◌, ◌<◌, length, slice_index_or, false};
 ghost use Rattle.iscsi_outbox.specs.Words.{cid_at};
 ghost use Rattle.iscsi_ffi_steps.specs.Steps.{close_each, close_on, tell_each, tell_on};
 ghost use Rattle.iscsi_ffi_desk.specs.Calls.{asleep, ended};
@@ -31,8 +31,20 @@ impl Desk {
         requires { conn < length self.old.state.outbox.limits.cids }
         ensures { self.new ≡ tell_on conn (cid_at self.old.state.outbox conn) self.old }
     {
+        if !self.awake[conn] {
+            self.wake(conn);
+        }
+    }
+
+    /// Tells so of one that wasn't told so yet.
+    #[inline(never)]
+    fn wake(&mut self, conn: usize)
+        requires within { conn < length self.old.state.outbox.limits.cids }
+        requires sleeps { slice_index_or self.old.state.awake conn false ≡ false }
+        ensures { self.new ≡ tell_on conn (cid_at self.old.state.outbox conn) self.old }
+    {
         let cid = self.outbox.cid(conn);
-        if !self.awake[conn] && self.outbox.gives_pdu(cid) {
+        if self.outbox.gives_pdu(cid) {
             self.awake[conn] = true;
             self.tell(Action::Ready { cid });
         }

@@ -77,7 +77,7 @@ impl Desk {
     }
 
     /// One of them does.
-    fn start_ticket(&mut self, ticket: u64)
+    pub(super) fn start_ticket(&mut self, ticket: u64)
         ensures { self.new ≡ start_each (ticket ∷ []) self.old }
     {
         match self.commands.find(ticket) {

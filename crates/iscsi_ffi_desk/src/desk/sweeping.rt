@@ -2,8 +2,8 @@
 
 ghost use Rattle.std.specs.Prelude.{◌≡◌, ◌<◌, [], ◌∷◌, length};
 ghost use Rattle.std.specs.List.{flat_map};
-ghost use Rattle.iscsi_outbox_steps.specs.State.{link_at};
-ghost use Rattle.iscsi_outbox_steps.specs.Steps.{counted_from};
+ghost use Rattle.iscsi_outbox_steps.specs.State.{link_at, place_of};
+ghost use Rattle.iscsi_outbox_steps.specs.Steps.{as_list, counted_from};
 ghost use Rattle.iscsi_ffi_steps.specs.Walk.{keeps, sweep, touched_by};
 
 use crate::desk::Desk;
@@ -24,13 +24,18 @@ impl Desk {
         ensures { self.new ≡ sweep (touched_by self.old.state effect.now) self.old }
     {
         match effect {
-            Effect::Send { conn, .. } | Effect::CloseConn { conn } => {
-                if let Some(place) = self.outbox.place(*conn) {
-                    self.sweep_one(place);
-                }
-            }
+            Effect::Send { conn, .. } | Effect::CloseConn { conn } => self.sweep_conn(*conn),
             Effect::CloseSession => self.sweep_all(),
             _ => {}
+        }
+    }
+
+    /// On the one with this CID.
+    pub(super) fn sweep_conn(&mut self, cid: u16)
+        ensures { self.new ≡ sweep (as_list (place_of self.old.state.outbox cid)) self.old }
+    {
+        if let Some(place) = self.outbox.place(cid) {
+            self.sweep_one(place);
         }
     }
 

@@ -1,21 +1,60 @@
 //! The effects of an event.
 
 ghost use Rattle.std.specs.Prelude.{◌≡◌};
+ghost use Rattle.iscsi_outbox_steps.specs.Steps.{taken};
 ghost use Rattle.iscsi_ffi_steps.specs.Steps.{takes};
+ghost use Rattle.iscsi_ffi_desk.specs.Calls.{with_outbox};
 
 use crate::desk::Desk;
 use iscsi_history::{Effect, Numbers};
 
 impl Desk {
     /// Takes the effects of one event of the session, all of them, and its numbers. `own`: the place of the request that arrives in
-    /// it, if it isn't held.
+    /// it, if it isn't held. Those of the two commonest events are taken straight, and those of any other one part by part.
     pub fn take(&mut self, own: Option<u32>, effects: &[Effect], numbers: Numbers)
         ensures { self.new ≡ takes own (record { numbers = numbers; effects = effects.now }) self.old }
     {
+        if let [first, second] = effects
+            && let Effect::Leave { ticket, .. } = first
+            && let Effect::Send { conn, .. } = second
+        {
+            self.walk_completion(own, *ticket, *conn);
+            self.tell_outbox(effects, numbers);
+            self.sweep_conn(*conn);
+            return;
+        }
+        if let [first, second, third] = effects
+            && let Effect::Deliver { request } = first
+            && let Effect::Enter { ticket, unit, attr } = second
+            && let Effect::Enable {
+                ticket: enabled,
+                ..
+            } = third
+        {
+            self.walk_command(own, request, *ticket, *unit, *attr);
+            self.tell_outbox(effects, numbers);
+            self.start_ticket(*enabled);
+            return;
+        }
+        self.take_any(own, effects, numbers);
+    }
+
+    /// Takes those of any event.
+    #[inline(never)]
+    fn take_any(&mut self, own: Option<u32>, effects: &[Effect], numbers: Numbers)
+        ensures { self.new ≡ takes own (record { numbers = numbers; effects = effects.now }) self.old }
+    {
         self.walk(effects, own);
-        self.outbox.take(effects, numbers);
+        self.tell_outbox(effects, numbers);
         self.sweep(effects);
         self.tell_resets(effects);
         self.start_enabled(effects);
+    }
+
+    /// The outbox takes them.
+    fn tell_outbox(&mut self, effects: &[Effect], numbers: Numbers)
+        ensures { self.new ≡ with_outbox (taken effects.now numbers self.old.state.outbox) self.old }
+    {
+        self.outbox.take(effects, numbers);
     }
 }

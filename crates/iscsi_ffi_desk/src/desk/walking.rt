@@ -50,7 +50,8 @@ impl Desk {
     }
 
     /// What executed and was neither answered nor entered is over.
-    fn end_item(&mut self, course: &mut Course)
+    #[inline(always)]
+    pub(super) fn end_item(&mut self, course: &mut Course)
         ensures { walk_of self.new course.new ≡ end_item (walk_of self.old course.old) }
     {
         self.release_if(course.current);
@@ -59,7 +60,8 @@ impl Desk {
     }
 
     /// A numbered request executes, which was held.
-    fn deliver(&mut self, request: &Request, course: &mut Course)
+    #[inline(always)]
+    pub(super) fn deliver(&mut self, request: &Request, course: &mut Course)
         ensures { walk_of self.new course.new ≡ deliver request.now (walk_of self.old course.old) }
     {
         self.end_item(course);
@@ -114,7 +116,8 @@ impl Desk {
     }
 
     /// The request that executes is a command, and enters a task set.
-    fn enter(&mut self, ticket: u64, unit: u16, attr: Attr, course: &mut Course)
+    #[inline(always)]
+    pub(super) fn enter(&mut self, ticket: u64, unit: u16, attr: Attr, course: &mut Course)
         ensures { walk_of self.new course.new ≡ enter ticket unit attr course.old.current (walk_of self.old course.old) }
     {
         let Some(request) = course.current else {
@@ -134,7 +137,8 @@ impl Desk {
     }
 
     /// A command leaves its task set: a request takes it out, or it completes, and its request is the one to be answered.
-    fn leave(&mut self, ticket: u64, course: &mut Course)
+    #[inline(always)]
+    pub(super) fn leave(&mut self, ticket: u64, course: &mut Course)
         ensures { walk_of self.new course.new ≡ leave ticket (walk_of self.old course.old) }
     {
         let Some(command) = self.commands.find(ticket) else {
@@ -175,7 +179,8 @@ impl Desk {
     }
 
     /// A reply is that of the request that executes, or of the one that arrives: it waits.
-    fn send(&mut self, cid: u16, course: &mut Course)
+    #[inline(always)]
+    pub(super) fn send(&mut self, cid: u16, course: &mut Course)
         ensures { walk_of self.new course.new ≡ send cid (walk_of self.old course.old) }
     {
         self.push_reply(cid, course);

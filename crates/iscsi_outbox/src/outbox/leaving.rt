@@ -7,6 +7,7 @@ ghost use Rattle.iscsi_tracked.specs.Tracked.{has_place};
 ghost use Rattle.iscsi_outbox.specs.Walks.{entered_one, is_in, is_numbered_of};
 
 use crate::outbox::Outbox;
+use crate::outbox::own::is_live;
 use iscsi_history::Effect;
 use iscsi_outbox_state::Left;
 use iscsi_tracked::{Command, Entering, Phase};
@@ -70,6 +71,20 @@ impl Outbox {
         }
     }
 
+    /// The command with this ticket completes, if it is live: whether its request had a number of its own.
+    pub(crate) fn complete_ticket(&mut self, ticket: u64) -> bool
+        ensures answer { result ≡ is_numbered_of self.old ticket }
+        ensures state { self.new ≡ leave_one None ticket self.old }
+    {
+        let Some(command) = self.kept(ticket) else {
+            return false;
+        };
+        if is_live(&command) {
+            self.complete(command);
+        }
+        command.numbered
+    }
+
     /// A command is taken out: what waits of it is dropped, and it is kept as long as it owes something.
     fn take_out(&mut self, command: Command)
         requires there { has_place command.place self.old.tracked ≡ true }
@@ -128,7 +143,7 @@ impl Outbox {
     }
 
     /// A command enters, of a connection of the session.
-    fn enter_one(&mut self, request: &Request, ticket: u64, unit: u16)
+    pub(crate) fn enter_one(&mut self, request: &Request, ticket: u64, unit: u16)
         ensures { self.new ≡ entered_one request.now ticket unit self.old }
     {
         if let Some(conn) = self.cids.place(request.conn()) {
@@ -179,7 +194,7 @@ impl Outbox {
     }
 
     /// A command comes from one phase to another one.
-    fn change_phase(&mut self, ticket: u64, from: Phase, to: Phase)
+    pub(crate) fn change_phase(&mut self, ticket: u64, from: Phase, to: Phase)
         ensures { self.new ≡ in_phase_if (is_in from) to ticket self.old }
     {
         if let Some(command) = self.tracked.find(ticket) {

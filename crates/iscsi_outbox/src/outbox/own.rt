@@ -5,7 +5,7 @@ ghost use Rattle.iscsi_outbox_rules.specs.rules.Own.{is_fit, is_free_tag, own_ta
 ghost use Rattle.iscsi_outbox_law.specs.Called.{KeepsAllPromises, KeepsToRules};
 ghost use Rattle.iscsi_outbox_rules.specs.rules.Calls.{Puts};
 ghost use Rattle.iscsi_outbox_steps.specs.Steps.{absent, home_of, is_live, live_command, own_item, put, put_refusal, refusal_on};
-ghost use Rattle.iscsi_tracked.specs.Tracked.{has_place};
+ghost use Rattle.iscsi_tracked.specs.Tracked.{find_ticket, has_place};
 ghost use Rattle.iscsi_outbox.specs.Choices.{refused};
 
 use crate::outbox::Outbox;
@@ -69,10 +69,24 @@ impl Outbox {
         ensures high { IfSome result (λ c. c.place ≤ self.now.waits.commands) }
         ensures there { IfSome result (λ c. has_place c.place self.now.tracked ≡ true) }
     {
-        self.tracked.known();
-        match self.tracked.find(ticket) {
+        match self.kept(ticket) {
             Some(command) if is_live(&command) => Some(command),
             _ => None,
+        }
+    }
+
+    /// The command with this ticket that is kept.
+    pub(crate) fn kept(&self, ticket: u64) -> Option<Command>
+        ensures answer { result ≡ find_ticket ticket self.now.tracked }
+        ensures conn { IfSome result (λ c. c.conn < length self.now.limits.cids) }
+        ensures low { IfSome result (λ c. 1 ≤ c.place) }
+        ensures high { IfSome result (λ c. c.place ≤ self.now.waits.commands) }
+        ensures there { IfSome result (λ c. has_place c.place self.now.tracked ≡ true) }
+    {
+        self.tracked.known();
+        match self.tracked.find(ticket) {
+            Some(command) => Some(command),
+            None => None,
         }
     }
 
@@ -92,7 +106,7 @@ impl Outbox {
 }
 
 /// Whether a command is in its task set.
-fn is_live(command: &Command) -> bool
+pub(crate) fn is_live(command: &Command) -> bool
     ensures { result ≡ is_live command.now }
 {
     match command.phase {

@@ -49,7 +49,7 @@ impl Outbox {
     }
 
     /// A reply with its place: so many were taken before it.
-    fn placed(&self, reply: Reply) -> SentReply
+    pub(crate) fn placed(&self, reply: Reply) -> SentReply
         ensures { result ≡ placed reply self.now }
     {
         SentReply {
@@ -59,7 +59,7 @@ impl Outbox {
     }
 
     /// One reply more was taken, wherever it goes.
-    fn count_reply(&mut self)
+    pub(crate) fn count_reply(&mut self)
         ensures { self.new ≡ counted self.old }
     {
         self.sent = self.sent.wrapping_add(1);
@@ -85,7 +85,7 @@ impl Outbox {
     }
 
     /// A reply goes nowhere, and time passes.
-    fn pass_time(&mut self)
+    pub(crate) fn pass_time(&mut self)
         ensures { self.new ≡ record self.old { waits = later self.old.waits } }
     {
         if self.waits.time() < u64::MAX {
@@ -198,7 +198,7 @@ impl Outbox {
 }
 
 /// A reply that enters its queue at once.
-fn reply_item(numbered: bool, reply: SentReply) -> Waiting
+pub(crate) fn reply_item(numbered: bool, reply: SentReply) -> Waiting
     ensures { result ≡ reply_item numbered reply }
 {
     Waiting {

@@ -5,7 +5,7 @@ ghost use Rattle.iscsi_history.specs.promises.Order.{in_parts};
 ghost use Rattle.iscsi_outbox_law.specs.Called.{KeepsAllPromises, KeepsToRules};
 ghost use Rattle.iscsi_outbox_rules.specs.rules.Calls.{Takes};
 ghost use Rattle.iscsi_outbox_steps.specs.Steps.{after_item, after_items, taken};
-ghost use Rattle.iscsi_outbox.specs.Walks.{numbered_by};
+ghost use Rattle.iscsi_outbox.specs.Walks.{after_event, numbered_by};
 
 use crate::items::{executing, first_reply, is_request};
 use crate::lifted::lifted;
@@ -24,9 +24,41 @@ impl Outbox {
         ensures rules { KeepsToRules self.old (Takes effects.now numbers) }
         ensures promises { KeepsAllPromises self.old (Takes effects.now numbers) }
     {
+        self.take_event(effects);
+        self.number(numbers);
+    }
+
+    /// Takes the effects of an event: of the two commonest ones straight, and of any other one item by item.
+    #[inline(always)]
+    fn take_event(&mut self, effects: &[Effect])
+        ensures { self.new ≡ after_event effects.now self.old }
+    {
+        if let [first, second] = effects
+            && let Effect::Leave { ticket, .. } = first
+            && let Effect::Send { conn, reply, .. } = second
+        {
+            return self.take_completion(*ticket, *conn, reply);
+        }
+        if let [first, second, third] = effects
+            && let Effect::Deliver { request } = first
+            && let Effect::Enter { ticket, unit, .. } = second
+            && let Effect::Enable {
+                ticket: enabled,
+                ..
+            } = third
+        {
+            return self.take_command(request, *ticket, *unit, *enabled);
+        }
+        self.take_any(effects);
+    }
+
+    /// Takes the effects of any event.
+    #[inline(never)]
+    fn take_any(&mut self, effects: &[Effect])
+        ensures { self.new ≡ after_event effects.now self.old }
+    {
         self.take_items(effects);
         self.tell(effects);
-        self.number(numbers);
     }
 
     /// Takes the items of an event: each but the first begins with a request.

@@ -1,6 +1,6 @@
 use Rattle.std.proofs.Common.{◌≡◌, ◌≤◌, take}
 use Rattle.iscsi_ffi.specs.Standing.{waiting}
-use Rattle.iscsi_ffi_handle.specs.Telling.{room_in, taken_many, written_over}
+use Rattle.iscsi_ffi_handle.specs.Telling.{taken_many, written_over}
 use Rattle.iscsi_ffi_handle.proofs.telling.hand_over_some.Given as goal
 
 -- so many were taken, and written into the first places
@@ -8,5 +8,5 @@ abbrev pub invariant-loop-index : goal.invariant-loop-index
 invariant-loop-index l = record {
   side : l.side ≡ taken_many l.index l.fn.side;
   actions : l.actions ≡ written_over l.fn.actions (take l.index (waiting l.fn.side));
-  within : l.index ≤ room_in l.fn.actions;
+  within : l.index ≤ l.count;
 }

@@ -1,12 +1,15 @@
-use Rattle.std.proofs.Common.{ap, ◌∙◌}
-use Rattle.iscsi_outbox_rules.specs.rules.Calls.{Takes}
-use Rattle.iscsi_outbox_steps.specs.State.{State as OutboxState}
-use Rattle.iscsi_outbox.proofs.LimitsLemmas.{limits_stay}
-use Rattle.iscsi_ffi_desk.proofs.TakeLemmas.{all_taken, outbox_changed}
+use Rattle.iscsi_outbox.proofs.CommonestLemmas.{three_of, two_of}
+use Rattle.iscsi_ffi_desk.proofs.TakeLemmas.{command_taken, completion_taken}
 use Rattle.iscsi_ffi_desk.proofs.desk.Desk.take.Goals as goal
 
-pub invariant_of-self : goal.invariant_of-self
-invariant_of-self c = outbox_changed _ c.take.new.self _ _ _ c.self.invariant (ap (λ (o : OutboxState). o.limits) c.take.ensures.state ∙ limits_stay c.self.inside.outbox (Takes c.args.effects.now c.args.numbers))
-
 pub returns : goal.returns
-returns c = all_taken c.args.own c.args.effects.now c.args.numbers c.args.self.now c.walk.new.self _ c.sweep.new.self c.tell_resets.new.self c.start_enabled.new.self c.take.new.self c.walk.ensures c.self.view_is c.take.ensures.state c.sweep.ensures c.tell_resets.ensures c.start_enabled.ensures
+returns c =
+    let is = two_of _ _ c.args.effects.now _ _ c.in-len2.len_at_least c.in-len2.len_below c.in-Leave.is c.in-Send.is in
+    completion_taken c.args.own c.args.numbers c.args.effects.now c.args.self.now c.walk_completion.new.self c.tell_outbox.new.self c.tell_outbox.ensures
+    c.in-Leave.ticket c.in-Leave.unit c.in-Send.conn c.in-Send.stat_sn c.in-Send.reply c.sweep_conn.new.self is (c.walk_completion.ensures c.in-Leave.unit c.in-Send.stat_sn c.in-Send.reply) c.sweep_conn.ensures
+
+pub returns-2 : goal.returns-2
+returns-2 c =
+    let is = three_of _ _ _ c.args.effects.now _ _ _ c.in-len3.len_at_least c.in-len3.len_below c.in-Deliver.is c.in-Enter.is c.in-Enable.is in
+    command_taken c.args.own c.args.numbers c.args.effects.now c.args.self.now c.walk_command.new.self c.tell_outbox-2.new.self c.tell_outbox-2.ensures
+    c.in-Deliver.request c.in-Enter.ticket c.in-Enter.unit c.in-Enter.attr c.in-Enable.enabled c.in-Enable.unit c.start_ticket.new.self is (c.walk_command.ensures c.in-Enable.enabled c.in-Enable.unit) c.start_ticket.ensures

@@ -2,7 +2,7 @@ use Rattle.std.proofs.Common.{◌≡◌, true, length, sym, ap, subst, ◌∙◌
 use Rattle.iscsi_outbox_steps.specs.State.{State}
 use Rattle.iscsi_tracked.specs.Tracked.{has_place}
 use Rattle.iscsi_outbox.proofs.KnownLemmas.{conn_within, place_high, place_low, ticket_has}
-use Rattle.iscsi_outbox.proofs.outbox.Outbox.live.Goals as goal
+use Rattle.iscsi_outbox.proofs.outbox.Outbox.kept.Goals as goal
 
 pub returns-in-Some-clause-conn : goal.returns-in-Some-clause-conn
 returns-in-Some-clause-conn c =
