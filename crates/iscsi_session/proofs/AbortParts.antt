@@ -2,11 +2,12 @@
 use Rattle.std.proofs.Common.{◌≡◌, ℕ, ◌+◌, ◌-◌, ◌<◌, ◌≤◌, ◌==◌, ◌&&◌, ◌^◌, not, cond, Bool, true, false, nat_lt, nat_le, List, [], ◌∷◌, ◌++◌, length, map, filter_map, Option, Some, None, option_map, refl, ap, sym, ◌∙◌, arith}
 use Rattle.std.proofs.lemmas.Bool.Decides.{nat_tests}
 use Rattle.iscsi_wire.specs.declared.request.Request.{Request}
+use Rattle.iscsi_window.specs.declared.held_request.HeldRequest.{HeldRequest}
 use Rattle.iscsi_wire.specs.Serial.{wire, lift}
 use Rattle.iscsi_wire.specs.Fields.{connection_of, is_immediate, itt, rtt, cmd_sn, ref_cmd_sn}
 use Rattle.iscsi_window.specs.declared.answer.Place.{Place}
 use Rattle.iscsi_window.specs.declared.answer.Place.TheVariants.{Inside, Outside as NoPlace}
-use Rattle.iscsi_window.specs.Windows.{Received, number_expected, room_of, at_place, place_in, find_command}
+use Rattle.iscsi_window.specs.Windows.{Arrived, number_expected, room_of, at_place, place_in, find_held}
 use Rattle.iscsi_tasks.specs.Sets.{is_covered}
 use Rattle.iscsi_session.specs.declared.response.Response.TheVariants.{NoTask}
 use Rattle.iscsi_session.specs.private.Codes.{response_code}
@@ -33,7 +34,6 @@ use Rattle.iscsi_history.proofs.EnabledItems.{EnabledSoFar-untouched}
 use Rattle.iscsi_history.proofs.CommandItems.{unfinished-untouched, ticket_alone}
 use Rattle.iscsi_session.proofs.CommandParts.{CommandsAgree-untouched}
 use Rattle.iscsi_session.proofs.ReplyParts.{RepliesAgree-quiet}
-use Rattle.iscsi_session.proofs.ArrivedLemmas.{ArrivalsAgree-quiet}
 use Rattle.iscsi_session.proofs.SetParts.{SetsAgree-untouched}
 use Rattle.iscsi_session.proofs.AgreeLemmas.{settled_expected, settled_max}
 use Rattle.iscsi_session.proofs.ManageLemmas.{is_of_number}
@@ -43,7 +43,7 @@ use Rattle.iscsi_session.proofs.FindLemmas.{held_command-is, tagged_in-is}
 -- ---- what it comes to
 
 -- a held request is taken out
-pub record EmptiesHeld (w : Received) (t : Trace) (a : Arrival) (fm : List Mark) (sn : ℕ) : Type 0 where
+pub record EmptiesHeld (w : Arrived) (t : Trace) (a : Arrival) (fm : List Mark) (sn : ℕ) : Type 0 where
   pub request : Arrival
   pub marks : fm ≡ Empties request ∷ answer a 0
   pub held_is : held t request.number ≡ Some request
@@ -53,13 +53,13 @@ pub record EmptiesHeld (w : Received) (t : Trace) (a : Arrival) (fm : List Mark)
   pub shown : sn ≡ wire request.number
 
 -- a number is received without a request, if it wasn't received before
-pub record VoidsMissing (w : Received) (t : Trace) (a : Arrival) (fm : List Mark) (sn : ℕ) : Type 0 where
+pub record VoidsMissing (w : Arrived) (t : Trace) (a : Arrival) (fm : List Mark) (sn : ℕ) : Type 0 where
   pub marks : fm ≡ cond (is_received t (lift (number_expected w) sn)) [] (Voids (lift (number_expected w) sn) ∷ []) ++ answer a 0
   pub low : number_expected w ≤ lift (number_expected w) sn
   pub high : lift (number_expected w) sn < number_expected w + room_of w
 
 -- the marks of a function to a unit are those that its outcome tells
-abbrev pub OutcomeIs : Setting → Received → Trace → Arrival → ℕ → List Mark → Outcome → Type 0
+abbrev pub OutcomeIs : Setting → Arrived → Trace → Arrival → ℕ → List Mark → Outcome → Type 0
 OutcomeIs o w t a unit fm (Respond response) = fm ≡ answer a (response_code response)
 OutcomeIs o w t a unit fm (Abort ticket) = fm ≡ map Leaves (covered_in o t unit (covers_ticket ticket)) ++ answer a 0
 OutcomeIs o w t a unit fm (AbortAll cover) = fm ≡ map Leaves (covered_in o t unit (is_covered cover)) ++ answer a 0
@@ -67,17 +67,17 @@ OutcomeIs o w t a unit fm (EmptyNumber sn) = EmptiesHeld w t a fm sn
 OutcomeIs o w t a unit fm (VoidNumber sn) = VoidsMissing w t a fm sn
 
 -- ABORT TASK by the definitions is what the session says
-abbrev pub AbortsAs : Setting → Received → Trace → Arrival → ℕ → Outcome → Type 0
+abbrev pub AbortsAs : Setting → Arrived → Trace → Arrival → ℕ → Outcome → Type 0
 AbortsAs o w t a unit x = OutcomeIs o w t a unit (abort_task o t a unit) x
 
 -- what both find
 pub record Found (o : Setting) (s : Core) (t : Trace) (a : Arrival) (unit : ℕ) : Type 0 where
   pub commands : CommandsAgree o s.live s.entered t
-  pub held_same : option_map (λ (h : Arrival). h.number) (held_command o t (rtt a.request) unit a.number) ≡ option_map (λ k. number_expected s.window + k) (find_command s.window (rtt a.request) unit (cmd_sn a.request))
+  pub held_same : option_map (λ (h : Arrival). h.number) (held_command o t (rtt a.request) unit a.number) ≡ option_map (λ k. number_expected s.window + k) (find_held s.window (rtt a.request) unit (cmd_sn a.request))
   pub held_inside : (h : Arrival) → held_command o t (rtt a.request) unit a.number ≡ Some h → (held t h.number ≡ Some h) × (number_expected s.window ≤ h.number) × (h.number < number_expected s.window + length s.window.places) × (h.number < number_expected s.window + 2 ^ 31)
 
 -- no request is held below the number of a numbered function
-none_below : (w : Received) (r : Request) (unit n : ℕ) → n + 1 ≡ number_expected w → wire (cmd_sn r) ≡ wire n → find_command w (rtt r) unit (cmd_sn r) ≡ None
+none_below : (w : Arrived) (r : Request) (unit n : ℕ) → n + 1 ≡ number_expected w → wire (cmd_sn r) ≡ wire n → find_held w (rtt r) unit (cmd_sn r) ≡ None
 none_below w r unit n next shows =
     let own : lift (number_expected w) (cmd_sn r) ≡ n = last_number (number_expected w) n (cmd_sn r) (omega arith) next shows in
     let none : lift (number_expected w) (cmd_sn r) - number_expected w ≡ 0 = omega (arith, own, next) in
@@ -109,7 +109,7 @@ module _ (o : Setting) (s : Core) (t : Trace) (a : Arrival) (unit : ℕ) where
       lives = tagged_in-is s t (rtt a.request) unit f.commands.commands
 
       by_held : (x : Option Arrival) (y : Option ℕ) → live_with_tag t (rtt a.request) unit ≡ None
-          → held_command o t (rtt a.request) unit a.number ≡ x → find_command s.window (rtt a.request) unit (cmd_sn a.request) ≡ y
+          → held_command o t (rtt a.request) unit a.number ≡ x → find_held s.window (rtt a.request) unit (cmd_sn a.request) ≡ y
           → option_map (λ (h : Arrival). h.number) x ≡ option_map (λ k. number_expected s.window + k) y → Fits
       by_held None None none is at same = missing (rw (lives, none, at, abort_by)) (rw (none, is, abort_task))
       by_held None (Some k) none is at same = absurd cc
@@ -128,7 +128,7 @@ module _ (o : Setting) (s : Core) (t : Trace) (a : Arrival) (unit : ℕ) where
           })
 
       by_live : (x : Option Command) → live_with_tag t (rtt a.request) unit ≡ x → Fits
-      by_live None none = by_held (held_command o t (rtt a.request) unit a.number) (find_command s.window (rtt a.request) unit (cmd_sn a.request)) none refl refl f.held_same
+      by_live None none = by_held (held_command o t (rtt a.request) unit a.number) (find_held s.window (rtt a.request) unit (cmd_sn a.request)) none refl refl f.held_same
       by_live (Some c) is =
           let one = (ticket_alone (λ d. itt d.arrival.request == rtt a.request) (live_in unit t) c (apart-filter (λ d. d.unit == unit) (live t) f.commands.apart) is).0 in
           rw (lives, is, abort_by) (rw (is, abort_task, one))
@@ -172,7 +172,6 @@ Agrees-waits o s t item waits q u closes sends h w = record {
   unfinished = h.unfinished ∙ sym (unfinished-untouched item t u);
   enabled = EnabledSoFar-untouched o item t u h.enabled;
   level = h.level;
-  arrived = ArrivalsAgree-quiet s.window s.arrived t item q h.arrived;
   waiting = w;
   open_conns = h.open_conns ∙ sym (open_of-same o item t closes);
 }
@@ -197,7 +196,7 @@ AbortsAs-arrived o s index t r unit h at_once inside waits =
     }) (immediate_missing o s t' a unit now.window at_once exp (settled_max o s t' h') own)
 
 -- ABORT TASK that is numbered, at its turn
-pub AbortsAs-turned : (o : Setting) (s : Core) (t : Trace) (r : Request) (unit : ℕ) → Agrees o s t → at_place s.window 0 ≡ Some (Some r) → (x : Next s.window t r)
+pub AbortsAs-turned : (o : Setting) (s : Core) (t : Trace) (r : HeldRequest) (unit : ℕ) → Agrees o s t → at_place s.window 0 ≡ Some (Some r) → (x : Next s.window t r)
     → AbortsAs o (turned_window s.window) ((Delivers x.arrival ∷ []) ∷ t) x.arrival unit (abort_by (record s { window = turned_window s.window }) x.arrival.request unit)
 AbortsAs-turned o s t r unit h place x =
     let a : Arrival = x.arrival in

@@ -3,7 +3,7 @@ use Rattle.std.proofs.Common.{◌≡◌, ℕ, ◌+◌, ◌-◌, ◌<◌, ◌==�
 use Rattle.std.specs.List.{list_all}
 use Rattle.std.proofs.lemmas.List.{append-nil}
 use Rattle.std.proofs.lemmas.List.Folds.{list_all-map}
-use Rattle.iscsi_wire.specs.declared.request.Request.{Request}
+use Rattle.iscsi_window.specs.declared.held_request.HeldRequest.{HeldRequest}
 use Rattle.iscsi_wire.specs.Serial.{number_of_first}
 use Rattle.iscsi_window.specs.Windows.{number_expected, at_place, advanced_if}
 use Rattle.iscsi_history.specs.declared.effect.Effect.{Effect}
@@ -16,11 +16,10 @@ use Rattle.iscsi_history.specs.rules.Management.{may_wait}
 use Rattle.iscsi_history.specs.rules.Items.{item_of, function_item, functions_at, turn_at, agenda}
 use Rattle.iscsi_history.specs.rules.Run.{effects_of_item, effects_of}
 use Rattle.iscsi_session.specs.private.Standing.{Core, arrival_waiting, Agrees, Settled}
-use Rattle.iscsi_session.specs.private.Turning.{with_executed, executed_effects, next_arrived, turned_if, turn_effects, next_waiting, function_if, function_effects}
+use Rattle.iscsi_session.specs.private.Turning.{with_executed, executed_effects, turned_if, turn_effects, next_waiting, function_if, function_effects}
 use Rattle.iscsi_history.proofs.TraceLemmas.{after_items-append}
 use Rattle.iscsi_history.proofs.Missing.{expected_past}
 use Rattle.iscsi_session.proofs.WindowParts.{Next, next_request, Passed, passed_at, WindowAgrees-passed}
-use Rattle.iscsi_session.proofs.ArrivedLemmas.{ArrivalsAgree-passed}
 use Rattle.iscsi_history.proofs.ListLemmas.{list_all-filter, find-passes}
 use Rattle.iscsi_history.proofs.ReceivedItems.{turn_receives_none, function_receives_none, functions_receive_none}
 use Rattle.iscsi_history.proofs.FlowItems.{agenda-halves, effects_of-append, same_exp, turns, turns-more}
@@ -134,7 +133,7 @@ Due-functions o t₀ out₀ whole s s' out out' d same agrees given =
 
 -- ---- a turn
 
-turned-request : (o : Setting) (t₀ : Trace) (out₀ : List Effect) (whole : List (List Mark)) (s : Core) (out : List Effect) (r : Request) → DueTurn o t₀ out₀ whole s out → at_place s.window 0 ≡ Some (Some r)
+turned-request : (o : Setting) (t₀ : Trace) (out₀ : List Effect) (whole : List (List Mark)) (s : Core) (out : List Effect) (r : HeldRequest) → DueTurn o t₀ out₀ whole s out → at_place s.window 0 ≡ Some (Some r)
     → Due o t₀ out₀ whole (turned_if s (at_place s.window 0)) (out ++ turn_effects s (at_place s.window 0))
 turned-request o t₀ out₀ whole s out r d place =
     let t : Trace = d.trace in
@@ -146,11 +145,11 @@ turned-request o t₀ out₀ whole s out r d place =
     let past : e < f = subst (λ m. e < m) (same_exp o t t₀ d.same) (expected_past o.first e t (λ k l u. d.agrees.window.below k l u) x.received_is) in
     let turn_is : turn_at o e t ≡ item ∷ [] = ap (λ y. elim y [ Some b ↦ item_of o t b ∷ [] | None ↦ [] ]) x.held_is in
     let done = turned-item o s t r d.agrees place x in
-    let s' : Core = with_executed (turned_core s) r (next_arrived s) in
-    let next : number_expected s'.window ≡ e + 1 = executed_expected (turned_core s) r (next_arrived s) ∙ (let z : number_expected (turned_core s).window ≡ e + 1 = omega arith in z) in
+    let s' : Core = with_executed (turned_core s) r.request r.event in
+    let next : number_expected s'.window ≡ e + 1 = executed_expected (turned_core s) r.request r.event ∙ (let z : number_expected (turned_core s).window ≡ e + 1 = omega arith in z) in
     subst (λ (u : Core). Due o t₀ out₀ whole u (out ++ turn_effects s (at_place s.window 0))) (sym (turned_is s r place))
     (subst (λ es. Due o t₀ out₀ whole s' (out ++ es)) (sym (turn_effects-are s r place))
-    (Leads-on o t₀ out₀ whole s s' out (out ++ Deliver r ∷ executed_effects (turned_core s) r (next_arrived s)) (left_after o t₀ s) (left_before o t₀ s') d (item ∷ []) done.0
+    (Leads-on o t₀ out₀ whole s s' out (out ++ Deliver r.request ∷ executed_effects (turned_core s) r.request r.event) (left_after o t₀ s) (left_before o t₀ s') d (item ∷ []) done.0
     (ap (λ ns. received t ++ ns) (turn_receives_none o t a (numbered_held o s t r d.agrees x)) ∙ append-nil (received t))
     (turns-more o e f t past ∙ ap (λ now. now ++ agenda o (e + 1) (f - (e + 1)) (after_items now t)) turn_is ∙ ap (λ k. (item ∷ []) ++ agenda o k (f - k) (item ∷ t)) (sym next))
     (ap (λ es. out ++ es) (done.1 ∙ sym (append-nil (effects_of_item o t item))))))
@@ -179,14 +178,13 @@ turned-nothing o t₀ out₀ whole s out d place =
       unfinished = a.unfinished;
       enabled = a.enabled;
       level = a.level;
-      arrived = ArrivalsAgree-passed o s.window s.arrived t None a.window place a.arrived;
       waiting = record { list = a.waiting.list; may = a.waiting.may; known = a.waiting.known };
       open_conns = a.open_conns;
     }) refl
     (turns-more o e f t past ∙ ap (λ now. now ++ agenda o (e + 1) (f - (e + 1)) (after_items now t)) turn_is ∙ ap (λ k. agenda o k (f - k) t) (sym next))
     (sym (append-nil out))))
 
-pub turned-one : (o : Setting) (t₀ : Trace) (out₀ : List Effect) (whole : List (List Mark)) (s : Core) (out : List Effect) (p : Option (Option Request)) → at_place s.window 0 ≡ p → is_some p ≡ true → DueTurn o t₀ out₀ whole s out
+pub turned-one : (o : Setting) (t₀ : Trace) (out₀ : List Effect) (whole : List (List Mark)) (s : Core) (out : List Effect) (p : Option (Option HeldRequest)) → at_place s.window 0 ≡ p → is_some p ≡ true → DueTurn o t₀ out₀ whole s out
     → Due o t₀ out₀ whole (turned_if s (at_place s.window 0)) (out ++ turn_effects s (at_place s.window 0))
 turned-one o t₀ out₀ whole s out None here some d = absurd cc
 turned-one o t₀ out₀ whole s out (Some None) here some d = turned-nothing o t₀ out₀ whole s out d here
@@ -222,7 +220,7 @@ pub record Carried (o : Setting) (s f : Core) (t : Trace) (out out' : List Effec
   pub received_is : received (after_items (whole_of o s t) t) ≡ received t
 
 -- its first number turns
-pub Carried-turned : (o : Setting) (s s' f : Core) (t : Trace) (out out' out'' : List Effect) (p : Option (Option Request)) → next_waiting s ≡ None → at_place s.window 0 ≡ p → is_some p ≡ true
+pub Carried-turned : (o : Setting) (s s' f : Core) (t : Trace) (out out' out'' : List Effect) (p : Option (Option HeldRequest)) → next_waiting s ≡ None → at_place s.window 0 ≡ p → is_some p ≡ true
     → s' ≡ turned_if s p → out' ≡ out ++ turn_effects s p → Agrees o s t → ((t : Trace) → Agrees o s' t → Carried o s' f t out' out'') → Carried o s f t out out''
 Carried-turned o s s' f t out out' out'' p none here some now given a rest =
     let whole : List (List Mark) = whole_of o s t in

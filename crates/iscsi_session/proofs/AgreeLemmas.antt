@@ -1,10 +1,10 @@
 -- A session that agrees with what has happened agrees after one item more.
-use Rattle.std.proofs.Common.{◌≡◌, ℕ, ◌+◌, ◌-◌, ◌<◌, ◌≤◌, not, true, false, List, [], ◌∷◌, length, nat_lt, refl, sym, ◌∙◌, arith, set}
+use Rattle.std.proofs.Common.{◌≡◌, ℕ, ◌+◌, ◌-◌, ◌<◌, ◌≤◌, not, true, false, List, [], ◌∷◌, length, nat_lt, refl, sym, ◌∙◌, arith}
 use Rattle.std.specs.List.{filter_map, list_all}
 use Rattle.std.proofs.lemmas.Bool.{ltb-true}
 use Rattle.iscsi_wire.specs.Serial.{wire}
 use Rattle.iscsi_wire.specs.Fields.{connection_of, cmd_sn}
-use Rattle.iscsi_window.specs.Windows.{Received, number_expected, room_of}
+use Rattle.iscsi_window.specs.Windows.{Arrived, number_expected, room_of}
 use Rattle.iscsi_history.specs.declared.effect.Effect.{Effect}
 use Rattle.iscsi_history.specs.declared.effect.Effect.TheVariants.{Ignore}
 use Rattle.iscsi_history.specs.declared.effect.Why.{Why}
@@ -13,7 +13,7 @@ use Rattle.iscsi_history.specs.rules.Settings.{Setting, is_known}
 use Rattle.iscsi_history.specs.rules.Trace.{Arrival, Command, Mark, Admits, Ignores, Trace, after_items, has, entered, sent_on, waiting, leaves_ticket, live, is_received}
 use Rattle.iscsi_history.specs.rules.Execution.{exp_of, max_of, ignored}
 use Rattle.iscsi_history.specs.rules.Run.{effects_of, numbers_of}
-use Rattle.iscsi_session.specs.private.Standing.{Core, CommandsAgree, WindowAgrees, ArrivalsAgree, is_regular, is_regular_request, Agrees, Settled}
+use Rattle.iscsi_session.specs.private.Standing.{Core, CommandsAgree, WindowAgrees, is_regular, is_regular_request, Agrees, Settled}
 use Rattle.iscsi_session.specs.private.Steps.{numbers_by}
 use Rattle.iscsi_history.proofs.BoolLemmas.{and_parts}
 use Rattle.iscsi_history.proofs.ListLemmas.{list_all-filter}
@@ -21,9 +21,7 @@ use Rattle.iscsi_session.proofs.OpenConns.{open_of-same}
 use Rattle.iscsi_history.proofs.TraceLemmas.{weaker}
 use Rattle.iscsi_history.proofs.DeliveryLemmas.{quiet-ignored}
 use Rattle.iscsi_session.proofs.WindowParts.{next_expected, WindowAgrees-quiet, with_held, WindowAgrees-admitted}
-use Rattle.iscsi_session.proofs.ArrivedLemmas.{ArrivalsAgree-quiet, ArrivalsAgree-admitted}
 use Rattle.iscsi_history.proofs.ClosingItems.{ClosesNone}
-use Rattle.iscsi_history.proofs.HeldLemmas.{held-here}
 use Rattle.iscsi_session.proofs.ReplyParts.{RepliesAgree-quiet}
 use Rattle.iscsi_history.proofs.NewlyLemmas.{Untouched, newly-untouched}
 use Rattle.iscsi_session.proofs.CommandParts.{CommandsAgree-untouched}
@@ -68,9 +66,9 @@ pub record Stepped (o : Setting) (s : Core) (t : Trace) (items : List (List Mark
 
 -- ---- an item by which no command enters or leaves, no reply goes out and nothing closes
 
-pub Agrees-untouched : (o : Setting) (s : Core) (w : Received) (arrived : List ℕ) (t : Trace) (item : List Mark) → Untouched item → filter_map sent_on item ≡ [] → ClosesNone item → waiting (item ∷ t) ≡ waiting t → Agrees o s t
-    → w.unfinished ≡ s.window.unfinished → WindowAgrees o w (item ∷ t) → ArrivalsAgree w arrived (item ∷ t) → Agrees o (record s { window = w; arrived = arrived }) (item ∷ t)
-Agrees-untouched o s w arrived t item u sends_none closes_none waits a same window events = record {
+pub Agrees-untouched : (o : Setting) (s : Core) (w : Arrived) (t : Trace) (item : List Mark) → Untouched item → filter_map sent_on item ≡ [] → ClosesNone item → waiting (item ∷ t) ≡ waiting t → Agrees o s t
+    → w.unfinished ≡ s.window.unfinished → WindowAgrees o w (item ∷ t) → Agrees o (record s { window = w }) (item ∷ t)
+Agrees-untouched o s w t item u sends_none closes_none waits a same window = record {
   events = a.events;
   window = window;
   replies = RepliesAgree-quiet o s.conns t item sends_none a.replies;
@@ -79,7 +77,6 @@ Agrees-untouched o s w arrived t item u sends_none closes_none waits a same wind
   unfinished = same ∙ a.unfinished ∙ sym (unfinished-untouched item t u);
   enabled = EnabledSoFar-untouched o item t u a.enabled;
   level = a.level;
-  arrived = events;
   waiting = record { list = waits ∙ a.waiting.list; may = a.waiting.may; known = a.waiting.known };
   open_conns = a.open_conns ∙ sym (open_of-same o item t closes_none);
 }
@@ -93,8 +90,8 @@ Stepped-ignored o s t why h =
     let u : Untouched item = record { enters_none = refl; leaves_no = λ k. refl } in
     record {
       settled = record {
-        agrees = Agrees-untouched o s s.window s.arrived t item u refl (record { session = refl; conns = λ c. refl }) refl a refl
-            (WindowAgrees-quiet o s.window t item (quiet-ignored why) a.window) (ArrivalsAgree-quiet s.window s.arrived t item (quiet-ignored why) a.arrived);
+        agrees = Agrees-untouched o s s.window t item u refl (record { session = refl; conns = λ c. refl }) refl a refl
+            (WindowAgrees-quiet o s.window t item (quiet-ignored why) a.window);
         none_due = h.none_due;
       };
       effects_are = cc (newly-untouched o t item u);
@@ -103,8 +100,7 @@ Stepped-ignored o s t why h =
 -- ---- an admission
 
 pub Agrees-admitted : (o : Setting) (s : Core) (t : Trace) (a : Arrival) → Agrees o s t → number_expected s.window ≤ a.number → a.number < number_expected s.window + room_of s.window → is_received t a.number ≡ false → is_regular_request o a.request ≡ true → wire (cmd_sn a.request) ≡ wire a.number
-    → Agrees o (record s { window = with_held s.window a; arrived = set s.arrived (a.number - number_expected s.window) a.event }) ((Admits a ∷ []) ∷ t)
+    → Agrees o (record s { window = with_held s.window a }) ((Admits a ∷ []) ∷ t)
 Agrees-admitted o s t a h low high new regular shows =
-    Agrees-untouched o s (with_held s.window a) (set s.arrived (a.number - number_expected s.window) a.event) t (Admits a ∷ []) (untouched-admits a) refl (record { session = refl; conns = λ c. refl }) refl h refl
+    Agrees-untouched o s (with_held s.window a) t (Admits a ∷ []) (untouched-admits a) refl (record { session = refl; conns = λ c. refl }) refl h refl
     (WindowAgrees-admitted o s.window t a h.window low high new regular shows)
-    (ArrivalsAgree-admitted s.window s.arrived t a h.arrived low high (held-here t a new (h.window.undelivered a.number low) (h.window.unemptied a.number new)))

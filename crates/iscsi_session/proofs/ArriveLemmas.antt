@@ -28,7 +28,6 @@ use Rattle.iscsi_session.proofs.OpenConns.{open_of-same}
 use Rattle.iscsi_history.proofs.ListLemmas.{list_any-map, filtered_among, is_known-cids, is_none}
 use Rattle.iscsi_history.proofs.DeliveryLemmas.{IsQuiet}
 use Rattle.iscsi_session.proofs.WindowParts.{WindowAgrees-quiet}
-use Rattle.iscsi_session.proofs.ArrivedLemmas.{ArrivalsAgree-quiet}
 use Rattle.iscsi_session.proofs.ReplyParts.{RepliesAgree-sent}
 use Rattle.iscsi_history.proofs.NewlyLemmas.{Untouched}
 use Rattle.iscsi_session.proofs.CommandParts.{CommandsAgree-untouched}
@@ -41,7 +40,7 @@ use Rattle.iscsi_history.proofs.ReceivedItems.{immediate_receives_one, ignored_r
 use Rattle.iscsi_history.proofs.BoolLemmas.{not_flip}
 use Rattle.iscsi_session.proofs.AgreeLemmas.{settled_expected, Stepped, Stepped-ignored}
 use Rattle.iscsi_session.specs.declared.session.waiting.Waiting.{Waiting}
-use Rattle.iscsi_session.proofs.WindowLemmas.{comes_alone, Delivered, delivered}
+use Rattle.iscsi_session.proofs.WindowLemmas.{held_now, comes_alone, Delivered, delivered}
 use Rattle.iscsi_session.proofs.StepLemmas.{Offered, offered}
 use Rattle.iscsi_session.proofs.FunctionLemmas.{immediate-item}
 use Rattle.iscsi_session.proofs.AgendaLemmas.{Carried, Carried-turned, DueTurn, whole_of, Due-start, Due-functions, turned-all}
@@ -72,13 +71,13 @@ pub offered_known : (o : Setting) (s : Core) (index : ℕ) (t : Trace) (r : Requ
 offered_known o s index t r h regular known now = offered o s index t r h regular (sym (is_known-cids (connection_of r) s.conns o.conns h.agrees.replies.cids) ∙ known) now
 
 -- it is delivered as it comes: what the agenda comes to from there is what it comes to with the request held
-pub carried_at_once : (o : Setting) (s s' f : Core) (r : Request) (t : Trace) (out out' out'' : List Effect) → comes_next s r ≡ true → s' ≡ turned_if (with_offered s r) (Some (Some r)) → out' ≡ out ++ turn_effects (with_offered s r) (Some (Some r))
+pub carried_at_once : (o : Setting) (s s' f : Core) (r : Request) (t : Trace) (out out' out'' : List Effect) → comes_next s r ≡ true → s' ≡ turned_if (with_offered s r) (Some (Some (held_now s r))) → out' ≡ out ++ turn_effects (with_offered s r) (Some (Some (held_now s r)))
     → Agrees o (with_offered s r) t → ((t : Trace) → Agrees o s' t → Carried o s' f t out' out'') → Carried o (with_offered s r) f t out out''
 carried_at_once o s s' f r t out out' out'' next now given a rest =
     let parts = comes_alone s r next in
-    let d : Delivered s.window r = delivered s.window r parts.1 in
+    let d : Delivered s.window (held_now s r) = delivered s.window (held_now s r) parts.1 in
     let none : next_waiting (with_offered s r) ≡ None = ap (λ n. find (λ (w : Waiting). w.turn == n) s.waiting) d.grown_is.turned ∙ parts.0 in
-    Carried-turned o (with_offered s r) s' f t out out' out'' (Some (Some r)) none d.first.there refl now given a rest
+    Carried-turned o (with_offered s r) s' f t out out' out'' (Some (Some (held_now s r))) none d.first.there refl now given a rest
 
 -- ---- an arrival that is held
 
@@ -146,7 +145,6 @@ rejected_opcode o s index t r h kind known =
           unfinished = a.unfinished ∙ sym (unfinished-untouched item t u);
           enabled = EnabledSoFar-untouched o item t u a.enabled;
           level = a.level;
-          arrived = ArrivalsAgree-quiet s.window s.arrived t item q a.arrived;
           waiting = record { list = a.waiting.list; may = a.waiting.may; known = a.waiting.known };
           open_conns = a.open_conns ∙ sym (open_of-same o item t (record { session = refl; conns = λ c. refl }));
         };

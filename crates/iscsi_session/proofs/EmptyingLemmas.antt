@@ -3,10 +3,10 @@ use Rattle.std.proofs.Common.{◌≡◌, ℕ, zero, suc, ◌+◌, ◌-◌, ◌<�
 use Rattle.std.proofs.lemmas.Bool.Decides.{nat_tests}
 use Rattle.std.proofs.lemmas.List.{append-nil, length-map}
 use Rattle.std.proofs.Math.ListN.{get_or-map}
-use Rattle.iscsi_wire.specs.declared.request.Request.{Request}
+use Rattle.iscsi_window.specs.declared.held_request.HeldRequest.{HeldRequest}
 use Rattle.iscsi_wire.specs.Serial.{wire, number_of_first}
 use Rattle.iscsi_wire.specs.Fields.{connection_of}
-use Rattle.iscsi_window.specs.Windows.{Received, number_expected, is_asked, is_held_from}
+use Rattle.iscsi_window.specs.Windows.{Arrived, number_expected, is_asked, holds_from}
 use Rattle.iscsi_history.specs.declared.effect.Effect.{Effect}
 use Rattle.iscsi_history.specs.declared.effect.Effect.TheVariants.{Empty}
 use Rattle.iscsi_history.specs.rules.Settings.{Setting}
@@ -14,7 +14,7 @@ use Rattle.iscsi_history.specs.rules.Trace.{Arrival, Command, Mark, Empties, Lea
 use Rattle.iscsi_history.specs.rules.Execution.{exp_of}
 use Rattle.iscsi_history.specs.promises.Executed.{delivers, request_at}
 use Rattle.iscsi_history.specs.rules.Logout.{all_held}
-use Rattle.iscsi_session.specs.private.Standing.{place_of, WindowAgrees, ArrivalsAgree}
+use Rattle.iscsi_session.specs.private.Standing.{place_of, WindowAgrees}
 use Rattle.iscsi_session.specs.private.Closing.{emptied_place, emptied_from}
 use Rattle.iscsi_history.proofs.HeldLemmas.{held-number, unreceived_unheld}
 use Rattle.iscsi_history.proofs.DeliveryLemmas.{IsQuiet, same_range}
@@ -24,11 +24,11 @@ use Rattle.iscsi_session.proofs.WindowParts.{expected_past_next}
 -- ---- the requests that are held at the numbers of a range
 
 -- above the window nothing is held
-above_none : (o : Setting) (w : Received) (t : Trace) → WindowAgrees o w t → (n : ℕ) → number_expected w + length w.places ≤ n → held t n ≡ None
+above_none : (o : Setting) (w : Arrived) (t : Trace) → WindowAgrees o w t → (n : ℕ) → number_expected w + length w.places ≤ n → held t n ≡ None
 above_none o w t h n high = unreceived_unheld t n (h.above n high)
 
 -- all that is held is held in the window
-all_held-window : (o : Setting) (w : Received) (t : Trace) → WindowAgrees o w t → all_held o t ≡ held_from t (number_expected w) (length w.places)
+all_held-window : (o : Setting) (w : Arrived) (t : Trace) → WindowAgrees o w t → all_held o t ≡ held_from t (number_expected w) (length w.places)
 all_held-window o w t h =
     let first : ℕ = number_of_first o.first in
     let e : ℕ = number_expected w in
@@ -60,11 +60,11 @@ told = map (λ (a : Arrival). Empty (wire a.number))
 
 module _ (t : Trace) (scope : Option ℕ) where
   -- the window sees so at the number's place
-  place_taken : (n : ℕ) → is_held_from scope (place_of t n) ≡ is_taken scope (held t n)
+  place_taken : (n : ℕ) → holds_from scope (place_of t n) ≡ is_taken scope (held t n)
   place_taken n = grind (arith, unreceived_unheld t n)
 
   -- the effects of the places from a number on
-  emptied-numbers : (ps : List (Option (Option Request))) (e : ℕ) → ((k : ℕ) → k < length ps → get_or ps k None ≡ place_of t (e + k)) → emptied_from e scope ps ≡ told (asked scope (held_from t e (length ps)))
+  emptied-numbers : (ps : List (Option (Option HeldRequest))) (e : ℕ) → ((k : ℕ) → k < length ps → get_or ps k None ≡ place_of t (e + k)) → emptied_from e scope ps ≡ told (asked scope (held_from t e (length ps)))
   emptied-numbers [] e same = refl
   emptied-numbers (p ∷ ps) e same =
       let here : p ≡ place_of t e = same 0 (omega arith) ∙ ap (place_of t) (omega arith) in
@@ -80,17 +80,17 @@ module _ (t : Trace) (scope : Option ℕ) where
 -- ---- the effects
 
 -- the window tells of the requests that are taken out, in the order of their numbers
-pub emptied_from-is : (o : Setting) (w : Received) (t : Trace) (scope : Option ℕ) → WindowAgrees o w t → emptied_from (number_expected w) scope w.places ≡ map (λ (a : Arrival). Empty (wire a.number)) (taken_requests o t scope)
+pub emptied_from-is : (o : Setting) (w : Arrived) (t : Trace) (scope : Option ℕ) → WindowAgrees o w t → emptied_from (number_expected w) scope w.places ≡ map (λ (a : Arrival). Empty (wire a.number)) (taken_requests o t scope)
 emptied_from-is o w t scope h = rw (all_held-window o w t h) (emptied-numbers t scope w.places (number_expected w) h.inside)
 
 -- a number is taken out where a request of these connections is held
-taken-number : (o : Setting) (w : Received) (t : Trace) (scope : Option ℕ) → WindowAgrees o w t → (n : ℕ) → is_number_of (taken_requests o t scope) n ≡ is_taken scope (held t n)
+taken-number : (o : Setting) (w : Arrived) (t : Trace) (scope : Option ℕ) → WindowAgrees o w t → (n : ℕ) → is_number_of (taken_requests o t scope) n ≡ is_taken scope (held t n)
 taken-number o w t scope h n = rw (all_held-window o w t h) (grind (arith, nat_tests, taken-range t scope n, h.past n, above_none o w t h n))
 
--- ---- the window, and the events of arrival
+-- ---- the window
 
 -- the window without the requests of these connections
-abbrev pub with_taken : Received → Option ℕ → Received
+abbrev pub with_taken : Arrived → Option ℕ → Arrived
 with_taken w scope = record w { places = map (emptied_place scope) w.places }
 
 -- what has happened to each number is the same, but that these were emptied
@@ -112,7 +112,7 @@ module _ (t t' : Trace) (scope : Option ℕ) (v : Emptied t t' (λ n. is_taken s
   place_of-taken : (k : ℕ) → place_of t' k ≡ emptied_place scope (place_of t k)
   place_of-taken k = grind (arith, held-taken k, v.received_is)
 
-  WindowAgrees-taken : (o : Setting) (w : Received) → WindowAgrees o w t → WindowAgrees o (with_taken w scope) t'
+  WindowAgrees-taken : (o : Setting) (w : Arrived) → WindowAgrees o w t → WindowAgrees o (with_taken w scope) t'
   WindowAgrees-taken o w h =
       let e : ℕ = number_expected w in
       let long : length (map (emptied_place scope) w.places) ≡ length w.places = length-map w.places (emptied_place scope) in
@@ -133,21 +133,13 @@ module _ (t t' : Trace) (scope : Option ℕ) (v : Emptied t t' (λ n. is_taken s
         free = λ k big. rw (get_or-map (emptied_place scope) w.places k None, h.free k (omega (arith, big, long)));
       }
 
-  ArrivalsAgree-taken : (w : Received) (arrived : List ℕ) → ArrivalsAgree w arrived t → ArrivalsAgree (with_taken w scope) arrived t'
-  ArrivalsAgree-taken w arrived a =
-      let long : length (map (emptied_place scope) w.places) ≡ length w.places = length-map w.places (emptied_place scope) in
-      record {
-        long = a.long ∙ sym long;
-        at_place = λ k b lt found. a.at_place k b (omega (arith, long, lt)) (grind (arith, held-taken (number_expected w + k)));
-      }
-
 -- ---- a Logout, from its first mark on
 
 -- the marks of a Logout, up to those that take nothing out
 abbrev pub taking_item : Setting → Trace → Option ℕ → List Command → List Mark → List Mark
 taking_item o t scope cs rest = (map Leaves cs ++ map Empties (taken_requests o t scope)) ++ rest
 
-module _ (o : Setting) (w : Received) (t : Trace) (m : Mark) (scope : Option ℕ) (cs : List Command) (rest : List Mark) (h : WindowAgrees o w ((m ∷ []) ∷ t)) (q : IsQuiet rest) where
+module _ (o : Setting) (w : Arrived) (t : Trace) (m : Mark) (scope : Option ℕ) (cs : List Command) (rest : List Mark) (h : WindowAgrees o w ((m ∷ []) ∷ t)) (q : IsQuiet rest) where
   abbrev began : Trace
   began = (m ∷ []) ∷ t
 
@@ -168,6 +160,3 @@ module _ (o : Setting) (w : Received) (t : Trace) (m : Mark) (scope : Option ℕ
 
   pub WindowAgrees-logged_out : WindowAgrees o (with_taken w scope) ((m ∷ marks) ∷ t)
   WindowAgrees-logged_out = WindowAgrees-taken began ((m ∷ marks) ∷ t) scope emptied o w h
-
-  pub ArrivalsAgree-logged_out : (arrived : List ℕ) → ArrivalsAgree w arrived began → ArrivalsAgree (with_taken w scope) arrived ((m ∷ marks) ∷ t)
-  ArrivalsAgree-logged_out arrived a = ArrivalsAgree-taken began ((m ∷ marks) ∷ t) scope emptied w arrived a

@@ -6,7 +6,7 @@ use Rattle.std.proofs.lemmas.List.{append-nil, length-map}
 use Rattle.iscsi_wire.specs.declared.request.Request.{Request}
 use Rattle.iscsi_wire.specs.declared.reply.Reply.{Reply}
 use Rattle.iscsi_wire.specs.Fields.{connection_of, is_immediate, opcode, itt}
-use Rattle.iscsi_window.specs.Windows.{Received}
+use Rattle.iscsi_window.specs.Windows.{Arrived}
 use Rattle.iscsi_tasks.specs.Sets.{Members, opened}
 use Rattle.iscsi_history.specs.declared.effect.Effect.{Effect}
 use Rattle.iscsi_commands.specs.declared.live.Live.{Live}
@@ -18,7 +18,7 @@ use Rattle.iscsi_history.specs.rules.Execution.{unfinished, unit_named, is_crowd
 use Rattle.iscsi_history.specs.rules.Management.{may_wait}
 use Rattle.iscsi_history.specs.rules.Items.{execution}
 use Rattle.iscsi_history.specs.rules.Run.{effects_of_mark, effects_of_item}
-use Rattle.iscsi_session.specs.private.Standing.{open_of, Core, kept, is_regular, task_of, member_of, WindowAgrees, RepliesAgree, CommandsAgree, SetsAgree, ArrivalsAgree, arrival_waiting, Agrees}
+use Rattle.iscsi_session.specs.private.Standing.{open_of, Core, kept, is_regular, task_of, member_of, WindowAgrees, RepliesAgree, CommandsAgree, SetsAgree, arrival_waiting, Agrees}
 use Rattle.iscsi_history.specs.promises.Enabling.{EnabledSoFar}
 use Rattle.iscsi_session.specs.private.Steps.{new_live, new_task, number_by, event_by, started, is_immediate_on, is_crowded_by, is_set_full, place_in, verdict_by, count_reply, executed_as, execution_effects}
 use Rattle.iscsi_history.proofs.BoolLemmas.{and_both}
@@ -65,7 +65,7 @@ pub verdict_is : (o : Setting) (s : Core) (t : Trace) (r : Request) → Commands
 verdict_is o s t r commands sets =
     cc (commands.commands, list_any-map (λ (l : Live). l.itt == itt r) kept (live t), crowded_is s t r commands.commands, place_is o s t r sets)
 
-unfinished-started : (w : Received) (r : Request) → (started w r).unfinished ≡ w.unfinished + cond (not (is_immediate r)) 1 0
+unfinished-started : (w : Arrived) (r : Request) → (started w r).unfinished ≡ w.unfinished + cond (not (is_immediate r)) 1 0
 unfinished-started w r = grind arith
 
 -- ---- an execution
@@ -83,7 +83,6 @@ pub record Begun (o : Setting) (s : Core) (t : Trace) (m : Mark) (e : Effect) (a
   pub known : is_known (connection_of a.request) o.conns ≡ true
   pub first : s.window.first ≡ o.first
   pub level : s.level ≡ o.level
-  pub arrived : (ms : List Mark) → IsQuiet ms → ArrivalsAgree s.window s.arrived ((m ∷ ms) ∷ t)
   pub waiting : waiting_by m (waiting t) ≡ map (arrival_waiting o.first) s.waiting
   pub may : list_all (λ w. may_wait w.request) s.waiting ≡ true
   pub waiting_known : list_all (λ w. is_known (connection_of w.request) o.conns) s.waiting ≡ true
@@ -116,7 +115,6 @@ module _ (o : Setting) (s : Core) (t : Trace) (m : Mark) (e : Effect) (a : Arriv
         unfinished = b.unfinished_is ∙ sym (unfinished-untouched (m ∷ ms) t u);
         enabled = EnabledSoFar-untouched o (m ∷ ms) t u b.enabled;
         level = b.level;
-        arrived = b.arrived ms q;
         waiting = record { list = waits ∙ b.waiting; may = b.may; known = b.waiting_known };
         open_conns = b.open_is ∙ sym (open_of-same o (m ∷ ms) t (closes-more m ms b.closes_no closes_none));
       }
@@ -148,7 +146,6 @@ module _ (o : Setting) (s : Core) (t : Trace) (m : Mark) (e : Effect) (a : Arriv
       let ms : List Mark = Enters c ∷ [] in
       let item : List Mark = m ∷ ms in
       let q : IsQuiet ms = quiet-marks ((m ∷ []) ∷ t) a (EnterUnit unit) in
-      let now = b.arrived ms q in
       let entered_is : length (entered ((m ∷ []) ∷ t)) ≡ length (entered t) = cc (b.enters_no, append-nil (entered t)) in
       let count : s.entered ≡ length (entered ((m ∷ []) ∷ t)) = b.commands.count_is ∙ sym entered_is in
       let en : EntersOne item t c = record { one = cc b.enters_no; leaves_no = λ k. cc (b.leaves_no k); ticket = omega (arith, entered_is) } in
@@ -168,7 +165,6 @@ module _ (o : Setting) (s : Core) (t : Trace) (m : Mark) (e : Effect) (a : Arriv
           unfinished = unfinished-started s.window a.request ∙ ap (λ n. n + cond (not (is_immediate a.request)) 1 0) b.unfinished_is ∙ sym lives;
           enabled = EnabledSoFar-entered o s.live s.entered item t c b.commands en inside (never_free c t (b.commands.fresh c.ticket (omega (arith, en.ticket)))) b.enabled;
           level = b.level;
-          arrived = cond_both (is_immediate a.request) _ _ (λ v. ArrivalsAgree v s.arrived (item ∷ t)) (λ is. now) (λ is. record { long = now.long; at_place = now.at_place });
           waiting = record { list = b.waiting; may = b.may; known = b.waiting_known };
           open_conns = b.open_is ∙ sym (open_of-same o item t (closes-more m ms b.closes_no (record { session = refl; conns = λ k. refl })));
         };

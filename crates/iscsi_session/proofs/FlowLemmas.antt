@@ -1,10 +1,7 @@
--- Received numbers and the window, from event to event.
+-- Arrived numbers and the window, from event to event.
 use Rattle.std.proofs.Common.{◌≡◌, ℕ, ◌+◌, ◌-◌, ◌<◌, ⊎_elim, false, length, Option, Some, None, arith}
 use Rattle.std.proofs.lemmas.Bool.{cases_lt}
-use Rattle.iscsi_wire.specs.declared.request.Request.{Request}
-use Rattle.iscsi_wire.specs.Fields.{cmd_sn}
-use Rattle.iscsi_window.specs.declared.answer.Place.{Place}
-use Rattle.iscsi_window.specs.Windows.{Received, number_expected, place_in, received_at, offered_to}
+use Rattle.iscsi_window.specs.Windows.{number_expected}
 use Rattle.iscsi_history.specs.declared.event.Event.{Event}
 use Rattle.iscsi_commands.specs.declared.live.Live.{Live}
 use Rattle.iscsi_history.specs.rules.Settings.{Setting}
@@ -19,18 +16,6 @@ use Rattle.iscsi_session.proofs.WindowParts.{no_place}
 use Rattle.iscsi_session.proofs.AgreeLemmas.{settled_expected, settled_max}
 
 -- ---- the window's end
-
-pub pace-offered : (w : Received) (r : Request) → KeepsPace w (offered_to w r)
-pace-offered w r = by_place (place_in w (cmd_sn r))
-  where
-    by_place : (p : Place) → KeepsPace w (received_at w p (Some r))
-    by_place p = grind arith
-
-pub pace-completed : (s : Core) (ticket : ℕ) → KeepsPace s.window (after_completion s ticket).window
-pace-completed s ticket = by_command (find_enabled s ticket)
-  where
-    by_command : (x : Option Live) → KeepsPace s.window (let now : Core = elim x [ Some l ↦ without_command s l | None ↦ s ] in now.window)
-    by_command x = grind arith
 
 -- nothing is received above MaxCmdSN
 none_above : (o : Setting) (s : Core) (t : Trace) → Settled o s t → (n : ℕ) → max_of o t < n → is_received t n ≡ false

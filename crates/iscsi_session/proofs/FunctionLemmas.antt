@@ -6,12 +6,13 @@ use Rattle.std.proofs.lemmas.Bool.Decides.{nat_tests}
 use Rattle.std.proofs.lemmas.List.{append-nil, map-append}
 use Rattle.std.proofs.lemmas.List.Folds.{list_all-append}
 use Rattle.std.proofs.lemmas.List.Elements.{filter_map-append}
+use Rattle.iscsi_window.specs.declared.held_request.HeldRequest.{HeldRequest}
 use Rattle.iscsi_wire.specs.declared.reply.Reply.{Reply}
 use Rattle.iscsi_wire.specs.declared.reply.Reply.TheVariants.{Task as TaskReply, Reject}
 use Rattle.iscsi_wire.specs.declared.request.Request.{Request}
 use Rattle.iscsi_wire.specs.Serial.{wire, lift, number_of_first}
 use Rattle.iscsi_wire.specs.Fields.{connection_of, header_of, is_immediate, opcode, function, itt, rtt, cmd_sn}
-use Rattle.iscsi_window.specs.Windows.{Received, number_expected, room_of, at_place, emptied, voided, with_place}
+use Rattle.iscsi_window.specs.Windows.{Arrived, number_expected, room_of, at_place, emptied, voided, with_place}
 use Rattle.iscsi_tasks.specs.declared.cover.Cover.TheVariants.{Below}
 use Rattle.iscsi_tasks.specs.Sets.{is_covered}
 use Rattle.iscsi_history.specs.declared.effect.Effect.{Effect}
@@ -34,10 +35,10 @@ use Rattle.iscsi_history.specs.rules.Management.{may_wait, waiting_on, refusal_t
 use Rattle.iscsi_history.specs.rules.Agenda.{arrival_of}
 use Rattle.iscsi_history.specs.rules.Items.{execution, waiting_item, immediate_item, item_of, function_item}
 use Rattle.iscsi_history.specs.rules.Run.{effects_of_mark, effects_of_item}
-use Rattle.iscsi_session.specs.private.Standing.{Core, kept, task_of, WindowAgrees, ArrivalsAgree, arrival_waiting, WaitingAgrees, Agrees, Settled}
+use Rattle.iscsi_session.specs.private.Standing.{Core, kept, task_of, WindowAgrees, arrival_waiting, WaitingAgrees, Agrees, Settled}
 use Rattle.iscsi_session.specs.private.Functions.{outcome_by, abort_by, performed_as, performance_effects, covers_ticket, response_effects}
 use Rattle.iscsi_session.specs.private.Steps.{with_reply, number_by, event_by, executed_as, execution_effects}
-use Rattle.iscsi_session.specs.private.Turning.{position_by, next_position, without_waiting, performed, performed_effects, managed, managed_effects, with_executed, executed_effects, next_arrived, next_waiting, waiting_in, wait_by, function_if, function_effects, deferral_by, immediate_as, immediate_effects}
+use Rattle.iscsi_session.specs.private.Turning.{position_by, next_position, without_waiting, performed, performed_effects, managed, managed_effects, with_executed, executed_effects, next_waiting, waiting_in, wait_by, function_if, function_effects, deferral_by, immediate_as, immediate_effects}
 use Rattle.iscsi_session.proofs.OpenConns.{open_of-same}
 use Rattle.iscsi_session.proofs.LogoutItem.{logout-item}
 use Rattle.iscsi_session.proofs.LoggedOutLemmas.{closed_expected}
@@ -45,9 +46,8 @@ use Rattle.iscsi_history.proofs.BoolLemmas.{and_parts, and_true}
 use Rattle.iscsi_history.proofs.ListLemmas.{count_by-map, list_any-map, list_all-filter, find-passes, any_filter, any_same, find-found, filter-map}
 use Rattle.iscsi_history.proofs.TraceLemmas.{filter-same}
 use Rattle.iscsi_history.proofs.DeliveryLemmas.{IsQuiet, received-quiet, held-quiet}
-use Rattle.iscsi_history.proofs.HeldLemmas.{held-number, admitted_of_held, held_before}
+use Rattle.iscsi_history.proofs.HeldLemmas.{held-number, admitted_of_held}
 use Rattle.iscsi_session.proofs.WindowParts.{Next, turned_window, WindowAgrees-quiet}
-use Rattle.iscsi_session.proofs.ArrivedLemmas.{ArrivalsAgree-quiet}
 use Rattle.iscsi_history.proofs.NewlyLemmas.{Untouched, live_in-untouched, newly-untouched}
 use Rattle.iscsi_session.proofs.CommandParts.{CommandsAgree-untouched}
 use Rattle.iscsi_session.proofs.ReplyParts.{RepliesAgree-sent}
@@ -65,7 +65,7 @@ use Rattle.iscsi_session.proofs.LeavingLemmas.{covered_in, leaving-item}
 use Rattle.iscsi_session.proofs.AbortParts.{numbered_outcome, OutcomeIs, AbortsAs, AbortsAs-arrived, AbortsAs-turned, Agrees-waits}
 use Rattle.iscsi_session.proofs.MissingLemmas.{WindowAgrees-voided, WindowAgrees-emptied, VoidedAt, voided_at, emptied_at}
 use Rattle.iscsi_session.proofs.ManageLemmas.{is_of_number, of_no_number, through_performed, through_executed}
-use Rattle.iscsi_session.proofs.TurnLemmas.{turned_core, numbered_held, turn-begun, arrived_next, number_next, event_next}
+use Rattle.iscsi_session.proofs.TurnLemmas.{turned_core, numbered_held, turn-begun, number_next, event_next}
 
 -- ---- a command is before a function, by positions
 
@@ -93,7 +93,6 @@ record IsMute (a : Arrival) (x : Mark) : Type 0 where
 record Windowed (o : Setting) (s : Core) (t : Trace) (m : Mark) : Type 0 where
   window : WindowAgrees o s.window t
   quiet : IsQuiet (m ∷ [])
-  arrived : ArrivalsAgree s.window s.arrived t
 
 -- the code of a query's response
 asked_code : (there : Bool) → cond there 7 0 ≡ response_code (cond there Succeeded Complete)
@@ -152,10 +151,6 @@ module _ (o : Setting) (s : Core) (t : Trace) (m : Mark) (e : Effect) (a : Arriv
           unfinished = b.unfinished_is ∙ sym (unfinished-untouched item t u);
           enabled = EnabledSoFar-untouched o item t u b.enabled;
           level = b.level;
-          arrived = record {
-            long = before.arrived.long ∙ sym long;
-            at_place = λ n c lt found. before.arrived.at_place n c (omega (arith, lt, long)) (held_before item t (number_expected s.window + n) c (admits (number_expected s.window + n)) found);
-          };
           waiting = record { list = mute.waits (waiting_by m (waiting t)) ∙ b.waiting; may = b.may; known = b.waiting_known };
           open_conns = b.open_is ∙ sym (open_of-same o item t (closes-more m ms b.closes_no mute.closes));
         },
@@ -248,8 +243,8 @@ position_of o s a first number = rw (number, first)
 
 -- ---- at its turn
 
-pub turned-item : (o : Setting) (s : Core) (t : Trace) (r : Request) → Agrees o s t → at_place s.window 0 ≡ Some (Some r) → (x : Next s.window t r)
-    → Agrees o (with_executed (turned_core s) r (next_arrived s)) (item_of o t x.arrival ∷ t) × (Deliver r ∷ executed_effects (turned_core s) r (next_arrived s) ≡ effects_of_item o t (item_of o t x.arrival))
+pub turned-item : (o : Setting) (s : Core) (t : Trace) (r : HeldRequest) → Agrees o s t → at_place s.window 0 ≡ Some (Some r) → (x : Next s.window t r)
+    → Agrees o (with_executed (turned_core s) r.request r.event) (item_of o t x.arrival ∷ t) × (Deliver r.request ∷ executed_effects (turned_core s) r.request r.event ≡ effects_of_item o t (item_of o t x.arrival))
 turned-item o s t r h place x =
     let a : Arrival = x.arrival in
     let b = turn-begun o s t r h place x in
@@ -257,13 +252,13 @@ turned-item o s t r h place x =
     let number : a.number ≡ number_expected s.window = held-number t (number_expected s.window) a x.held_is in
     let shows = h.window.numbers (number_expected s.window) a (admitted_of_held t (number_expected s.window) a x.held_is) ∙ ap wire (sym number) in
     let next : a.number + 1 ≡ number_expected (turned_window s.window) = omega (arith, number) in
-    subst (λ q. Follows o t (item_of o t a) (with_executed (turned_core s) q (next_arrived s)) (Deliver q ∷ executed_effects (turned_core s) q (next_arrived s))) x.request_is
-    (executes o (turned_core s) t (Delivers a) (Deliver a.request) a (next_arrived s) b same (event_next o s t r h x) (record {
+    subst (λ (q : HeldRequest). Follows o t (item_of o t a) (with_executed (turned_core s) q.request q.event) (Deliver q.request ∷ executed_effects (turned_core s) q.request q.event)) x.request_is
+    (executes o (turned_core s) t (Delivers a) (Deliver a.request) a a.event b same (event_next o s t r h x) (record {
       position_is = position_of o (turned_core s) a h.window.first same;
-      event_is = arrived_next o s t r h place x;
+      event_is = refl;
       aborts = λ unit inside one. AbortsAs-turned o s t r unit h place x;
       windowed = λ unit said.
-          let never = of_no_number (turned_core s) a.request (position_by (turned_core s) a.request) (next_arrived s) unit (λ one. numbered_outcome (turned_core s) a.request unit a.number (numbered_held o s t r h x) next shows) in
+          let never = of_no_number (turned_core s) a.request (position_by (turned_core s) a.request) a.event unit (λ one. numbered_outcome (turned_core s) a.request unit a.number (numbered_held o s t r h x) next shows) in
           absurd (false≢true (sym never ∙ said));
     }))
 
@@ -283,7 +278,6 @@ immediate_begun o s t a waits h immediate known w = record {
   known = known;
   first = h.window.first;
   level = h.level;
-  arrived = λ ms q. ArrivalsAgree-quiet s.window s.arrived t (Executes a ∷ ms) (quiet_executes a ms q) h.arrived;
   waiting = w.list;
   may = w.may;
   waiting_known = w.known;
@@ -359,7 +353,7 @@ module _ (o : Setting) (s : Core) (index : ℕ) (t : Trace) (r : Request) (h : S
         position_is = position_of o s a now.window.first number;
         event_is = last;
         aborts = λ unit inside one. AbortsAs-arrived o s index t r unit h immediate inside waits;
-        windowed = λ unit said. record { window = now.window; quiet = quiet_executes a [] (search); arrived = now.arrived };
+        windowed = λ unit said. record { window = now.window; quiet = quiet_executes a [] (search) };
       })
 
   -- it waits
@@ -422,10 +416,10 @@ module _ (o : Setting) (s : Core) (index : ℕ) (t : Trace) (r : Request) (h : S
 
 -- ---- what doesn't change
 
-emptied_expected : (w : Received) (sn : ℕ) → number_expected (emptied w sn) ≡ number_expected w
+emptied_expected : (w : Arrived) (sn : ℕ) → number_expected (emptied w sn) ≡ number_expected w
 emptied_expected w sn = grind arith
 
-voided_expected : (w : Received) (sn : ℕ) → number_expected (voided w sn) ≡ number_expected w
+voided_expected : (w : Arrived) (sn : ℕ) → number_expected (voided w sn) ≡ number_expected w
 voided_expected w sn = grind arith
 
 function_same : (s : Core) (r : Request) (position : ℤ) (event : ℕ) → number_expected (performed s r position event).window ≡ number_expected s.window

@@ -5,7 +5,7 @@ use Rattle.std.proofs.lemmas.List.{get_or-set_same, set-set}
 use Rattle.iscsi_wire.specs.declared.reply.Reply.{Reply}
 use Rattle.iscsi_wire.specs.declared.reply.Reply.TheVariants.{Task as TaskReply}
 use Rattle.iscsi_wire.specs.Fields.{connection_of, itt}
-use Rattle.iscsi_window.specs.Windows.{Received, with_unfinished}
+use Rattle.iscsi_window.specs.Windows.{Arrived, with_unfinished}
 use Rattle.iscsi_tasks.specs.declared.task.Task.{Task}
 use Rattle.iscsi_tasks.specs.declared.member.Member.{Member}
 use Rattle.iscsi_tasks.specs.Sets.{Members, opened}
@@ -39,7 +39,7 @@ use Rattle.iscsi_session.proofs.ExecutionLemmas.{Begun}
 -- ---- the window
 
 -- fewer are unfinished
-pub WindowAgrees-fewer : (o : Setting) (w : Received) (t : Trace) (n : ℕ) → n ≤ w.unfinished → WindowAgrees o w t → WindowAgrees o (with_unfinished w n) t
+pub WindowAgrees-fewer : (o : Setting) (w : Arrived) (t : Trace) (n : ℕ) → n ≤ w.unfinished → WindowAgrees o w t → WindowAgrees o (with_unfinished w n) t
 WindowAgrees-fewer o w t n less a =
     search (arith, a.free)
 
@@ -172,7 +172,6 @@ module _ (o : Setting) (s : Core) (t : Trace) (m : Mark) (e : Effect) (a : Arriv
   agrees =
       let fewer = fewer_counted is_numbered (λ l. not (out l.ticket)) s.live in
       let quiet = quiet-leaving gone a reply in
-      let now = b.arrived (map Leaves gone ++ reply_on a reply) quiet in
       record {
         events = b.events;
         window = WindowAgrees-fewer o s.window (item ∷ t) (s.window.unfinished + count_by is_numbered rest - count_by is_numbered s.live) (omega (arith, fewer)) (b.window (map Leaves gone ++ reply_on a reply) quiet);
@@ -182,7 +181,6 @@ module _ (o : Setting) (s : Core) (t : Trace) (m : Mark) (e : Effect) (a : Arriv
         unfinished = omega (arith, numbered_live o s.live s.entered t b.commands, numbered_live o rest s.entered (item ∷ t) commands, b.unfinished_is);
         enabled = EnabledSoFar-left o item t out leaves (units_live o rest s.entered (item ∷ t) commands) b.enabled;
         level = b.level;
-        arrived = record { long = now.long; at_place = now.at_place };
         waiting = record { list = leaving-calm gone a reply (waiting_by m (waiting t)) ∙ b.waiting; may = b.may; known = b.waiting_known };
         open_conns = b.open_is ∙ sym (open_of-same o item t (closes-more m (map Leaves gone ++ reply_on a reply) b.closes_no (leaving-closes gone a reply)));
       }

@@ -7,7 +7,7 @@ use Rattle.std.proofs.lemmas.Bool.Decides.{nat_tests}
 use Rattle.std.proofs.lemmas.List.{length-map, get_or-set_same, get_or-set_other, get_or_default, get_or-take, length-take-le, take_more, map-append}
 use Rattle.std.proofs.lemmas.List.Folds.{list_any_none, list_all-map, list_any_more}
 use Rattle.std.proofs.lemmas.List.Sums.{sum_by-cons, AllPass-from_list_all}
-use Rattle.iscsi_window.specs.Windows.{Received, with_unfinished}
+use Rattle.iscsi_window.specs.Windows.{Arrived, with_unfinished}
 use Rattle.iscsi_tasks.specs.declared.task.Task.{Task}
 use Rattle.iscsi_tasks.specs.declared.member.Member.{Member}
 use Rattle.iscsi_tasks.specs.Sets.{Members, opened, tasks_in, left_by, with_ticket, uncovered, is_new}
@@ -207,10 +207,10 @@ module _ (now : Members) (covers : Task → Bool) where
           grind (arith, rest, first)
 
 -- the places that are given back one after the other
-pub finished_on : (w v : Received) (a b c : List Live) → v ≡ finished_by w a b → count_by is_numbered a ≤ w.unfinished → count_by is_numbered c ≤ count_by is_numbered b → count_by is_numbered b ≤ count_by is_numbered a → finished_by v b c ≡ finished_by w a c
+pub finished_on : (w v : Arrived) (a b c : List Live) → v ≡ finished_by w a b → count_by is_numbered a ≤ w.unfinished → count_by is_numbered c ≤ count_by is_numbered b → count_by is_numbered b ≤ count_by is_numbered a → finished_by v b c ≡ finished_by w a c
 finished_on w v a b c is few less_c less_b = rw is (ap (with_unfinished w) (omega arith))
 
-pub finished_none : (w : Received) (a : List Live) → finished_by w a a ≡ w
+pub finished_none : (w : Arrived) (a : List Live) → finished_by w a a ≡ w
 finished_none w a = ap (with_unfinished w) {y = w.unfinished} (omega arith)
 
 -- ---- the one with a ticket

@@ -1,7 +1,6 @@
 pub mod ListLemmas
 pub mod OpenConns
 pub mod RefusalLemmas
-pub mod ArrivedLemmas
 pub mod WaitLemmas
 pub mod AgreeLemmas
 pub mod TurnLemmas

@@ -2,9 +2,9 @@
 use Rattle.std.proofs.Common.{Bool, ◌++◌, ◌≡◌, ℕ, ◌==◌, not, true, List, [], ◌∷◌, map, Option, refl, ◌∙◌, arith}
 use Rattle.std.specs.List.{list_all}
 use Rattle.std.proofs.lemmas.List.Folds.{list_all-append}
+use Rattle.iscsi_window.specs.declared.held_request.HeldRequest.{HeldRequest}
 use Rattle.iscsi_commands.specs.declared.live.Live.{Live}
 use Rattle.iscsi_history.specs.rules.Settings.{is_known}
-use Rattle.iscsi_wire.specs.declared.request.Request.{Request}
 use Rattle.iscsi_session.specs.private.Standing.{are_known, is_place_known}
 use Rattle.iscsi_session.specs.private.Steps.{count_reply, without_ticket}
 use Rattle.iscsi_history.proofs.ListLemmas.{is_known-cids, list_all-filter, list_all-same}
@@ -33,8 +33,8 @@ pub are_known-left : (ticket : ℕ) (lives : List Live) (conns : List (ℕ × �
 are_known-left ticket lives conns h = list_all-filter (λ l. not (l.ticket == ticket)) (λ l. is_known l.conn conns) lives h
 
 -- and the requests that are held
-pub are_places_known-replied : (cid : ℕ) (places : List (Option (Option Request))) (conns : List (ℕ × ℕ)) → list_all (is_place_known conns) places ≡ true → list_all (is_place_known (count_reply cid conns)) places ≡ true
+pub are_places_known-replied : (cid : ℕ) (places : List (Option (Option HeldRequest))) (conns : List (ℕ × ℕ)) → list_all (is_place_known conns) places ≡ true → list_all (is_place_known (count_reply cid conns)) places ≡ true
 are_places_known-replied cid places conns h = list_all-same (is_place_known (count_reply cid conns)) (is_place_known conns) places same ∙ h
   where
-    same : (p : Option (Option Request)) → is_place_known (count_reply cid conns) p ≡ is_place_known conns p
+    same : (p : Option (Option HeldRequest)) → is_place_known (count_reply cid conns) p ≡ is_place_known conns p
     same p = grind (arith, is_known-replied cid)

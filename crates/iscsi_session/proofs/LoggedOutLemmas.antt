@@ -1,6 +1,7 @@
 -- What a Logout leaves as it is.
 use Rattle.std.proofs.Common.{◌≡◌, ℕ, ◌≤◌, not, cond, Bool, List, [], ◌∷◌, length, map, count_by, is_some, length-set, Option, Some, None, refl, ap, ◌∙◌, arith}
 use Rattle.std.proofs.lemmas.List.Sums.{sum_by-cons}
+use Rattle.iscsi_window.specs.declared.held_request.HeldRequest.{HeldRequest}
 use Rattle.iscsi_wire.specs.declared.request.Request.{Request}
 use Rattle.iscsi_wire.specs.Fields.{connection_of}
 use Rattle.iscsi_window.specs.Windows.{number_expected, is_asked, with_unfinished}
@@ -45,13 +46,13 @@ module _ (s s' : Core) (k : Keeps s s') (scope : Option ℕ) where
 
 -- ---- held requests are taken out
 
-emptied_counted : (scope : Option ℕ) (ps : List (Option (Option Request))) → count_by is_some (map (emptied_place scope) ps) ≡ count_by is_some ps
+emptied_counted : (scope : Option ℕ) (ps : List (Option (Option HeldRequest))) → count_by is_some (map (emptied_place scope) ps) ≡ count_by is_some ps
 emptied_counted scope ps = simp (count_by-map, same)
   where
-    same : (p : Option (Option Request)) → is_some (emptied_place scope p) ≡ is_some p
+    same : (p : Option (Option HeldRequest)) → is_some (emptied_place scope p) ≡ is_some p
     same p = grind arith
 
-emptied_fewer : (scope : Option ℕ) (ps : List (Option (Option Request))) → count_by is_held (map (emptied_place scope) ps) ≤ count_by is_held ps
+emptied_fewer : (scope : Option ℕ) (ps : List (Option (Option HeldRequest))) → count_by is_held (map (emptied_place scope) ps) ≤ count_by is_held ps
 emptied_fewer scope [] = omega arith
 emptied_fewer scope (p ∷ ps) =
     grind (arith, sum_by-cons (λ q. cond (is_held q) 1 0) (emptied_place scope p) (map (emptied_place scope) ps), sum_by-cons (λ q. cond (is_held q) 1 0) p ps, emptied_fewer scope ps)

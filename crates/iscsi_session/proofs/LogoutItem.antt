@@ -23,7 +23,7 @@ use Rattle.iscsi_history.specs.rules.Execution.{NO_TAG, reply_on, unfinished}
 use Rattle.iscsi_history.specs.rules.Logout.{live_of_units, is_open, is_last_open, taken_out, parting, end_session, close_conn, logout_marks}
 use Rattle.iscsi_history.specs.rules.Management.{may_wait}
 use Rattle.iscsi_history.specs.rules.Run.{effects_of_mark, effects_of_item, newly_enabled, stat_sn_of}
-use Rattle.iscsi_session.specs.private.Standing.{Core, Agrees, WindowAgrees, ArrivalsAgree, CommandsAgree, SetsAgree, arrival_waiting, open_of, task_of}
+use Rattle.iscsi_session.specs.private.Standing.{Core, Agrees, WindowAgrees, CommandsAgree, SetsAgree, arrival_waiting, open_of, task_of}
 use Rattle.iscsi_session.specs.private.Steps.{set_at, all_given}
 use Rattle.iscsi_session.specs.private.Functions.{set_staying}
 use Rattle.iscsi_session.specs.private.Closing.{is_among_open, closing_by, units_of, covers_of, all_leaving_effects, left_to, still_open, waiting_then, close_effects, all_enable_effects, logged_out, logout_effects, closed_as, closed_effects}
@@ -44,7 +44,7 @@ use Rattle.iscsi_session.proofs.ExecutionLemmas.{Begun, Executed, answered}
 use Rattle.iscsi_session.proofs.LeavingLemmas.{WindowAgrees-fewer, numbered_live, gone_tickets, leaving_shown, SetLeft, set_left}
 use Rattle.iscsi_session.proofs.LoggedOutLemmas.{Keeps, left_keeps}
 use Rattle.iscsi_session.proofs.LogoutUnits.{sets_left, gone_in, live_staying, effects_leaving, unfinished_left}
-use Rattle.iscsi_session.proofs.EmptyingLemmas.{taken_requests, emptied_from-is, WindowAgrees-logged_out, ArrivalsAgree-logged_out}
+use Rattle.iscsi_session.proofs.EmptyingLemmas.{taken_requests, emptied_from-is, WindowAgrees-logged_out}
 
 -- ---- what the closing marks come to
 
@@ -231,11 +231,6 @@ module _ (o : Setting) (s : Core) (t : Trace) (m : Mark) (e : Effect) (a : Arriv
   window : WindowAgrees o (logged_out s a.request scope).window (item ∷ t)
   window = WindowAgrees-logged_out o left.window t m scope cs rest left_agrees (quiet-closing o t₁ a scope)
 
-  arrived : ArrivalsAgree (logged_out s a.request scope).window left.arrived (item ∷ t)
-  arrived =
-      let now : ArrivalsAgree s.window s.arrived t₁ = b.arrived [] quiet_none in
-      ArrivalsAgree-logged_out o left.window t m scope cs rest left_agrees (quiet-closing o t₁ a scope) left.arrived (rw k.same (record { long = now.long; at_place = now.at_place }))
-
   -- ---- the connections
 
   abbrev cids : List ℕ
@@ -301,7 +296,6 @@ module _ (o : Setting) (s : Core) (t : Trace) (m : Mark) (e : Effect) (a : Arriv
     unfinished = numbered;
     enabled = EnabledSoFar-left o item t out leaves (units_live o left.live s.entered (item ∷ t) commands) b.enabled;
     level = rw k.same b.level;
-    arrived = arrived;
     waiting = record { list = waits; may = still_all (λ w. may_wait w.request) b.may; known = still_all (λ w. is_known (connection_of w.request) o.conns) b.waiting_known };
     open_conns = rw (k.same, b.open_is, open_after) (stays_open scope);
   }

@@ -1,5 +1,5 @@
 -- What a session keeps when a request executes: its window, the functions that wait, and how many effects are to come.
-use Rattle.std.proofs.Common.{◌≡◌, ℕ, ℤ, zero, suc, ◌+◌, ◌-◌, ◌*◌, ◌<◌, ◌≤◌, ◌==◌, ◌&&◌, not, cond, Bool, true, false, List, [], ◌∷◌, ◌++◌, length, take, filter, get_or, set, count_by, is_some, Option, Some, None, refl, ap, sym, ◌∙◌, ⊎_elim, arith, length-set}
+use Rattle.std.proofs.Common.{◌≡◌, ℕ, ℤ, zero, suc, ◌+◌, ◌-◌, ◌*◌, ◌<◌, ◌≤◌, ◌==◌, ◌&&◌, not, cond, Bool, true, false, List, [], ◌∷◌, ◌++◌, length, take, filter, get_or, set, count_by, is_some, Option, Some, None, refl, ap, sym, ◌∙◌, ⊎_elim, arith}
 use Rattle.std.specs.List.{list_all}
 use Rattle.std.proofs.lemmas.Bool.{false≢true, eqb-true, cases_lt}
 use Rattle.std.proofs.lemmas.Bool.Decides.{nat_tests}
@@ -8,14 +8,14 @@ use Rattle.std.proofs.lemmas.List.Quantifiers.{position-Some}
 use Rattle.std.proofs.lemmas.List.Folds.{list_all-append}
 use Rattle.std.proofs.lemmas.List.Sums.{length-filter}
 use Rattle.std.proofs.lemmas.List.Filters.{length-filter_both}
+use Rattle.iscsi_window.specs.declared.held_request.HeldRequest.{HeldRequest}
 use Rattle.iscsi_wire.specs.declared.request.Request.{Request}
 use Rattle.iscsi_wire.specs.declared.reply.Reply.{Reply}
 use Rattle.iscsi_wire.specs.Fields.{connection_of, is_immediate, opcode, function, rtt, cmd_sn, ref_cmd_sn}
 use Rattle.iscsi_wire.specs.Serial.{wire, lift}
 use Rattle.iscsi_window.specs.declared.answer.Place.{Place}
 use Rattle.iscsi_window.specs.declared.answer.Place.TheVariants.{Inside, Outside}
-use Rattle.iscsi_window.specs.declared.answer.Offer.TheVariants.{Held}
-use Rattle.iscsi_window.specs.Windows.{offer_to, offered_to, Received, IsSound, IsInside, number_expected, room_of, at_place, place_in, held_at, is_command, find_command, number_shown, voided, emptied, with_unfinished}
+use Rattle.iscsi_window.specs.Windows.{Arrived, IsSound, IsInside, number_expected, room_of, at_place, place_in, held_at, holds_command, find_held, number_shown, voided, emptied, with_unfinished}
 use Rattle.iscsi_tasks.specs.declared.task.Task.{Task}
 use Rattle.iscsi_tasks.specs.declared.member.Member.{Member}
 use Rattle.iscsi_tasks.specs.Sets.{Members, opened, is_covered, entered_to, looked_at, given_by}
@@ -30,7 +30,7 @@ use Rattle.iscsi_history.specs.rules.Settings.{is_known}
 use Rattle.iscsi_history.specs.rules.Execution.{unit_named}
 use Rattle.iscsi_history.specs.rules.Management.{may_wait, refusal_to}
 use Rattle.iscsi_session.specs.private.Standing.{Core, is_held}
-use Rattle.iscsi_session.specs.private.Steps.{noted_in, KeepsPace, is_numbered, new_live, set_at, set_entered, new_task, with_command, with_reply, verdict_by, executed_as}
+use Rattle.iscsi_session.specs.private.Steps.{KeepsPace, is_numbered, new_live, set_at, set_entered, new_task, with_command, with_reply, verdict_by, executed_as}
 use Rattle.iscsi_session.specs.private.Functions.{abort_by, outcome_by, staying, covers_ticket, aborted, performed_as, ungiven, ungiven_in, owed}
 use Rattle.iscsi_session.specs.private.Turning.{waiting_in, wait_by, deferral_by, performed, managed, position_by, with_executed}
 use Rattle.iscsi_session.specs.declared.closing.Closing.{Closing}
@@ -42,15 +42,6 @@ use Rattle.iscsi_history.proofs.PlaceLemmas.{taken_at, taken_fewer}
 use Rattle.iscsi_history.proofs.SetLemmas.{ungiven_given}
 use Rattle.iscsi_session.proofs.MissingLemmas.{inside_place}
 use Rattle.iscsi_session.proofs.WindowLemmas.{emptied_changes, voided_changes}
-
--- ---- an offer
-
-pub length-noted : (p : Place) (arrived : List ℕ) (event : ℕ) → length (noted_in p arrived event) ≡ length arrived
-length-noted Outside arrived event = refl
-length-noted (Inside k) arrived event = length-set arrived k event
-
-pub unheld_same : (w : Received) (r : Request) → (offer_to w r ≡ Held → ⊥) → offered_to w r ≡ w
-unheld_same w r apart = grind arith
 
 -- ---- how many functions wait
 
@@ -117,27 +108,27 @@ later s r said = by_refusal (opcode r == 0x02 && may_wait r) (refusal_to s.level
 -- ---- what a function does to the window
 
 -- no request more is held, and no command more has begun
-pub record Eased (old new : Received) : Type 0 where
+pub record Eased (old new : Arrived) : Type 0 where
   pub held : count_by is_held new.places ≤ count_by is_held old.places
   pub pace : KeepsPace old new
 
-eased_same : (w : Received) → Eased w w
+eased_same : (w : Arrived) → Eased w w
 eased_same w = record { held = omega arith; pace = omega arith }
 
 -- and no place becomes received or free
-pub record Calm (old new : Received) : Type 0 where
+pub record Calm (old new : Arrived) : Type 0 where
   pub eased : Eased old new
   pub counted : count_by is_some new.places ≡ count_by is_some old.places
 
-calm_same : (w : Received) → Calm w w
+calm_same : (w : Arrived) → Calm w w
 calm_same w = record { eased = eased_same w; counted = refl }
 
-calm_emptied : (w : Received) (sn : ℕ) → Calm w (emptied w sn)
+calm_emptied : (w : Arrived) (sn : ℕ) → Calm w (emptied w sn)
 calm_emptied w sn =
     let g = emptied_changes w sn in
     record { eased = record { held = omega (arith, g.held_is); pace = omega (arith, g.unfinished, g.turned) }; counted = omega (arith, g.counted) }
 
-eased_voided : (w : Received) (sn : ℕ) → Eased w (voided w sn)
+eased_voided : (w : Arrived) (sn : ℕ) → Eased w (voided w sn)
 eased_voided w sn = by_place (place_in w sn) refl
   where
     by_place : (p : Place) → place_in w sn ≡ p → Eased w (voided w sn)
@@ -157,7 +148,7 @@ calm_aborted s r unit covers = calm_finished s (staying covers (set_at s unit) s
 -- a number is emptied where a command is held
 pub record Emptying (s : Core) (r : Request) (unit sn : ℕ) : Type 0 where
   pub k : ℕ
-  pub found : find_command s.window (rtt r) unit (cmd_sn r) ≡ Some k
+  pub found : find_held s.window (rtt r) unit (cmd_sn r) ≡ Some k
   pub shown : number_shown s.window k ≡ sn
 
 -- a number inside is voided by an immediate ABORT TASK
@@ -191,14 +182,14 @@ module _ (s : Core) (r : Request) (number : ℤ) (event unit : ℕ) where
       by_place (Inside k) is = rw (← same, is) tt
 
   pub outcome_empties : (sn : ℕ) → outcome_by s r number event unit ≡ EmptyNumber sn → Emptying s r unit sn
-  outcome_empties sn said = by_place (find_command s.window (rtt r) unit (cmd_sn r)) refl
+  outcome_empties sn said = by_place (find_held s.window (rtt r) unit (cmd_sn r)) refl
     where
-      by_place : (y : Option ℕ) → find_command s.window (rtt r) unit (cmd_sn r) ≡ y → Emptying s r unit sn
+      by_place : (y : Option ℕ) → find_held s.window (rtt r) unit (cmd_sn r) ≡ y → Emptying s r unit sn
       by_place None is = absurd (grind arith)
       by_place (Some k) is = record { k = k; found = is; shown = grind arith }
 
 -- a request is held at the number of a command that is found
-pub found_held : (w : Received) (tag unit sn k : ℕ) → IsSound w → find_command w tag unit sn ≡ Some k → is_some (held_at w (place_in w (number_shown w k))) ≡ true
+pub found_held : (w : Arrived) (tag unit sn k : ℕ) → IsSound w → find_held w tag unit sn ≡ Some k → is_some (held_at w (place_in w (number_shown w k))) ≡ true
 found_held w tag unit sn k sound found = by_place (at_place w k) refl
   where
     e : ℕ
@@ -208,12 +199,12 @@ found_held w tag unit sn k sound found = by_place (at_place w k) refl
     ahead = lift e sn - e
 
     within : k < length (take ahead w.places)
-    within = (position-Some (is_command tag unit) (take ahead w.places) k None found).0
+    within = (position-Some (holds_command tag unit) (take ahead w.places) k None found).0
 
-    here : is_command tag unit (at_place w k) ≡ true
-    here = rw (taken_at ahead w.places k None within) at (position-Some (is_command tag unit) (take ahead w.places) k None found).1
+    here : holds_command tag unit (at_place w k) ≡ true
+    here = rw (taken_at ahead w.places k None within) at (position-Some (holds_command tag unit) (take ahead w.places) k None found).1
 
-    by_place : (p : Option (Option Request)) → at_place w k ≡ p → is_some (held_at w (place_in w (number_shown w k))) ≡ true
+    by_place : (p : Option (Option HeldRequest)) → at_place w k ≡ p → is_some (held_at w (place_in w (number_shown w k))) ≡ true
     by_place None is = absurd (false≢true (rw is at here))
     by_place (Some None) is = absurd (false≢true (rw is at here))
     by_place (Some (Some r)) is =
@@ -256,13 +247,6 @@ waiting_performed s r number event = through_performed (λ t. t.waiting ≡ s.wa
     by_outcome : (unit : ℕ) (x : Outcome) → (performed_as s r unit x).waiting ≡ s.waiting
     by_outcome unit (Respond response) = refl
     by_outcome unit _ = refl
-
-pub waiting_executed : (s : Core) (r : Request) (event : ℕ) → length (with_executed s r event).waiting ≤ length s.waiting
-waiting_executed s r event = through_executed (λ t. length t.waiting ≤ length s.waiting) s r event (omega arith) (omega (arith, ap length (waiting_performed s r (position_by s r) event))) (λ x. (closed_parts s r x).waiting) by_verdict
-  where
-    by_verdict : (v : Verdict) → length (executed_as s r v).waiting ≤ length s.waiting
-    by_verdict Nothing = omega arith
-    by_verdict _ = omega arith
 
 pub eased_performed : (s : Core) (r : Request) (number : ℤ) (event : ℕ) → Eased s.window (performed s r number event).window
 eased_performed s r number event = through_performed (λ t. Eased s.window t.window) s r number event (eased_same s.window) (λ unit. by_outcome unit (outcome_by s r number event unit))
@@ -312,7 +296,7 @@ eased_executed s r event immediate = through_executed (λ t. Eased s.window t.wi
     by_verdict _ = eased_same s.window
 
 -- a numbered one leaves the places as they are, but for one that is emptied
-pub record Placed (old new : Received) : Type 0 where
+pub record Placed (old new : Arrived) : Type 0 where
   pub held : count_by is_held new.places ≤ count_by is_held old.places
   pub counted : count_by is_some new.places ≡ count_by is_some old.places
 

@@ -5,14 +5,14 @@ use Rattle.std.proofs.lemmas.Grind.{get_or-set_at}
 use Rattle.std.proofs.lemmas.Bool.{cases_eq, cases_lt, eqb-true}
 use Rattle.std.proofs.lemmas.Bool.Decides.{nat_tests}
 use Rattle.std.proofs.lemmas.List.{append-nil, get_or-set_other}
-use Rattle.iscsi_wire.specs.declared.request.Request.{Request}
+use Rattle.iscsi_window.specs.declared.held_request.HeldRequest.{HeldRequest}
 use Rattle.iscsi_wire.specs.Serial.{wire, lift, number_of_first}
 use Rattle.iscsi_window.specs.declared.answer.Place.TheVariants.{Inside}
-use Rattle.iscsi_window.specs.Windows.{Received, number_expected, room_of, at_place, with_place, place_in, received_at, is_received_at, voided, emptied}
+use Rattle.iscsi_window.specs.Windows.{Arrived, number_expected, room_of, at_place, with_place, place_in, received_at, is_received_at, voided, emptied}
 use Rattle.iscsi_history.specs.rules.Settings.{Setting}
 use Rattle.iscsi_history.specs.rules.Trace.{Arrival, Mark, Voids, Empties, Trace, shown, first_of, contains, is_received, is_emptied, held, admits_at, delivers_number}
 use Rattle.iscsi_history.specs.promises.Executed.{delivers, request_at}
-use Rattle.iscsi_session.specs.private.Standing.{place_of, WindowAgrees}
+use Rattle.iscsi_session.specs.private.Standing.{held_of, place_of, WindowAgrees}
 use Rattle.iscsi_history.proofs.BoolLemmas.{or_none, or_false, or_second}
 use Rattle.iscsi_history.proofs.HeldLemmas.{held-number, held_received, unreceived_unheld}
 use Rattle.iscsi_history.proofs.DeliveryLemmas.{IsQuiet, same_range}
@@ -31,7 +31,7 @@ record Clears (item : List Mark) (t : Trace) (n : ℕ) : Type 0 where
   delivers_none : filter_map delivers item ≡ []
   delivers_no : (k : ℕ) → list_any (delivers_number k) item ≡ false
 
-WindowAgrees-clears : (o : Setting) (w : Received) (item : List Mark) (t : Trace) (n : ℕ) → WindowAgrees o w t → Clears item t n → number_expected w ≤ n → n < number_expected w + room_of w
+WindowAgrees-clears : (o : Setting) (w : Arrived) (item : List Mark) (t : Trace) (n : ℕ) → WindowAgrees o w t → Clears item t n → number_expected w ≤ n → n < number_expected w + room_of w
     → WindowAgrees o (with_place w (n - number_expected w) (Some None)) (item ∷ t)
 WindowAgrees-clears o w item t n h v low high = record {
   first = h.first;
@@ -73,7 +73,7 @@ WindowAgrees-clears o w item t n h v low high = record {
         get_or-set_other w.places (n - e) k (Some None) None differ ∙ h.inside k lt ∙ rw (v.received_is (e + k), no, or_false, v.other (e + k) no)
 
 -- a number is received without a request
-pub WindowAgrees-voided : (o : Setting) (w : Received) (t : Trace) (m : Mark) (n : ℕ) (ms : List Mark) → WindowAgrees o w t → IsQuiet (m ∷ []) → IsQuiet ms → number_expected w ≤ n → n < number_expected w + room_of w → is_received t n ≡ false
+pub WindowAgrees-voided : (o : Setting) (w : Arrived) (t : Trace) (m : Mark) (n : ℕ) (ms : List Mark) → WindowAgrees o w t → IsQuiet (m ∷ []) → IsQuiet ms → number_expected w ≤ n → n < number_expected w + room_of w → is_received t n ≡ false
     → WindowAgrees o (with_place w (n - number_expected w) (Some None)) ((m ∷ Voids n ∷ ms) ∷ t)
 WindowAgrees-voided o w t m n ms h q qs low high new =
     let item : List Mark = m ∷ Voids n ∷ ms in
@@ -90,27 +90,27 @@ WindowAgrees-voided o w t m n ms h q qs low high new =
     }) low high
 
 -- what the window keeps of a number inside
-read_inside : (o : Setting) (w : Received) (t : Trace) (n : ℕ) → WindowAgrees o w t → number_expected w ≤ n → n < number_expected w + length w.places → at_place w (n - number_expected w) ≡ place_of t n
+read_inside : (o : Setting) (w : Arrived) (t : Trace) (n : ℕ) → WindowAgrees o w t → number_expected w ≤ n → n < number_expected w + length w.places → at_place w (n - number_expected w) ≡ place_of t n
 read_inside o w t n h low high =
     let at : number_expected w + (n - number_expected w) ≡ n = omega arith in
     h.inside (n - number_expected w) (omega arith) ∙ rw at
 
 -- a held request is in the part of the window that no live command takes
-record HeldAt (w : Received) (t : Trace) (n : ℕ) (r : Request) : Type 0 where
+record HeldAt (w : Arrived) (t : Trace) (n : ℕ) (r : HeldRequest) : Type 0 where
   there : is_received t n ≡ true
   read : at_place w (n - number_expected w) ≡ Some (Some r)
   high : n < number_expected w + room_of w
 
-held_inside : (o : Setting) (w : Received) (t : Trace) (n : ℕ) (h : Arrival) → WindowAgrees o w t → held t n ≡ Some h → number_expected w ≤ n → n < number_expected w + length w.places → HeldAt w t n h.request
+held_inside : (o : Setting) (w : Arrived) (t : Trace) (n : ℕ) (h : Arrival) → WindowAgrees o w t → held t n ≡ Some h → number_expected w ≤ n → n < number_expected w + length w.places → HeldAt w t n (held_of h)
 held_inside o w t n h a is low high =
     let k : ℕ = n - number_expected w in
     let there : is_received t n ≡ true = held_received t n h is in
-    let read : at_place w k ≡ Some (Some h.request) = read_inside o w t n a low high ∙ rw (there, is) in
+    let read : at_place w k ≡ Some (Some (held_of h)) = read_inside o w t n a low high ∙ rw (there, is) in
     let not_last : k + w.unfinished < length w.places = ⊎_elim (λ lt. lt) (λ last. absurd (let free = a.free k last in cc)) (cases_lt (k + w.unfinished) (length w.places)) in
     record { there = there; read = read; high = omega (arith, not_last) }
 
 -- it is taken out
-pub WindowAgrees-emptied : (o : Setting) (w : Received) (t : Trace) (m : Mark) (n : ℕ) (h : Arrival) (ms : List Mark) → WindowAgrees o w t → IsQuiet (m ∷ []) → IsQuiet ms → held t n ≡ Some h → number_expected w ≤ n → n < number_expected w + length w.places
+pub WindowAgrees-emptied : (o : Setting) (w : Arrived) (t : Trace) (m : Mark) (n : ℕ) (h : Arrival) (ms : List Mark) → WindowAgrees o w t → IsQuiet (m ∷ []) → IsQuiet ms → held t n ≡ Some h → number_expected w ≤ n → n < number_expected w + length w.places
     → WindowAgrees o (with_place w (n - number_expected w) (Some None)) ((m ∷ Empties h ∷ ms) ∷ t)
 WindowAgrees-emptied o w t m n h ms a q qs is low high =
     let item : List Mark = m ∷ Empties h ∷ ms in
@@ -135,32 +135,32 @@ WindowAgrees-emptied o w t m n h ms a q qs is low high =
 -- ---- what the window becomes, by the number that the wire shows
 
 -- a place of the window is that of a number inside
-pub inside_place : (w : Received) (n x : ℕ) → number_expected w ≤ n → n < number_expected w + room_of w → lift (number_expected w) x ≡ n → place_in w x ≡ Inside (n - number_expected w)
+pub inside_place : (w : Arrived) (n x : ℕ) → number_expected w ≤ n → n < number_expected w + room_of w → lift (number_expected w) x ≡ n → place_in w x ≡ Inside (n - number_expected w)
 inside_place w n x low high is =
     let test : (nat_le (number_expected w) n && nat_lt n (number_expected w + room_of w)) ≡ true = grind (arith, nat_tests) in
     rw (is, test)
 
 -- a number inside is voided
-pub record VoidedAt (w : Received) (t : Trace) (x n : ℕ) : Type 0 where
+pub record VoidedAt (w : Arrived) (t : Trace) (x n : ℕ) : Type 0 where
   pub new : is_received t n ≡ false → voided w x ≡ with_place w (n - number_expected w) (Some None)
   pub known : is_received t n ≡ true → voided w x ≡ w
   pub received_is : is_received_at w (place_in w x) ≡ is_received t n
 
-pub voided_at : (o : Setting) (w : Received) (t : Trace) (x n : ℕ) → WindowAgrees o w t → number_expected w ≤ n → n < number_expected w + room_of w → lift (number_expected w) x ≡ n → VoidedAt w t x n
+pub voided_at : (o : Setting) (w : Arrived) (t : Trace) (x n : ℕ) → WindowAgrees o w t → number_expected w ≤ n → n < number_expected w + room_of w → lift (number_expected w) x ≡ n → VoidedAt w t x n
 voided_at o w t x n h low high is =
     let place = inside_place w n x low high is in
-    let test : is_some (at_place w (n - number_expected w)) ≡ is_received t n = rw (read_inside o w t n h low (omega (arith, high))) (some_place (is_received t n) (option_map (λ (a : Arrival). a.request) (held t n))) in
+    let test : is_some (at_place w (n - number_expected w)) ≡ is_received t n = rw (read_inside o w t n h low (omega (arith, high))) (some_place (is_received t n) (option_map held_of (held t n))) in
     record {
       new = λ gone. rw (place, received_at, test, gone);
       known = λ there. rw (place, received_at, test, there);
       received_is = rw (place, test);
     }
   where
-    some_place : (b : Bool) (x : Option Request) → is_some (let y : Option (Option Request) = cond b (Some x) None in y) ≡ b
+    some_place : (b : Bool) (x : Option HeldRequest) → is_some (let y : Option (Option HeldRequest) = cond b (Some x) None in y) ≡ b
     some_place b x = grind arith
 
 -- a held request is taken out
-pub emptied_at : (o : Setting) (w : Received) (t : Trace) (n : ℕ) (h : Arrival) → WindowAgrees o w t → n < number_expected w + 2 ^ 31 → held t n ≡ Some h → number_expected w ≤ n → n < number_expected w + length w.places
+pub emptied_at : (o : Setting) (w : Arrived) (t : Trace) (n : ℕ) (h : Arrival) → WindowAgrees o w t → n < number_expected w + 2 ^ 31 → held t n ≡ Some h → number_expected w ≤ n → n < number_expected w + length w.places
     → emptied w (wire n) ≡ with_place w (n - number_expected w) (Some None)
 emptied_at o w t n h a near is low high =
     let at = held_inside o w t n h a is low high in

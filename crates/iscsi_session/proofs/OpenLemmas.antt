@@ -3,6 +3,7 @@ use Rattle.std.proofs.Common.{Bool, ◌≡◌, ℕ, ◌+◌, ◌-◌, ◌*◌, �
 use Rattle.std.specs.List.{filter_map, range_with_len}
 use Rattle.std.proofs.lemmas.List.{length-map, length-replicate}
 use Rattle.iscsi_wire.specs.Serial.{wire, number_of_first}
+use Rattle.iscsi_window.specs.declared.held_request.HeldRequest.{HeldRequest}
 use Rattle.iscsi_window.specs.Windows.{number_expected, opened}
 use Rattle.iscsi_tasks.specs.Sets.{Members, opened as opened_set}
 use Rattle.iscsi_history.specs.declared.event.Event.{Event}
@@ -11,7 +12,7 @@ use Rattle.iscsi_history.specs.rules.Trace.{Arrival, Trace, first_of, is_receive
 use Rattle.iscsi_history.specs.rules.Run.{trace_of}
 use Rattle.iscsi_history.specs.promises.Executed.{request_at}
 use Rattle.iscsi_session.specs.promises.Bounds.{held_count, effect_bound_of}
-use Rattle.iscsi_session.specs.private.Standing.{Core, Settled, StandsFor, place_of, is_held, stat_sn_on, kept, arrival_waiting}
+use Rattle.iscsi_session.specs.private.Standing.{Core, Settled, StandsFor, held_of, place_of, is_held, stat_sn_on, kept, arrival_waiting}
 use Rattle.iscsi_history.proofs.EnabledItems.{EnabledSoFar-none}
 use Rattle.iscsi_history.proofs.HeldLemmas.{unreceived_unheld}
 use Rattle.iscsi_history.proofs.ClosingItems.{all_open}
@@ -33,7 +34,6 @@ pub Settled-opened : (o : Setting) (taken : ℕ) → Settled o (record {
   live = [];
   sets = replicate o.units (opened_set o.depth);
   level = o.level;
-  arrived = replicate o.window 0;
   waiting = [];
   open_conns = map (λ (c : ℕ × ℕ). c.0) o.conns;
 }) []
@@ -65,7 +65,6 @@ Settled-opened o taken = record {
     unfinished = refl;
     enabled = EnabledSoFar-none o;
     level = refl;
-    arrived = record { long = length-replicate o.window 0 ∙ sym (length-replicate o.window None); at_place = λ k a lt found. absurd cc };
     waiting = record { list = refl; may = refl; known = refl };
     open_conns = sym (all_open o o.conns (λ cid known. known));
   };
@@ -77,7 +76,7 @@ Settled-opened o taken = record {
 held_place : (t : Trace) (n : ℕ) → is_held (place_of t n) ≡ is_some (held t n)
 held_place t n = by_received (is_received t n) (held t n) (unreceived_unheld t n)
   where
-    by_received : (b : Bool) (x : Option Arrival) → (b ≡ false → x ≡ None) → is_held (cond b (Some (option_map (λ (a : Arrival). a.request) x)) None) ≡ is_some x
+    by_received : (b : Bool) (x : Option Arrival) → (b ≡ false → x ≡ None) → is_held (let p : Option (Option HeldRequest) = cond b (Some (option_map held_of x)) None in p) ≡ is_some x
     by_received b x none = grind arith
 
 pub bound_is : (o : Setting) (s : Core) (h : List Event) → StandsFor o s h → 12 * (count_by is_held s.window.places + length s.waiting + 1) + 2 * length s.live ≡ effect_bound_of o (trace_of o h)

@@ -5,7 +5,8 @@ use Rattle.std.proofs.lemmas.Bool.{cond_both}
 use Rattle.iscsi_wire.specs.declared.request.Request.{Request}
 use Rattle.iscsi_wire.specs.Fields.{connection_of, opcode}
 use Rattle.iscsi_window.specs.declared.answer.Place.{Place}
-use Rattle.iscsi_window.specs.Windows.{Received, number_expected, at_place, place_in, held_at, received_at, emptied_if, advanced_if}
+use Rattle.iscsi_window.specs.declared.held_request.HeldRequest.{HeldRequest}
+use Rattle.iscsi_window.specs.Windows.{Arrived, number_expected, at_place, place_in, held_at, received_at, emptied_if, advanced_if}
 use Rattle.iscsi_tasks.specs.declared.task.Task.{Task}
 use Rattle.iscsi_tasks.specs.Sets.{is_covered}
 use Rattle.iscsi_session.specs.declared.outcome.Outcome.{Outcome}
@@ -23,7 +24,7 @@ use Rattle.iscsi_session.specs.private.Functions.{is_gone, with_left, outcome_by
 use Rattle.iscsi_session.specs.private.Closing.{closing_by, closed_as}
 use Rattle.iscsi_history.proofs.ListLemmas.{fewer_counted}
 use Rattle.iscsi_session.proofs.LoggedOutLemmas.{closed_parts}
-use Rattle.iscsi_session.specs.private.Turning.{performed, managed, position_by, with_executed, with_advanced, next_arrived, turned_if, without_waiting, next_position, function_if, immediate_as}
+use Rattle.iscsi_session.specs.private.Turning.{performed, managed, position_by, with_executed, with_advanced, turned_if, without_waiting, next_position, function_if, immediate_as}
 
 -- no number turns, no event is counted, and so many commands more are unfinished at the most
 pub record Stays (more : ℕ) (s s' : Core) : Type 0 where
@@ -35,7 +36,7 @@ pub record Stays (more : ℕ) (s s' : Core) : Type 0 where
 stays : (more : ℕ) (s : Core) → Stays more s s
 stays more s = omega arith
 
-pub same_expected : (w w' : Received) → w'.first ≡ w.first → w'.turned ≡ w.turned → number_expected w' ≡ number_expected w
+pub same_expected : (w w' : Arrived) → w'.first ≡ w.first → w'.turned ≡ w.turned → number_expected w' ≡ number_expected w
 same_expected w w' first turned = cc
 
 pub stays_expected : (more : ℕ) (s s' : Core) → Stays more s s' → number_expected s'.window ≡ number_expected s.window
@@ -46,7 +47,7 @@ stays_expected more s s' h = same_expected s.window s'.window h.first h.turned
 left_fewer : (s : Core) (unit : ℕ) (covers : Task → Bool) → (with_left s unit covers).window.unfinished ≤ s.window.unfinished
 left_fewer s unit covers = omega (arith, fewer_counted is_numbered (λ l. not (is_gone covers (set_at s unit) l.ticket)) s.live)
 
-emptied_stays : (s : Core) (conn : ℕ) (p : Place) (x : Option Request) → Stays 0 s (with_reply (record s { window = emptied_if s.window p x }) conn)
+emptied_stays : (s : Core) (conn : ℕ) (p : Place) (x : Option HeldRequest) → Stays 0 s (with_reply (record s { window = emptied_if s.window p x }) conn)
 emptied_stays s conn p x = grind arith
 
 voided_stays : (s : Core) (conn : ℕ) (p : Place) → Stays 0 s (with_reply (record s { window = received_at s.window p None }) conn)
@@ -108,15 +109,15 @@ immediate_stays s r TooMany = omega arith
 pub pace-turned : (s : Core) → KeepsPace s.window (turned_if s (at_place s.window 0)).window
 pace-turned s = by_place (at_place s.window 0) refl
   where
-    by_place : (p : Option (Option Request)) → at_place s.window 0 ≡ p → KeepsPace s.window (turned_if s p).window
+    by_place : (p : Option (Option HeldRequest)) → at_place s.window 0 ≡ p → KeepsPace s.window (turned_if s p).window
     by_place None is = omega arith
     by_place (Some None) is = subst (λ q. KeepsPace s.window (advanced_if s.window q)) (sym is) (omega arith)
-    by_place (Some (Some r)) is =
+    by_place (Some (Some h)) is =
         let turned = ap (λ q. (advanced_if s.window q).turned) is in
         let same = ap (λ q. (advanced_if s.window q).unfinished) is in
-        omega (arith, executed_stays (with_advanced s) r (next_arrived s), turned, same)
+        omega (arith, executed_stays (with_advanced s) h.request h.event, turned, same)
 
-pub turned_taken : (s : Core) (p : Option (Option Request)) → (turned_if s p).taken ≡ s.taken
+pub turned_taken : (s : Core) (p : Option (Option HeldRequest)) → (turned_if s p).taken ≡ s.taken
 turned_taken s None = refl
 turned_taken s (Some None) = refl
-turned_taken s (Some (Some r)) = (executed_stays (with_advanced s) r (next_arrived s)).taken
+turned_taken s (Some (Some h)) = (executed_stays (with_advanced s) h.request h.event).taken

@@ -1,15 +1,15 @@
 -- What holds of every session holds on, where only some of its fields change.
-use Rattle.std.proofs.Common.{◌≡◌, ◌+◌, ◌<◌, ◌≤◌, ◌==◌, not, ap, arith, nat_lt, nat_le, length, filter, count_by, is_some, Bool, true, List, Option, Some, ℕ, cond, ◌&&◌, ◌++◌, [], ◌∷◌}
+use Rattle.std.proofs.Common.{◌≡◌, ◌+◌, ◌<◌, ◌≤◌, ◌==◌, not, ap, arith, nat_lt, nat_le, length, filter, count_by, is_some, Bool, true, List, Option, ℕ, cond, ◌&&◌, ◌++◌, [], ◌∷◌}
 use Rattle.std.specs.List.{list_all}
 use Rattle.iscsi_wire.specs.Fields.{connection_of}
-use Rattle.iscsi_wire.specs.declared.request.Request.{Request}
-use Rattle.iscsi_window.specs.Windows.{Received, advanced}
+use Rattle.iscsi_window.specs.declared.held_request.HeldRequest.{HeldRequest}
+use Rattle.iscsi_window.specs.Windows.{Arrived, advanced}
 use Rattle.iscsi_tasks.specs.Sets.{Members}
 use Rattle.iscsi_commands.specs.declared.live.Live.{Live}
 use Rattle.iscsi_session.specs.declared.session.waiting.Waiting.{Waiting}
 use Rattle.iscsi_history.specs.rules.Settings.{is_known}
 use Rattle.iscsi_history.specs.rules.Management.{may_wait}
-use Rattle.iscsi_session.specs.private.Standing.{is_held, is_place_known, Match, are_within}
+use Rattle.iscsi_session.specs.private.Standing.{is_place_known, Match, are_within}
 use Rattle.iscsi_session.specs.private.Steps.{AreCounted, is_numbered, count_reply}
 use Rattle.iscsi_session.specs.private.Invariant.{Inner, IsWindowSound, AreCommandsSound, AreFunctionsSound, IsSessionSound}
 use Rattle.iscsi_history.proofs.ListLemmas.{count_by-push, list_all-filter, fewer_counted}
@@ -23,46 +23,41 @@ use Rattle.iscsi_session.proofs.KeptLemmas.{ascending-push, within-push, ascendi
 -- ---- the window
 
 -- it has become another, with as many places and as many commands in execution
-pub window_sound : {s : Inner} → IsSessionSound s → {w : Received} {held : ℕ} → w.unfinished ≡ s.window.unfinished → length w.places ≡ length s.window.places
-    → IsWindowSound w held s.entered s.taken s.conns → IsSessionSound (record s { window = w; held = held })
+pub window_sound : {s : Inner} → IsSessionSound s → {w : Arrived} → w.unfinished ≡ s.window.unfinished → length w.places ≡ length s.window.places
+    → IsWindowSound w s.entered s.taken s.conns → IsSessionSound (record s { window = w })
 window_sound {s} inv {w} unfinished long sound =
     let commands : AreCommandsSound w.unfinished s.entered s.conns s.immediate s.sets s.live = rw unfinished inv.commands in
     search (arith, commands)
 
 -- it has stayed the same
-pub same_sound : {s : Inner} → IsSessionSound s → {w : Received} → w ≡ s.window → IsSessionSound (record s { window = w })
+pub same_sound : {s : Inner} → IsSessionSound s → {w : Arrived} → w ≡ s.window → IsSessionSound (record s { window = w })
 same_sound inv same = rw same inv
 
 -- so many requests fewer are held, and so many numbers more received
-pub changed_sound : {old new : Received} {fewer more held now count taken : ℕ} {conns : List (ℕ × ℕ)} → IsWindowSound old held count taken conns → Changed old new fewer more → now + fewer ≡ held
-    → old.turned + count_by is_some old.places + more ≤ taken → count + count_by is_some old.places + more ≤ taken → IsWindowSound new now count taken conns
-changed_sound {conns = conns} w g is turned entered = search (arith, g.known conns w.known)
+pub changed_sound : {old new : Arrived} {fewer more count taken : ℕ} {conns : List (ℕ × ℕ)} → IsWindowSound old count taken conns → Changed old new fewer more
+    → old.turned + count_by is_some old.places + more ≤ taken → count + count_by is_some old.places + more ≤ taken → IsWindowSound new count taken conns
+changed_sound {conns = conns} w g turned entered = search (arith, g.known conns w.known)
 
 -- its places have stayed the same, and a command may have entered or left
-pub places_sound : {old new : Received} {held count now taken : ℕ} {conns : List (ℕ × ℕ)} → IsWindowSound old held count taken conns → new.places ≡ old.places → new.turned ≡ old.turned
-    → new.unfinished ≤ length old.places → now + count_by is_some old.places ≤ taken → IsWindowSound new held now taken conns
-places_sound {conns = conns} w places turned fits entered = search (arith, ap length places, ap (count_by is_some) places, ap (count_by is_held) places, ap (list_all (is_place_known conns)) places)
+pub places_sound : {old new : Arrived} {count now taken : ℕ} {conns : List (ℕ × ℕ)} → IsWindowSound old count taken conns → new.places ≡ old.places → new.turned ≡ old.turned
+    → new.unfinished ≤ length old.places → now + count_by is_some old.places ≤ taken → IsWindowSound new now taken conns
+places_sound {conns = conns} w places turned fits entered = search (arith, ap length places, ap (count_by is_some) places, ap (list_all (is_place_known conns)) places)
 
--- the next number has turned: it isn't received any more, and its request is held no longer
-pub advanced_sound : {w new : Received} {q : Option Request} {held now count taken : ℕ} {conns : List (ℕ × ℕ)} → IsWindowSound w held count taken conns → Advanced w q → new ≡ advanced w → now + cond (is_held (Some q)) 1 0 ≡ held
-    → IsWindowSound new now count taken conns
-advanced_sound {conns = conns} sound a is less = rw is (search (arith, a.known conns sound.known))
-
--- the events of arrival have become others, as many
-pub arrivals_sound : {s : Inner} → IsSessionSound s → {arrived : List ℕ} {room : ℕ} → length arrived ≡ length s.arrived → s.arrived_room ≤ room → IsSessionSound (record s { arrived = arrived; arrived_room = room })
-arrivals_sound inv long more = search arith
+-- the next number has turned: it isn't received any more
+pub advanced_sound : {w new : Arrived} {q : Option HeldRequest} {count taken : ℕ} {conns : List (ℕ × ℕ)} → IsWindowSound w count taken conns → Advanced w q → new ≡ advanced w → IsWindowSound new count taken conns
+advanced_sound {conns = conns} sound a is = rw is (search (arith, a.known conns sound.known))
 
 -- ---- the commands
 
 -- a command has entered or left: the window counts it, and the room is no less
-pub commands_sound : {s : Inner} → IsSessionSound s → {w : Received} {count : ℕ} {live : List Live} {immediate : List ℕ} {sets : List Members} {live_room : ℕ} → IsWindowSound w s.held count s.taken s.conns
+pub commands_sound : {s : Inner} → IsSessionSound s → {w : Arrived} {count : ℕ} {live : List Live} {immediate : List ℕ} {sets : List Members} {live_room : ℕ} → IsWindowSound w count s.taken s.conns
     → AreCommandsSound w.unfinished count s.conns immediate sets live → w.places ≡ s.window.places → length sets ≡ length s.sets → s.live_room ≤ live_room
     → IsSessionSound (record s { window = w; entered = count; live = live; immediate = immediate; sets = sets; live_room = live_room })
 commands_sound inv window commands places units more_live = search (arith, ap length places)
 
 -- the same, where the connections are written as others that are the same
-pub commands_sound_on : {s : Inner} → IsSessionSound s → {w : Received} {count : ℕ} {live : List Live} {immediate : List ℕ} {sets : List Members} {live_room : ℕ} {conns : List (ℕ × ℕ)} → conns ≡ s.conns
-    → IsWindowSound w s.held count s.taken s.conns → AreCommandsSound w.unfinished count s.conns immediate sets live → w.places ≡ s.window.places → length sets ≡ length s.sets → s.live_room ≤ live_room
+pub commands_sound_on : {s : Inner} → IsSessionSound s → {w : Arrived} {count : ℕ} {live : List Live} {immediate : List ℕ} {sets : List Members} {live_room : ℕ} {conns : List (ℕ × ℕ)} → conns ≡ s.conns
+    → IsWindowSound w count s.taken s.conns → AreCommandsSound w.unfinished count s.conns immediate sets live → w.places ≡ s.window.places → length sets ≡ length s.sets → s.live_room ≤ live_room
     → IsSessionSound (record s { window = w; conns = conns; entered = count; live = live; immediate = immediate; sets = sets; live_room = live_room })
 commands_sound_on inv same window commands places units more_live = rw same (commands_sound inv window commands places units more_live)
 

@@ -1,5 +1,5 @@
 -- An arrival, a completion, and an event as a whole.
-use Rattle.std.proofs.Common.{◌≡◌, ℕ, ◌+◌, ◌-◌, ◌<◌, ◌≤◌, ◌==◌, ◌&&◌, ◌||◌, not, cond, Bool, true, false, List, [], ◌∷◌, ◌++◌, length, filter, Option, Some, None, option_map, refl, ap, sym, ◌∙◌, arith, nat_lt, nat_le, set}
+use Rattle.std.proofs.Common.{◌≡◌, ℕ, ◌+◌, ◌-◌, ◌<◌, ◌≤◌, ◌==◌, ◌&&◌, ◌||◌, not, cond, Bool, true, false, List, [], ◌∷◌, ◌++◌, length, filter, Option, Some, None, option_map, refl, ap, sym, ◌∙◌, arith, nat_lt, nat_le}
 use Rattle.std.specs.List.{list_any}
 use Rattle.std.proofs.lemmas.Bool.{eqb-true, cond_both}
 use Rattle.std.proofs.lemmas.Bool.Decides.{nat_tests}
@@ -11,7 +11,7 @@ use Rattle.iscsi_window.specs.declared.answer.Offer.{Offer}
 use Rattle.iscsi_window.specs.declared.answer.Offer.TheVariants.{Held, Outside as OutsideWindow, Duplicate as Known}
 use Rattle.iscsi_tasks.specs.declared.member.Member.{Member}
 use Rattle.iscsi_tasks.specs.Sets.{Members, is_enabled_in}
-use Rattle.iscsi_window.specs.Windows.{Received, number_expected, room_of, at_place, offer_to}
+use Rattle.iscsi_window.specs.Windows.{Arrived, number_expected, room_of, at_place, offer_to}
 use Rattle.iscsi_history.specs.declared.effect.Effect.TheVariants.{Ignore}
 use Rattle.iscsi_history.specs.declared.effect.Why.TheVariants.{Outside, Duplicate, Stale}
 use Rattle.iscsi_history.specs.declared.event.Event.{Event}
@@ -24,7 +24,7 @@ use Rattle.iscsi_history.specs.rules.Agenda.{with_turns, numbered, arrival_of, c
 use Rattle.iscsi_history.specs.rules.Items.{agenda}
 use Rattle.iscsi_history.specs.rules.Run.{newly_enabled, effects_of, trace_of}
 use Rattle.iscsi_session.specs.promises.Refusals.{refusal_of}
-use Rattle.iscsi_session.specs.private.Standing.{Core, CommandsAgree, place_of, kept, is_regular, member_of, WindowAgrees, Agrees, Settled, StandsFor, ArrivalsAgree}
+use Rattle.iscsi_session.specs.private.Standing.{Core, CommandsAgree, place_of, kept, is_regular, member_of, WindowAgrees, Agrees, Settled, StandsFor}
 use Rattle.iscsi_session.specs.private.Steps.{set_at, set_left, finished, with_offered, comes_on, refusal_by, find_ticket, without_ticket, enabled_of, find_enabled, without_command, leave_effects, after_completion, completion_effects, counted}
 use Rattle.iscsi_session.proofs.OpenConns.{open_of-same}
 use Rattle.iscsi_history.proofs.BoolLemmas.{and_both, or_false}
@@ -41,15 +41,14 @@ use Rattle.iscsi_history.proofs.CommandItems.{LeavesSome, live-left, first_passi
 use Rattle.iscsi_history.proofs.EnabledItems.{EnabledSoFar-left}
 use Rattle.iscsi_session.proofs.SetParts.{SetsAgree-left, left_by-one}
 use Rattle.iscsi_session.proofs.AgreeLemmas.{Regular, regular_parts, regular_live, units_live, settled_expected, settled_max, Stepped, Stepped-ignored, Agrees-admitted}
-use Rattle.iscsi_session.proofs.ArrivedLemmas.{ArrivalsAgree-quiet}
 
 -- ---- a completion
 
 -- a numbered command gives its place back, and the places are as they were
-finished_place : (w : Received) (c : Command) → at_place (finished w (kept c)) 0 ≡ at_place w 0
+finished_place : (w : Arrived) (c : Command) → at_place (finished w (kept c)) 0 ≡ at_place w 0
 finished_place w c = grind arith
 
-unfinished-left : (w : Received) (n : ℕ) (c : Command) → w.unfinished ≡ n + cond (not (is_immediate c.arrival.request)) 1 0 → (finished w (kept c)).unfinished ≡ n
+unfinished-left : (w : Arrived) (n : ℕ) (c : Command) → w.unfinished ≡ n + cond (not (is_immediate c.arrival.request)) 1 0 → (finished w (kept c)).unfinished ≡ n
 unfinished-left w n c h = grind arith
 
 Stepped-completed : (o : Setting) (s : Core) (t : Trace) (c : Command) (ticket status : ℕ) → Settled o s t → first_of (filter (λ d. d.ticket == ticket) (live t)) ≡ Some c
@@ -58,7 +57,6 @@ Stepped-completed o s t c ticket status h found =
     let a = h.agrees in
     let r : Regular o c = regular_parts o c (first_passes (λ d. d.ticket == ticket) (is_regular o) (live t) c (regular_live o s.live s.entered t a.commands) found) in
     let item : List Mark = completion_item c status in
-    let now = ArrivalsAgree-quiet s.window s.arrived t item (quiet-completion c status) a.arrived in
     let is_ticket = eqb-true c.ticket ticket (first_itself (λ d. d.ticket == ticket) (live t) c found) in
     let out : ℕ → Bool = λ k. k == c.ticket in
     let l : LeavesSome item out = record { enters_none = refl; some = λ k. or_false (c.ticket == k) ∙ eq_sym c.ticket k } in
@@ -79,7 +77,6 @@ Stepped-completed o s t c ticket status h found =
           unfinished = unfinished-left s.window (unfinished (item ∷ t)) c (cc (a.unfinished, count-without (λ (d : Command). not (is_immediate d.arrival.request)) c.ticket (live t) c a.commands.apart here, live-left item t out l));
           enabled = EnabledSoFar-left o item t out l (units_live o (without_ticket c.ticket s.live) s.entered (item ∷ t) commands) a.enabled;
           level = a.level;
-          arrived = cond_both (is_immediate c.arrival.request) _ _ (λ v. ArrivalsAgree v s.arrived (item ∷ t)) (λ is. now) (λ is. record { long = now.long; at_place = now.at_place });
           waiting = record { list = a.waiting.list; may = a.waiting.may; known = a.waiting.known };
           open_conns = a.open_conns ∙ sym (open_of-same o item t (record { session = refl; conns = λ k. refl }));
         };
@@ -126,7 +123,7 @@ outside_test o s t n h =
 
 -- what is taken: the request is held at its place, which was empty, and its turn may have come
 record Taken (o : Setting) (s : Core) (t : Trace) (a : Arrival) (core : Core) : Type 0 where
-  core_is : core ≡ record s { window = with_held s.window a; arrived = set s.arrived (a.number - number_expected s.window) a.event }
+  core_is : core ≡ record s { window = with_held s.window a }
   items_are : numbered o t a ≡ with_turns o t (Admits a ∷ [])
   new : is_received t a.number ≡ false
   low : number_expected s.window ≤ a.number

@@ -1,6 +1,6 @@
 -- A turn: the request of the next number begins to execute.
-use Rattle.std.proofs.Common.{◌≡◌, ℕ, ◌+◌, cond, false, ◌∷◌, Some, refl, arith}
-use Rattle.iscsi_wire.specs.declared.request.Request.{Request}
+use Rattle.std.proofs.Common.{◌≡◌, ℕ, cond, false, ◌∷◌, Some, refl, arith}
+use Rattle.iscsi_window.specs.declared.held_request.HeldRequest.{HeldRequest}
 use Rattle.iscsi_wire.specs.Fields.{is_immediate}
 use Rattle.iscsi_window.specs.Windows.{number_expected, at_place}
 use Rattle.iscsi_history.specs.declared.effect.Effect.TheVariants.{Deliver}
@@ -8,34 +8,32 @@ use Rattle.iscsi_history.specs.rules.Settings.{Setting}
 use Rattle.iscsi_history.specs.rules.Trace.{Arrival, Delivers, Trace}
 use Rattle.iscsi_session.specs.private.Standing.{Core, Agrees}
 use Rattle.iscsi_session.specs.private.Steps.{number_by, event_by}
-use Rattle.iscsi_session.specs.private.Turning.{with_executed, executed_effects, next_arrived, turned_if, turn_effects}
+use Rattle.iscsi_session.specs.private.Turning.{with_executed, executed_effects, turned_if, turn_effects}
 use Rattle.iscsi_history.proofs.BoolLemmas.{and_parts, not_true}
 use Rattle.iscsi_history.proofs.HeldLemmas.{held-number, admitted_of_held}
-use Rattle.iscsi_history.proofs.PlaceLemmas.{has_first, passed_on}
 use Rattle.iscsi_session.proofs.WindowParts.{Next, turned_window, WindowAgrees-turned}
-use Rattle.iscsi_session.proofs.ArrivedLemmas.{ArrivalsAgree-turned}
 use Rattle.iscsi_session.proofs.ExecutionLemmas.{Begun}
 
 -- ---- the state after a turn
 
 abbrev pub turned_core : Core → Core
-turned_core s = record s { window = turned_window s.window; arrived = passed_on s.arrived }
+turned_core s = record s { window = turned_window s.window }
 
-pub turned_is : (s : Core) (r : Request) → at_place s.window 0 ≡ Some (Some r) → turned_if s (at_place s.window 0) ≡ with_executed (turned_core s) r (next_arrived s)
+pub turned_is : (s : Core) (r : HeldRequest) → at_place s.window 0 ≡ Some (Some r) → turned_if s (at_place s.window 0) ≡ with_executed (turned_core s) r.request r.event
 turned_is s r h = rw (h, h)
 
-pub turn_effects-are : (s : Core) (r : Request) → at_place s.window 0 ≡ Some (Some r) → turn_effects s (at_place s.window 0) ≡ Deliver r ∷ executed_effects (turned_core s) r (next_arrived s)
+pub turn_effects-are : (s : Core) (r : HeldRequest) → at_place s.window 0 ≡ Some (Some r) → turn_effects s (at_place s.window 0) ≡ Deliver r.request ∷ executed_effects (turned_core s) r.request r.event
 turn_effects-are s r h = rw (h, h)
 
 -- a request that is held is numbered
-pub numbered_held : (o : Setting) (s : Core) (t : Trace) (r : Request) (h : Agrees o s t) → (x : Next s.window t r) → is_immediate x.arrival.request ≡ false
+pub numbered_held : (o : Setting) (s : Core) (t : Trace) (r : HeldRequest) (h : Agrees o s t) → (x : Next s.window t r) → is_immediate x.arrival.request ≡ false
 numbered_held o s t r h x =
     let a : Arrival = x.arrival in
     let regular = and_parts _ _ (h.window.requests (number_expected s.window) a (admitted_of_held t (number_expected s.window) a x.held_is)) in
     not_true (is_immediate a.request) regular.0
 
 -- the request of the turn, as it begins to execute
-pub turn-begun : (o : Setting) (s : Core) (t : Trace) (r : Request) (h : Agrees o s t) → at_place s.window 0 ≡ Some (Some r) → (x : Next s.window t r) → Begun o (turned_core s) t (Delivers x.arrival) (Deliver x.arrival.request) x.arrival
+pub turn-begun : (o : Setting) (s : Core) (t : Trace) (r : HeldRequest) (h : Agrees o s t) → at_place s.window 0 ≡ Some (Some r) → (x : Next s.window t r) → Begun o (turned_core s) t (Delivers x.arrival) (Deliver x.arrival.request) x.arrival
 turn-begun o s t r h place x =
     let a : Arrival = x.arrival in
     let e : ℕ = number_expected s.window in
@@ -53,7 +51,6 @@ turn-begun o s t r h place x =
       known = regular.1;
       first = h.window.first;
       level = h.level;
-      arrived = λ ms q. ArrivalsAgree-turned o s.window s.arrived t a ms (Some r) h.window place number q h.arrived;
       waiting = h.waiting.list;
       may = h.waiting.may;
       waiting_known = h.waiting.known;
@@ -65,17 +62,11 @@ turn-begun o s t r h place x =
       shows = refl;
     }
 
--- the event in which it arrived
-pub arrived_next : (o : Setting) (s : Core) (t : Trace) (r : Request) (h : Agrees o s t) → at_place s.window 0 ≡ Some (Some r) → (x : Next s.window t r) → next_arrived s ≡ x.arrival.event
-arrived_next o s t r h place x =
-    let at : number_expected s.window + 0 ≡ number_expected s.window = omega arith in
-    h.arrived.at_place 0 x.arrival (has_first s.window.places (Some r) place) (rw at x.held_is)
-
 -- its number
-pub number_next : (o : Setting) (s : Core) (t : Trace) (r : Request) (h : Agrees o s t) → (x : Next s.window t r) → number_by (turned_core s) x.arrival.request ≡ x.arrival.number
+pub number_next : (o : Setting) (s : Core) (t : Trace) (r : HeldRequest) (h : Agrees o s t) → (x : Next s.window t r) → number_by (turned_core s) x.arrival.request ≡ x.arrival.number
 number_next o s t r h x =
     let number = held-number t (number_expected s.window) x.arrival x.held_is in
     rw (numbered_held o s t r h x) (omega (arith, number))
 
-pub event_next : (o : Setting) (s : Core) (t : Trace) (r : Request) (h : Agrees o s t) → (x : Next s.window t r) → event_by (turned_core s) x.arrival.request ≡ cond (is_immediate x.arrival.request) x.arrival.event 0
+pub event_next : (o : Setting) (s : Core) (t : Trace) (r : HeldRequest) (h : Agrees o s t) → (x : Next s.window t r) → event_by (turned_core s) x.arrival.request ≡ cond (is_immediate x.arrival.request) x.arrival.event 0
 event_next o s t r h x = rw (numbered_held o s t r h x)

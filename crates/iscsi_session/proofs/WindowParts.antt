@@ -1,20 +1,20 @@
 -- A window that agrees with what has happened agrees after one item more.
-use Rattle.std.proofs.Common.{◌≡◌, ℕ, ◌+◌, ◌-◌, ◌<◌, ◌≤◌, false, List, [], ◌∷◌, ◌++◌, Some, None, refl, ap, sym, ◌∙◌, arith, ◌==◌, ⊎_elim, true, length, drop, get_or, set, Option, eq-eqb, ◌≢◌, length-set, length-drop}
+use Rattle.std.proofs.Common.{◌≡◌, ℕ, ◌+◌, ◌-◌, ◌<◌, ◌≤◌, false, List, [], ◌∷◌, ◌++◌, Some, None, cond, option_map, Bool, refl, ap, sym, ◌∙◌, arith, ◌==◌, ⊎_elim, true, length, drop, get_or, set, Option, eq-eqb, ◌≢◌, length-set, length-drop}
 use Rattle.std.proofs.lemmas.List.{append-nil, length_push, get_or-set_same, get_or-set_other}
-use Rattle.iscsi_wire.specs.declared.request.Request.{Request}
+use Rattle.iscsi_window.specs.declared.held_request.HeldRequest.{HeldRequest}
 use Rattle.iscsi_wire.specs.Serial.{number_of_first, wire}
 use Rattle.iscsi_history.specs.rules.Settings.{Setting}
 use Rattle.iscsi_history.specs.rules.Trace.{Arrival, Mark, Admits, Delivers, Trace, shown, received, contains, is_received, is_delivered, is_emptied, held, admits_at, admitted}
 use Rattle.iscsi_history.specs.promises.Executed.{request_at, executed_below, delivers}
-use Rattle.iscsi_session.specs.private.Standing.{place_of, is_regular_request, WindowAgrees}
+use Rattle.iscsi_session.specs.private.Standing.{held_of, place_of, is_regular_request, WindowAgrees}
 use Rattle.std.proofs.lemmas.Bool.{cases_lt, cases_eq, ne_eqb}
 use Rattle.std.proofs.lemmas.Grind.{elements}
 use Rattle.iscsi_wire.specs.Fields.{cmd_sn}
-use Rattle.iscsi_window.specs.Windows.{Received, number_expected, room_of, at_place, with_place, with_unfinished}
+use Rattle.iscsi_window.specs.Windows.{Arrived, number_expected, room_of, at_place, with_place, with_unfinished}
 use Rattle.iscsi_history.specs.rules.Execution.{exp_of}
 use Rattle.iscsi_history.proofs.BoolLemmas.{or_none, or_second, or_false}
 use Rattle.iscsi_history.proofs.Missing.{expected_is, expected_low, expected_gone}
-use Rattle.iscsi_history.proofs.HeldLemmas.{held-delivered, admitted-number, admitted-cases, held-admits, held-here, held-number, held-turned, request_at-turned, admitted_of_held, held_unemptied, received-admits, request_at-admits, some_held}
+use Rattle.iscsi_history.proofs.HeldLemmas.{held-delivered, admitted-number, admitted-cases, held-admits, held-here, held-number, held-turned, request_at-turned, admitted_of_held, held_unemptied, received-admits, request_at-admits}
 use Rattle.iscsi_history.proofs.DeliveryLemmas.{held-quiet, IsQuiet, same_range, received-quiet, executed_below-quiet, delivered-quiet, admitted-quiet, executed_below-more}
 use Rattle.iscsi_history.proofs.PlaceLemmas.{has_first, last_none}
 
@@ -28,7 +28,7 @@ place_of-quiet item t n q = cc (received-quiet item t q, held-quiet item t n q)
 pub no_place : (t : Trace) (n : ℕ) → place_of t n ≡ None → is_received t n ≡ false
 no_place t n none = grind arith
 
-module _ (o : Setting) (w : Received) (t : Trace) (a : WindowAgrees o w t) where
+module _ (o : Setting) (w : Arrived) (t : Trace) (a : WindowAgrees o w t) where
   -- nothing is received at the next number, where its place is empty
   pub next_gone : at_place w 0 ≡ None → is_received t (number_expected w) ≡ false
   next_gone none =
@@ -45,7 +45,7 @@ module _ (o : Setting) (w : Received) (t : Trace) (a : WindowAgrees o w t) where
 
 -- ---- an item that receives, admits and delivers nothing
 
-pub WindowAgrees-quiet : (o : Setting) (w : Received) (t : Trace) (item : List Mark) → IsQuiet item → WindowAgrees o w t → WindowAgrees o w (item ∷ t)
+pub WindowAgrees-quiet : (o : Setting) (w : Arrived) (t : Trace) (item : List Mark) → IsQuiet item → WindowAgrees o w t → WindowAgrees o w (item ∷ t)
 WindowAgrees-quiet o w t item q a = record {
   first = a.first;
   size = a.size;
@@ -65,23 +65,23 @@ WindowAgrees-quiet o w t item q a = record {
 -- ---- an admission
 
 -- the window with the request at its place
-abbrev pub with_held : Received → Arrival → Received
-with_held w a = with_place w (a.number - number_expected w) (Some (Some a.request))
+abbrev pub with_held : Arrived → Arrival → Arrived
+with_held w a = with_place w (a.number - number_expected w) (Some (Some (held_of a)))
 
 place_of-other : (t : Trace) (a : Arrival) (n : ℕ) → (a.number == n) ≡ false → place_of ((Admits a ∷ []) ∷ t) n ≡ place_of t n
 place_of-other t a n apart = cc (received-admits t a n, or_false (is_received t n), held-admits t a n apart)
 
-place_of-here : (t : Trace) (a : Arrival) → is_received t a.number ≡ false → is_delivered t a.number ≡ false → is_emptied t a.number ≡ false → place_of ((Admits a ∷ []) ∷ t) a.number ≡ Some (Some a.request)
+place_of-here : (t : Trace) (a : Arrival) → is_received t a.number ≡ false → is_delivered t a.number ≡ false → is_emptied t a.number ≡ false → place_of ((Admits a ∷ []) ∷ t) a.number ≡ Some (Some (held_of a))
 place_of-here t a new undelivered unemptied =
     cc (received-admits t a a.number, or_second (is_received t a.number) (a.number == a.number) (eq-eqb a.number a.number refl), held-here t a new undelivered unemptied)
 
-pub WindowAgrees-admitted : (o : Setting) (w : Received) (t : Trace) (a : Arrival) → WindowAgrees o w t → number_expected w ≤ a.number → a.number < number_expected w + room_of w → is_received t a.number ≡ false → is_regular_request o a.request ≡ true → wire (cmd_sn a.request) ≡ wire a.number
+pub WindowAgrees-admitted : (o : Setting) (w : Arrived) (t : Trace) (a : Arrival) → WindowAgrees o w t → number_expected w ≤ a.number → a.number < number_expected w + room_of w → is_received t a.number ≡ false → is_regular_request o a.request ≡ true → wire (cmd_sn a.request) ≡ wire a.number
     → WindowAgrees o (with_held w a) ((Admits a ∷ []) ∷ t)
 WindowAgrees-admitted o w t a h low high new regular shows =
     let e : ℕ = number_expected w in
     let k₀ : ℕ = a.number - e in
     let t' : Trace = (Admits a ∷ []) ∷ t in
-    let x : Option (Option Request) = Some (Some a.request) in
+    let x : Option (Option HeldRequest) = Some (Some (held_of a)) in
     let in_range : k₀ < length w.places = omega arith in
     let long : length (set w.places k₀ x) ≡ length w.places = length-set w.places k₀ x in
     let apart : (n : ℕ) → n ≢ a.number → (a.number == n) ≡ false = λ n other. ne_eqb a.number n (omega arith) in
@@ -110,13 +110,18 @@ WindowAgrees-admitted o w t a h low high new regular shows =
 -- ---- a turn
 
 -- the request at the next number
-pub record Next (w : Received) (t : Trace) (r : Request) : Type 0 where
+pub record Next (w : Arrived) (t : Trace) (r : HeldRequest) : Type 0 where
   pub arrival : Arrival
   pub held_is : held t (number_expected w) ≡ Some arrival
-  pub request_is : arrival.request ≡ r
+  pub request_is : held_of arrival ≡ r
   pub received_is : is_received t (number_expected w) ≡ true
 
-pub next_request : (o : Setting) (w : Received) (t : Trace) (r : Request) → WindowAgrees o w t → at_place w 0 ≡ Some (Some r) → Next w t r
+some_held : (b : Bool) (x : Option Arrival) (r : HeldRequest) → cond b (Some (option_map held_of x)) None ≡ Some (Some r) → (b ≡ true) × ((a : Arrival) × ((x ≡ Some a) × (held_of a ≡ r)))
+some_held true None r h = absurd (let z : Some None ≡ Some (Some r) = h in cc)
+some_held true (Some a) r h = (refl, (a, (refl, cc)))
+some_held false x r h = absurd cc
+
+pub next_request : (o : Setting) (w : Arrived) (t : Trace) (r : HeldRequest) → WindowAgrees o w t → at_place w 0 ≡ Some (Some r) → Next w t r
 next_request o w t r a h =
     let e : ℕ = number_expected w in
     let at : e + 0 ≡ e = omega arith in
@@ -124,16 +129,16 @@ next_request o w t r a h =
     record { arrival = facts.1.0; held_is = facts.1.1.0; request_is = facts.1.1.1; received_is = facts.0 }
 
 -- the window after a turn: it has turned the number, and its last place is free
-abbrev pub turned_window : Received → Received
+abbrev pub turned_window : Arrived → Arrived
 turned_window w = record w { turned = w.turned + 1; places = drop 1 w.places ++ None ∷ [] }
 
-pub record Turned (o : Setting) (w : Received) (t : Trace) : Type 0 where
+pub record Turned (o : Setting) (w : Arrived) (t : Trace) : Type 0 where
   pub agrees : WindowAgrees o w t
   pub not_full : w.unfinished < length w.places
   pub last_free : (k : ℕ) → length w.places ≤ k + w.unfinished + 1 → get_or w.places k None ≡ None
 
 -- the next number was received and has turned: nothing is held there any more, and all else is as it was
-record Turns (o : Setting) (w : Received) (t t' : Trace) : Type 0 where
+record Turns (o : Setting) (w : Arrived) (t t' : Trace) : Type 0 where
   here : is_received t (number_expected w) ≡ true
   none_here : held t' (number_expected w) ≡ None
   received_is : received t' ≡ received t
@@ -144,14 +149,14 @@ record Turns (o : Setting) (w : Received) (t t' : Trace) : Type 0 where
   delivered : shown delivers t' ≡ executed_below o t' (number_expected w + 1)
 
 -- the places move up
-shifted : (old : List (Option (Option Request))) (k : ℕ) → k + 1 < length old → get_or (drop 1 old ++ None ∷ []) k None ≡ get_or old (k + 1) None
+shifted : (old : List (Option (Option HeldRequest))) (k : ℕ) → k + 1 < length old → get_or (drop 1 old ++ None ∷ []) k None ≡ get_or old (k + 1) None
 shifted old k lt = grind (arith, elements)
 
-turned : (o : Setting) (w : Received) (t t' : Trace) (x : Option Request) → WindowAgrees o w t → at_place w 0 ≡ Some x → Turns o w t t' → Turned o (turned_window w) t'
+turned : (o : Setting) (w : Arrived) (t t' : Trace) (x : Option HeldRequest) → WindowAgrees o w t → at_place w 0 ≡ Some x → Turns o w t t' → Turned o (turned_window w) t'
 turned o w t t' x h place s =
     let e : ℕ = number_expected w in
-    let old : List (Option (Option Request)) = w.places in
-    let new : List (Option (Option Request)) = drop 1 old ++ None ∷ [] in
+    let old : List (Option (Option HeldRequest)) = w.places in
+    let new : List (Option (Option HeldRequest)) = drop 1 old ++ None ∷ [] in
     let some : 0 < length old = has_first old x place in
     let rest : length (drop 1 old) + 1 ≡ length old = omega (arith, length-drop 1 old) in
     let long : length new ≡ length old = length_push (drop 1 old) None ∙ rest in
@@ -184,7 +189,7 @@ turned o w t t' x h place s =
       last_free = λ k big. free k (omega (arith, long, big));
     }
 
-pub WindowAgrees-turned : (o : Setting) (w : Received) (t : Trace) (r : Request) (ms : List Mark) → WindowAgrees o w t → at_place w 0 ≡ Some (Some r) → (x : Next w t r) → IsQuiet ms
+pub WindowAgrees-turned : (o : Setting) (w : Arrived) (t : Trace) (r : HeldRequest) (ms : List Mark) → WindowAgrees o w t → at_place w 0 ≡ Some (Some r) → (x : Next w t r) → IsQuiet ms
     → Turned o (turned_window w) ((Delivers x.arrival ∷ ms) ∷ t)
 WindowAgrees-turned o w t r ms h place x q =
     let a : Arrival = x.arrival in
@@ -212,25 +217,25 @@ WindowAgrees-turned o w t r ms h place x q =
     })
 
 -- nothing is held at the next number, which is received
-pub record Passed (w : Received) (t : Trace) : Type 0 where
+pub record Passed (w : Arrived) (t : Trace) : Type 0 where
   pub received_is : is_received t (number_expected w) ≡ true
   pub held_is : held t (number_expected w) ≡ None
 
 -- nothing is held at the next number, where its place says so
-passed_by : (w : Received) (t : Trace) → place_of t (number_expected w) ≡ Some None → Passed w t
+passed_by : (w : Arrived) (t : Trace) → place_of t (number_expected w) ≡ Some None → Passed w t
 passed_by w t none = grind arith
 
 -- nothing is to be executed at a number where nothing is held, and nothing was delivered
 no_request : (t : Trace) (n : ℕ) → held t n ≡ None → is_delivered t n ≡ false → request_at t n ≡ None
 no_request t n none undelivered = grind arith
 
-pub passed_at : (o : Setting) (w : Received) (t : Trace) → WindowAgrees o w t → at_place w 0 ≡ Some None → Passed w t
+pub passed_at : (o : Setting) (w : Arrived) (t : Trace) → WindowAgrees o w t → at_place w 0 ≡ Some None → Passed w t
 passed_at o w t h place =
     let at : number_expected w + 0 ≡ number_expected w = omega arith in
     passed_by w t (cc (h.inside 0 (has_first w.places None place)))
 
 -- a number that nothing is held at is passed
-pub WindowAgrees-passed : (o : Setting) (w : Received) (t : Trace) → WindowAgrees o w t → at_place w 0 ≡ Some None → WindowAgrees o (turned_window w) t
+pub WindowAgrees-passed : (o : Setting) (w : Arrived) (t : Trace) → WindowAgrees o w t → at_place w 0 ≡ Some None → WindowAgrees o (turned_window w) t
 WindowAgrees-passed o w t h place =
     let e : ℕ = number_expected w in
     let p : Passed w t = passed_at o w t h place in
@@ -246,14 +251,14 @@ WindowAgrees-passed o w t h place =
     })).agrees
 
 -- a command begins in a window that has turned
-pub WindowAgrees-started : (o : Setting) (w : Received) (t : Trace) → Turned o w t → WindowAgrees o (with_unfinished w (w.unfinished + 1)) t
+pub WindowAgrees-started : (o : Setting) (w : Arrived) (t : Trace) → Turned o w t → WindowAgrees o (with_unfinished w (w.unfinished + 1)) t
 WindowAgrees-started o w t h =
     let few : w.unfinished + 1 ≤ length w.places = omega (arith, h.not_full) in
     let free : (k : ℕ) → length w.places ≤ k + (w.unfinished + 1) → get_or w.places k None ≡ None = λ k big. h.last_free k (omega (arith, big)) in
     assumption
 
 -- a command is over
-pub WindowAgrees-finished : (o : Setting) (w : Received) (t : Trace) → WindowAgrees o w t → WindowAgrees o (with_unfinished w (w.unfinished - 1)) t
+pub WindowAgrees-finished : (o : Setting) (w : Arrived) (t : Trace) → WindowAgrees o w t → WindowAgrees o (with_unfinished w (w.unfinished - 1)) t
 WindowAgrees-finished o w t a =
     let few : w.unfinished - 1 ≤ length w.places = omega (arith, a.few) in
     let free : (k : ℕ) → length w.places ≤ k + (w.unfinished - 1) → get_or w.places k None ≡ None = λ k big. a.free k (omega (arith, big)) in

@@ -6,7 +6,6 @@ ghost use Rattle.iscsi_history.specs.rules.Settings.{Setting, is_valid};
 ghost use Rattle.iscsi_session.specs.promises.Settings.{setting_of};
 ghost use Rattle.iscsi_connections.specs.Connected.{opened};
 ghost use Rattle.iscsi_history.specs.rules.Trace.{Trace, after_items, received, live};
-ghost use Rattle.std.specs.VecDeque.{deque_capacity};
 ghost use Rattle.iscsi_history.specs.rules.Agenda.{arrival, items_of};
 ghost use Rattle.iscsi_history.specs.rules.Run.{trace_of, run_of, next_entry, numbers_of, effects_of};
 ghost use Rattle.iscsi_history.specs.promises.Flow.{Flows, HasOneMore};
@@ -21,7 +20,7 @@ ghost use Rattle.iscsi_history.specs.promises.Order.{KeepsOrder};
 ghost use Rattle.iscsi_history.specs.promises.Meaning.{MeansWhatItSays};
 ghost use Rattle.iscsi_session.specs.promises.Refusals.{RefusesAs, refusal_of, refusal_of_options};
 ghost use Rattle.iscsi_session.specs.promises.Bounds.{effect_bound_of, most_effects};
-ghost use Rattle.iscsi_session.specs.private.Standing.{Settled, StandsFor, is_held, are_ascending};
+ghost use Rattle.iscsi_session.specs.private.Standing.{Settled, StandsFor, is_held};
 ghost use Rattle.iscsi_session.specs.private.Steps.{refusal_by, comes_on, KeepsPace, counted, numbers_by};
 ghost use Rattle.iscsi_session.specs.private.Functions.{owed};
 
@@ -32,10 +31,9 @@ use iscsi_commands::LiveCommands;
 use iscsi_connections::{Connections, MOST_IMMEDIATE};
 use iscsi_history::{Effect, Event, Numbers};
 use iscsi_tasks::LinkedTaskSet;
-use iscsi_window::Window;
+use iscsi_window::EventWindow;
 use iscsi_wire::Request;
 use std::alloc::Global;
-use std::collections::VecDeque;
 use std::marker::Model;
 
 mod arrival;
@@ -53,10 +51,9 @@ const ITEM_EFFECTS: usize = 12;
 
 /// One session: its command window, its commands and task sets, and the numbers of its connections.
 pub struct Session {
-    /// The numbers that were received and haven't turned, and the requests that are held for them.
-    window: Window,
-    /// How many requests the window holds.
-    held: u32,
+    /// The numbers that were received and haven't turned, and the requests that are held for them, each with the event in
+    /// which it arrived.
+    window: EventWindow,
     /// The most events that the session takes.
     events: u64,
     /// Its connections: which are open, the StatSN of each, and how many of its immediate commands are live.
@@ -71,8 +68,6 @@ pub struct Session {
     sets: Vec<LinkedTaskSet>,
     /// The protocol level, by which task management knows the queries (RFC 7144).
     level: u32,
-    /// For each place of the window the event in which the request arrived that is held there.
-    arrived: VecDeque<u64>,
     /// The functions that wait for lower numbers, in the order of their arrival.
     waiting: Waitlist,
     /// The tickets of the commands that left a set together, by the last function or Logout that looked for some: with room
@@ -84,7 +79,6 @@ impl Drop for Session {
     fn drop(self) {
         let Session {
             window: _window,
-            held: _held,
             events: _events,
             connections: _connections,
             entered: _entered,
@@ -92,7 +86,6 @@ impl Drop for Session {
             live: _live,
             sets: _sets,
             level: _level,
-            arrived: _arrived,
             waiting: _waiting,
             left: _left,
         } = self;
@@ -101,7 +94,6 @@ impl Drop for Session {
 
 impl Model for Session {
     ghost use Rattle.std.specs.Prelude.{vec_capacity};
-    ghost use Rattle.std.specs.VecDeque.{deque_capacity};
     ghost use Rattle.iscsi_session.specs.private.Standing.{Core};
     ghost use Rattle.iscsi_session.specs.private.Invariant.{IsSessionSound};
 
@@ -116,14 +108,12 @@ impl Model for Session {
       live = s.live.items;
       sets = s.sets.items;
       level = s.level;
-      arrived = s.arrived.items;
       waiting = s.waiting.items;
       open_conns = s.connections.open_conns;
     } };
 
     ghost invariant = { λ s. IsSessionSound (record {
       window = s.window;
-      held = s.held;
       events = s.events;
       conns = s.connections.conns;
       entered = s.entered;
@@ -131,10 +121,8 @@ impl Model for Session {
       live = s.live.items;
       immediate = s.connections.immediate;
       sets = s.sets.items;
-      arrived = s.arrived.items;
       waiting = s.waiting.items;
       live_room = s.live.room;
-      arrived_room = deque_capacity s.arrived;
       waiting_room = s.waiting.room;
       left_room = vec_capacity s.left;
     }) };
@@ -184,7 +172,7 @@ impl Session {
         ensures value { result ≡ 12 * (count_by is_held self.now.window.places + length self.now.waiting + 1)
             + 2 * length self.now.live }
     {
-        ITEM_EFFECTS * (self.held as usize + self.waiting.len() + 1) + 2 * self.live_len()
+        ITEM_EFFECTS * (self.window.held() as usize + self.waiting.len() + 1) + 2 * self.live_len()
     }
 
     /// Takes an event, appends its effects to `out`, and answers ExpCmdSN and MaxCmdSN at its end.
@@ -331,8 +319,7 @@ fn make_on(alloc: Global, options: Options, connections: Connections) -> Option<
     } = options;
     let most_live = size as usize + usize::from(MOST_IMMEDIATE) * conns.len();
     Some(Session {
-        window: Window::open(alloc, first, size).ok()?,
-        held: 0,
+        window: EventWindow::open(alloc, first, size).ok()?,
         events,
         connections,
         entered: 0,
@@ -340,7 +327,6 @@ fn make_on(alloc: Global, options: Options, connections: Connections) -> Option<
         live: LiveCommands::with_room(alloc, most_live).ok()?,
         sets: sets::open(alloc, units, depth)?,
         level,
-        arrived: arrival::open(alloc, size)?,
         waiting: Waitlist::with_room(alloc, waiting::MOST * conns.len())?,
         left: Vec::with_capacity(alloc, most_live).ok()?,
     })

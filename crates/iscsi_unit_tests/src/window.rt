@@ -1,6 +1,6 @@
 //! Histories of a window.
 
-use iscsi_window::{Offer, Place, Turned, Window, WindowFault};
+use iscsi_window::{EventWindow, HeldRequest, Offer, Place, Turned, Window, WindowFault};
 use iscsi_wire::Request;
 use std::process::Abort;
 use std::test::Fail;
@@ -135,6 +135,40 @@ fn a_request_passes_as_it_comes(rt: HostRuntime) -> Result<(), Fail> {
     pass(&rt, &mut window, &command(1, 0, 0xa3, 1));
     assert_eq!(rt; window.find_held(0xa3, 0, 9), None);
     assert_eq!(rt; advance(&rt, &mut window), None);
+    Ok(())
+}
+
+#[test]
+fn a_held_request_comes_back_with_its_event(rt: HostRuntime) -> Result<(), Fail> {
+    let mut window = EventWindow::open(rt.alloc(), 0xffff_ffff, 4)?;
+    let first = command(1, 0, 0xa1, 0xffff_ffff);
+    let second = command(1, 0, 0xa2, 0);
+    let third = command(2, 0, 0xa3, 1);
+    for (request, event) in [(second, 7), (third, 8), (first, u64::MAX)] {
+        assert_eq!(rt; window.offer(&request, event), Offer::Held);
+    }
+    assert_eq!(rt; window.offer(&second, 9), Offer::Duplicate);
+    assert_eq!(rt; window.held(), 3);
+
+    let emptied = window.empty(0);
+    assert_eq!(rt; emptied.map(|held| held.event), Some(7));
+    assert_eq!(rt; window.held(), 2);
+    let mut turned = Vec::new(rt.alloc());
+    for _ in 0..4 {
+        assert!(rt; window.turned() < u64::MAX);
+        turned.push(window.advance())?;
+    }
+    let first = HeldRequest {
+        request: first,
+        event: u64::MAX,
+    };
+    let third = HeldRequest {
+        request: third,
+        event: 8,
+    };
+    let wanted = [Some(Some(first)), Some(None), Some(Some(third)), None];
+    assert_eq!(rt; turned.as_slice(), wanted.as_slice());
+    assert_eq!(rt; (window.held(), window.turned()), (0, 3));
     Ok(())
 }
 

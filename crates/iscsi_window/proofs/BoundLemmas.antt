@@ -1,20 +1,16 @@
 -- The bounds stay right where a place is written, and where the first one turns; a search from a bound on.
-use Rattle.std.proofs.Common.{◌≡◌, ◌∙◌, ℕ, zero, suc, ◌+◌, ◌-◌, ◌%◌, ◌^◌, ◌<◌, ◌≤◌, ◌==◌, ◌++◌, Bool, true, false, cond, List, [], ◌∷◌, length, min, nat_lt, take, drop, replicate, set, get_or, position, Option, Some, None, arith, ap, sym, refl, subst, ⊎_elim, length-set, get_or-set_same, get_or-set_other}
+use Rattle.std.proofs.Common.{◌≡◌, ◌∙◌, ℕ, suc, ◌+◌, ◌-◌, ◌%◌, ◌^◌, ◌<◌, ◌≤◌, ◌==◌, ◌++◌, Bool, true, false, cond, List, [], ◌∷◌, length, min, nat_lt, take, drop, replicate, set, get_or, position, Option, Some, None, arith, ap, sym, refl, subst, ⊎_elim, length-set, get_or-set_same, get_or-set_other}
 use Rattle.std.proofs.lemmas.Bool.{cases_eq, cases_lt, lt-ltb, eqb-true}
 use Rattle.std.proofs.lemmas.List.{get_or_past, get_or-take, get_or-replicate, length-take, length-replicate}
 use Rattle.std.proofs.lemmas.List.Sums.{position_or_len_is}
 use Rattle.std.proofs.lemmas.List.Quantifiers.{position-Some}
-use Rattle.iscsi_wire.specs.declared.request.Request.{Request}
-use Rattle.iscsi_window.specs.Windows.{is_command}
+use Rattle.iscsi_window.specs.declared.held_request.HeldRequest.{HeldRequest}
+use Rattle.iscsi_window.specs.Windows.{holds_command}
 use Rattle.iscsi_window.specs.Tags.{group_of, is_none_of, occupied, vacated, IsCounted, AreBounds}
+use Rattle.iscsi_window.proofs.PlaceLemmas.{passed}
 use Rattle.iscsi_window.proofs.TagLemmas.{group_within, group_of_true, command_of, is_held}
 
 -- ---- at the opening
-
-nothing_at : (size k : ℕ) → group_of (get_or (let xs : List (Option (Option Request)) = replicate size None in xs) k None) ≡ None
-nothing_at zero k = refl
-nothing_at (suc size) zero = refl
-nothing_at (suc size) (suc k) = nothing_at size k
 
 zeros : (n g : ℕ) → get_or {A = ℕ} (replicate n 0) g 0 ≡ 0
 zeros n g = ⊎_elim (λ lt. get_or-replicate n g 0 0 lt) (λ ge. get_or_past (replicate n 0) g 0 (simp length-replicate ge)) (cases_lt g n)
@@ -29,7 +25,7 @@ opened_bounds size = record {
 -- ---- a place is written
 
 -- one bound is set anew: to a number that is above no request of its group
-module _ (bounds : List ℕ) (turned : ℕ) (xs ys : List (Option (Option Request))) (h n : ℕ)
+module _ (bounds : List ℕ) (turned : ℕ) (xs ys : List (Option (Option HeldRequest))) (h n : ℕ)
     (old : AreBounds bounds turned xs) (within : h < 4093) (fits : n < 2 ^ 64)
     (of_it : (j : ℕ) → group_of (get_or ys j None) ≡ Some h → n ≤ turned + j)
     (of_others : (j g : ℕ) → (g ≡ h → ⊥) → group_of (get_or ys j None) ≡ Some g → get_or bounds g 0 ≤ turned + j)
@@ -54,7 +50,7 @@ module _ (bounds : List ℕ) (turned : ℕ) (xs ys : List (Option (Option Reques
     }
 
 -- what a place has after another one was written
-module _ (xs : List (Option (Option Request))) (k : ℕ) (v : Option (Option Request)) where
+module _ (xs : List (Option (Option HeldRequest))) (k : ℕ) (v : Option (Option HeldRequest)) where
   pub elsewhere : (j : ℕ) (x : Option ℕ) → (j ≡ k → ⊥) → group_of (get_or (set xs k v) j None) ≡ x → group_of (get_or xs j None) ≡ x
   elsewhere j x apart is = ap group_of (sym (get_or-set_other xs k j v None apart)) ∙ is
 
@@ -63,7 +59,7 @@ module _ (xs : List (Option (Option Request))) (k : ℕ) (v : Option (Option Req
       ap group_of (sym (get_or-set_same xs k v None within)) ∙ ap (λ i. group_of (get_or (set xs k v) i None)) (sym same) ∙ is
 
 -- a request comes, or a number with none
-module _ (counts bounds : List ℕ) (turned : ℕ) (xs : List (Option (Option Request))) (k : ℕ) (v : Option (Option Request))
+module _ (counts bounds : List ℕ) (turned : ℕ) (xs : List (Option (Option HeldRequest))) (k : ℕ) (v : Option (Option HeldRequest))
     (counted : IsCounted counts xs) (old : AreBounds bounds turned xs) (within : k < length xs) where
   number : ℕ
   number = min (turned + k) (2 ^ 64 - 1)
@@ -109,7 +105,7 @@ module _ (counts bounds : List ℕ) (turned : ℕ) (xs : List (Option (Option Re
   bounds_filled = by_group (group_of v) (is_none_of counts (group_of v)) refl refl
 
 -- a request is taken out
-module _ (bounds : List ℕ) (turned : ℕ) (xs : List (Option (Option Request))) (k : ℕ) (old : AreBounds bounds turned xs) (within : k < length xs) where
+module _ (bounds : List ℕ) (turned : ℕ) (xs : List (Option (Option HeldRequest))) (k : ℕ) (old : AreBounds bounds turned xs) (within : k < length xs) where
   others : (j g : ℕ) → group_of (get_or (set xs k (Some None)) j None) ≡ Some g → (j ≡ k → ⊥) × (get_or bounds g 0 ≤ turned + j)
   others j g here = ⊎_elim
       (λ same. let one : None ≡ Some g = written xs k (Some None) j (Some g) within same here in absurd cc)
@@ -128,38 +124,27 @@ module _ (bounds : List ℕ) (turned : ℕ) (xs : List (Option (Option Request))
       (λ j here. let o = others j h here in let l : get_or bounds h 0 ≤ turned + j = o.1 in ⊎_elim (λ same. absurd (o.0 same)) (λ apart. omega (arith, l, bound, apart)) (cases_eq j k))
       (λ j g other here. (others j g here).1)
 
-  pub bounds_cleared : (x : Option (Option Request)) → AreBounds (vacated bounds (group_of x) (min (turned + k) (2 ^ 64 - 1))) turned (set xs k (Some None))
+  pub bounds_cleared : (x : Option (Option HeldRequest)) → AreBounds (vacated bounds (group_of x) (min (turned + k) (2 ^ 64 - 1))) turned (set xs k (Some None))
   bounds_cleared None = still
   bounds_cleared (Some None) = still
   bounds_cleared (Some (Some r)) = by_bound _ _ (group_within (Some (Some r)) _ refl) refl
 
 -- ---- the first place turns
 
-push_none : (xs : List (Option (Option Request))) (j : ℕ) → get_or (xs ++ None ∷ []) j None ≡ get_or xs j None
-push_none [] zero = refl
-push_none [] (suc j) = refl
-push_none (x ∷ xs) zero = refl
-push_none (x ∷ xs) (suc j) = push_none xs j
-
-turned_at : (xs : List (Option (Option Request))) (j : ℕ) → get_or (drop 1 xs ++ None ∷ []) j None ≡ get_or xs (suc j) None
-turned_at [] zero = refl
-turned_at [] (suc j) = refl
-turned_at (x ∷ xs) j = push_none xs j
-
-pub turned_bounds : (bounds : List ℕ) (turned : ℕ) (xs : List (Option (Option Request))) → AreBounds bounds turned xs → AreBounds bounds (min (turned + 1) (2 ^ 64 - 1)) (drop 1 xs ++ None ∷ [])
+pub turned_bounds : (bounds : List ℕ) (turned : ℕ) (xs : List (Option (Option HeldRequest))) → AreBounds bounds turned xs → AreBounds bounds (turned + 1) (drop 1 xs ++ None ∷ [])
 turned_bounds bounds turned xs b = record {
   as_many = b.as_many;
   small = b.small;
-  below = λ j g here. let l = b.below (suc j) g (ap group_of (sym (turned_at xs j)) ∙ here) in omega (arith, l, b.small g);
+  below = λ j g here. let l = b.below (suc j) g (ap group_of (sym (passed xs j)) ∙ here) in omega (arith, l);
 }
 
 -- ---- a search
 
 -- no such command is held below the bound of its tag
-pub none_before : (bounds : List ℕ) (turned : ℕ) (xs : List (Option (Option Request))) (tag unit k : ℕ) → AreBounds bounds turned xs → k < get_or bounds (tag % 4093) 0 - turned → is_command tag unit (get_or xs k None) ≡ false
-none_before bounds turned xs tag unit k b short = by_answer (is_command tag unit (get_or xs k None)) refl
+pub none_before : (bounds : List ℕ) (turned : ℕ) (xs : List (Option (Option HeldRequest))) (tag unit k : ℕ) → AreBounds bounds turned xs → k < get_or bounds (tag % 4093) 0 - turned → holds_command tag unit (get_or xs k None) ≡ false
+none_before bounds turned xs tag unit k b short = by_answer (holds_command tag unit (get_or xs k None)) refl
   where
-    by_answer : (p : Bool) → is_command tag unit (get_or xs k None) ≡ p → p ≡ false
+    by_answer : (p : Bool) → holds_command tag unit (get_or xs k None) ≡ p → p ≡ false
     by_answer false is = refl
     by_answer true is =
         let l = b.below k (tag % 4093) (group_of_true (tag % 4093) (group_of (get_or xs k None)) (command_of tag unit (get_or xs k None) is)) in
@@ -189,3 +174,13 @@ module _ {X : Type 0} (p : X → Bool) (xs : List X) (end : ℕ) (d : X) where
           let passes : p (get_or xs k d) ≡ true = ap p (sym (get_or-take end xs k d short)) ∙ found.1 in
           let fails = none k short there in
           absurd cc
+
+-- where none of the group is held the search finds nothing
+pub none_found : (counts : List ℕ) (xs : List (Option (Option HeldRequest))) (tag unit end : ℕ) → IsCounted counts xs → get_or counts (tag % 4093) 0 ≡ 0 → None ≡ position (holds_command tag unit) (take end xs)
+none_found counts xs tag unit end c none = none_below (holds_command tag unit) xs end None (λ j short within. by_answer j within (holds_command tag unit (get_or xs j None)) refl)
+  where
+    by_answer : (j : ℕ) → j < length xs → (p : Bool) → holds_command tag unit (get_or xs j None) ≡ p → p ≡ false
+    by_answer j within false is = refl
+    by_answer j within true is =
+        let some = is_held counts xs j (tag % 4093) c within (group_of_true (tag % 4093) (group_of (get_or xs j None)) (command_of tag unit (get_or xs j None) is)) in
+        absurd (omega (arith, some, none))

@@ -1,19 +1,21 @@
 -- The bits of the slots stay right where a place is written, and where the first one turns; a search by them.
-use Rattle.std.proofs.Common.{◌^◌, w64, min, ◌≡◌, ◌≢◌, ◌∙◌, ℕ, suc, ◌+◌, ◌-◌, ◌*◌, ◌/◌, ◌%◌, ◌<◌, ◌≤◌, ◌==◌, ◌&&◌, ◌++◌, Bool, true, false, List, [], ◌∷◌, length, take, drop, replicate, set, get_or, Option, Some, None, arith, ap, sym, refl, ⊎_elim, get_or-set_same, get_or-set_other, eq-eqb, eqb-true}
+use Rattle.std.proofs.Common.{◌^◌, w64, min, ◌≡◌, ◌≢◌, ◌∙◌, ℕ, suc, ◌+◌, ◌-◌, ◌*◌, ◌/◌, ◌%◌, ◌<◌, ◌≤◌, ◌==◌, ◌++◌, true, false, List, [], ◌∷◌, length, take, drop, replicate, set, get_or, Option, Some, None, arith, ap, sym, refl, ⊎_elim, get_or-set_same, get_or-set_other, eq-eqb}
 use Rattle.std.specs.Prelude.{bit_and, bit_or}
 use Rattle.std.specs.Int.{bit_at, bit_not}
 use Rattle.std.specs.List.{list_any}
-use Rattle.std.proofs.lemmas.Bool.{cases_eq, and_parts}
+use Rattle.std.proofs.lemmas.Bool.Decides.{nat_tests}
+use Rattle.std.proofs.lemmas.Bool.{cases_eq}
 use Rattle.std.proofs.lemmas.List.{get_or-take, get_or-drop}
 use Rattle.std.proofs.lemmas.List.Folds.{list_any_at}
 use Rattle.std.proofs.lemmas.Nat.{and_le_l}
 use Rattle.std.proofs.lemmas.Nat.Bits.{bit_at_set_same, bit_at_set_other, bit_at_clear_same, bit_at_clear_other}
-use Rattle.iscsi_wire.specs.Fields.{opcode, itt, lun, unit_of}
-use Rattle.iscsi_wire.specs.declared.request.Request.{Request}
-use Rattle.iscsi_window.specs.Windows.{is_unit, is_command}
+use Rattle.iscsi_wire.specs.Fields.{itt}
+use Rattle.iscsi_window.specs.declared.held_request.HeldRequest.{HeldRequest}
+use Rattle.iscsi_window.specs.Windows.{holds_command}
 use Rattle.iscsi_window.specs.FilledSlots.{slot_bit, IsSlotSet, AreFilled, NoneTagged}
 use Rattle.iscsi_window.specs.PlaceTags.{AreLabelled}
-use Rattle.iscsi_window.proofs.LabelLemmas.{inside, nothing_at, apart, passed}
+use Rattle.iscsi_window.proofs.PlaceLemmas.{nothing_at, passed}
+use Rattle.iscsi_window.proofs.LabelLemmas.{inside, apart}
 
 -- ---- one bit of a word is written
 
@@ -53,10 +55,10 @@ bit_cleared words n long =
 
 pub none_filled : (size : ℕ) → AreFilled (replicate 16 0) 0 (replicate size None)
 none_filled size = record {
-  marked = λ k r is fits. let none = nothing_at size k in absurd cc;
+  marked = λ k r is fits. let none = nothing_at {X = Option HeldRequest} size k in absurd cc;
 }
 
-pub filled_put : (old new : List ℕ) (turned : ℕ) (xs : List (Option (Option Request))) (k : ℕ) (v : Option (Option Request)) → AreFilled old turned xs → IsSlotSet old new (min (turned + k) (2 ^ 64 - 1)) 1 → length xs ≤ 1024 → k < length xs → AreFilled new turned (set xs k v)
+pub filled_put : (old new : List ℕ) (turned : ℕ) (xs : List (Option (Option HeldRequest))) (k : ℕ) (v : Option (Option HeldRequest)) → AreFilled old turned xs → IsSlotSet old new (min (turned + k) (2 ^ 64 - 1)) 1 → length xs ≤ 1024 → k < length xs → AreFilled new turned (set xs k v)
 filled_put old new turned xs k v f at few within = record {
   marked = λ j r is fits. ⊎_elim
       (λ same.
@@ -69,7 +71,7 @@ filled_put old new turned xs k v f at few within = record {
 }
 
 -- a place has no request any more
-pub filled_cleared : (words : List ℕ) (turned : ℕ) (xs : List (Option (Option Request))) (k : ℕ) → AreFilled words turned xs → k < length xs → AreFilled words turned (set xs k (Some None))
+pub filled_cleared : (words : List ℕ) (turned : ℕ) (xs : List (Option (Option HeldRequest))) (k : ℕ) → AreFilled words turned xs → k < length xs → AreFilled words turned (set xs k (Some None))
 filled_cleared words turned xs k f within = record {
   marked = λ j r is fits. ⊎_elim
       (λ same. absurd (let b : Some None ≡ Some (Some r) = sym (get_or-set_same xs k (Some None) None within) ∙ ap (λ i. get_or (set xs k (Some None)) i None) (sym same) ∙ is in cc))
@@ -78,17 +80,17 @@ filled_cleared words turned xs k f within = record {
 }
 
 -- the first place turns, whether its bit is cleared or not
-pub filled_passed : (words : List ℕ) (turned : ℕ) (xs : List (Option (Option Request))) → AreFilled words turned xs → AreFilled words (min (turned + 1) (2 ^ 64 - 1)) (drop 1 xs ++ None ∷ [])
+pub filled_passed : (words : List ℕ) (turned : ℕ) (xs : List (Option (Option HeldRequest))) → AreFilled words turned xs → AreFilled words (turned + 1) (drop 1 xs ++ None ∷ [])
 filled_passed words turned xs f = record {
   marked = λ j r is fits.
-      let number : min (turned + 1) (2 ^ 64 - 1) + j ≡ turned + suc j = omega (arith, fits) in
+      let number : turned + 1 + j ≡ turned + suc j = omega arith in
       ap (slot_bit words) number ∙ f.marked (suc j) r (sym (passed xs j) ∙ is) (omega (arith, fits, number));
 }
 
-pub filled_turned : (old new : List ℕ) (turned : ℕ) (xs : List (Option (Option Request))) → AreFilled old turned xs → IsSlotSet old new turned 0 → length xs ≤ 1024 → AreFilled new (min (turned + 1) (2 ^ 64 - 1)) (drop 1 xs ++ None ∷ [])
+pub filled_turned : (old new : List ℕ) (turned : ℕ) (xs : List (Option (Option HeldRequest))) → AreFilled old turned xs → IsSlotSet old new turned 0 → length xs ≤ 1024 → AreFilled new (turned + 1) (drop 1 xs ++ None ∷ [])
 filled_turned old new turned xs f at few = record {
   marked = λ j r is fits.
-      let number : min (turned + 1) (2 ^ 64 - 1) + j ≡ turned + suc j = omega (arith, fits) in
+      let number : turned + 1 + j ≡ turned + suc j = omega arith in
       let there : get_or xs (suc j) None ≡ Some (Some r) = sym (passed xs j) ∙ is in
       let low : suc j < 1024 = omega (arith, inside xs (suc j) (Some r) there, few) in
       let other : (turned + suc j) % 1024 ≢ turned % 1024 = λ same. omega (arith, low, same) in
@@ -113,27 +115,20 @@ none_of_word tags part from tag is long none i low same =
     absurd cc
 
 -- what holds a command with the tag has the tag
-command_tag : (tag unit : ℕ) (x : Option (Option Request)) → ((r : Request) → x ≡ Some (Some r) → itt r ≡ tag → ⊥) → is_command tag unit x ≡ false
+command_tag : (tag unit : ℕ) (x : Option (Option HeldRequest)) → ((r : HeldRequest) → x ≡ Some (Some r) → itt r.request ≡ tag → ⊥) → holds_command tag unit x ≡ false
 command_tag tag unit None other = refl
 command_tag tag unit (Some None) other = refl
-command_tag tag unit (Some (Some r)) other = by_test (is_command tag unit (Some (Some r))) refl
-  where
-    by_test : (b : Bool) → is_command tag unit (Some (Some r)) ≡ b → b ≡ false
-    by_test false test = refl
-    by_test true test =
-        let parts = and_parts (opcode r == 1 && itt r == tag) (is_unit unit (unit_of (lun r))) test in
-        let named : (itt r == tag) ≡ true = (and_parts (opcode r == 1) (itt r == tag) parts.0).1 in
-        absurd (other r refl (eqb-true (itt r) tag named))
+command_tag tag unit (Some (Some r)) other = let apart = other r refl in grind (arith, nat_tests)
 
 -- no command with the tag is held where no slot with a bit has it
-pub none_filled_with : (tags words : List ℕ) (turned : ℕ) (xs : List (Option (Option Request))) (tag unit j : ℕ) → AreLabelled tags turned xs → AreFilled words turned xs → turned ≤ 2 ^ 64 - 2049 → NoneTagged tags words tag → j < 1024 → is_command tag unit (get_or xs j None) ≡ false
+pub none_filled_with : (tags words : List ℕ) (turned : ℕ) (xs : List (Option (Option HeldRequest))) (tag unit j : ℕ) → AreLabelled tags turned xs → AreFilled words turned xs → turned ≤ 2 ^ 64 - 2049 → NoneTagged tags words tag → j < 1024 → holds_command tag unit (get_or xs j None) ≡ false
 none_filled_with tags words turned xs tag unit j l f fits none low =
     let short : turned + j < 2 ^ 64 - 1 = omega (arith, fits, low) in
     command_tag tag unit (get_or xs j None) (λ r held same. none (turned + j) (f.marked j r held short) (l.named j r held short ∙ same))
 
 -- no command with the tag is held at places of a word none of whose slots has it
-pub untagged : (tags : List ℕ) (turned : ℕ) (xs : List (Option (Option Request))) (tag unit k count number j : ℕ) → AreLabelled tags turned xs → number ≡ min (turned + k) (2 ^ 64 - 1) → number ≤ 2 ^ 64 - 2049 → number % 64 + count ≤ 64
-    → ((i : ℕ) → i < 64 → get_or tags (number % 1024 / 64 * 64 + i) 0 ≢ tag) → k ≤ j → j < k + count → is_command tag unit (get_or xs j None) ≡ false
+pub untagged : (tags : List ℕ) (turned : ℕ) (xs : List (Option (Option HeldRequest))) (tag unit k count number j : ℕ) → AreLabelled tags turned xs → number ≡ min (turned + k) (2 ^ 64 - 1) → number ≤ 2 ^ 64 - 2049 → number % 64 + count ≤ 64
+    → ((i : ℕ) → i < 64 → get_or tags (number % 1024 / 64 * 64 + i) 0 ≢ tag) → k ≤ j → j < k + count → holds_command tag unit (get_or xs j None) ≡ false
 untagged tags turned xs tag unit k count number j l is fits together none low high =
     let at : turned + j ≡ number + (j - k) = omega (arith, is, fits, low) in
     let short : turned + j < 2 ^ 64 - 1 = omega (arith, is, fits, together, low, high) in

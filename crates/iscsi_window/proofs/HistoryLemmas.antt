@@ -1,6 +1,6 @@
 -- What a window stands for, after each change.
-use Rattle.std.proofs.Common.{◌≡◌, ◌≢◌, ℕ, zero, suc, ◌+◌, ◌-◌, ◌<◌, ◌≤◌, ◌==◌, ◌||◌, ⊎_elim, cond, Bool, true, false, List, [], ◌∷◌, ◌++◌, length, drop, get_or, set, replicate, Option, Some, None, is_some, refl, ap, sym, ◌∙◌, arith, eq-eqb, length-set, length-drop}
-use Rattle.std.proofs.lemmas.Bool.{cases_lt, cases_eq, false≢true}
+use Rattle.std.proofs.Common.{◌≡◌, ◌≢◌, ℕ, zero, suc, ◌+◌, ◌-◌, ◌<◌, ◌≤◌, ◌==◌, ◌||◌, ⊎_elim, cond, true, false, List, [], ◌∷◌, ◌++◌, length, drop, get_or, set, replicate, Option, Some, None, is_some, refl, ap, sym, ◌∙◌, arith, eq-eqb, length-set, length-drop}
+use Rattle.std.proofs.lemmas.Bool.{cases_lt, cases_eq}
 use Rattle.std.proofs.lemmas.Bool.Decides.{nat_tests}
 use Rattle.std.proofs.lemmas.List.{get_or_past, length-replicate, length_push, get_or_append_left, get_or-drop, get_or-set_same, get_or-set_other, get_or-replicate}
 use Rattle.iscsi_wire.specs.declared.request.Request.{Request}
@@ -12,39 +12,19 @@ use Rattle.iscsi_window.specs.History.{Change, Admitted, Voided, Emptied, Turned
 
 -- ---- what is held
 
-or_second : (a b : Bool) → b ≡ true → (a || b) ≡ true
-or_second true b h = refl
-or_second false b h = h
-
 -- what is held was received
 pub received_of_held : (h : List Change) (n : ℕ) (r : Request) → held h n ≡ Some r → is_received h n ≡ true
 received_of_held [] n r is = absurd cc
-received_of_held (Admitted m q ∷ h) n r is =
-    elim (m == n) as (λ b. cond b (Some q) (held h n) ≡ Some r → (b || is_received h n) ≡ true) [
-      | true ↦ λ x. refl
-      | false ↦ λ x. received_of_held h n r x
-    ] is
-received_of_held (Voided m ∷ h) n r is = or_second (m == n) (is_received h n) (received_of_held h n r is)
-received_of_held (Emptied m ∷ h) n r is =
-    elim (m == n) as (λ b. cond b None (held h n) ≡ Some r → is_received h n ≡ true) [
-      | true ↦ λ x. absurd cc
-      | false ↦ λ x. received_of_held h n r x
-    ] is
-received_of_held (Turned m ∷ h) n r is =
-    elim (m == n) as (λ b. cond b None (held h n) ≡ Some r → is_received h n ≡ true) [
-      | true ↦ λ x. absurd cc
-      | false ↦ λ x. received_of_held h n r x
-    ] is
+received_of_held (Admitted m q ∷ h) n r is = grind (arith, received_of_held h n r)
+received_of_held (Voided m ∷ h) n r is = grind (arith, received_of_held h n r)
+received_of_held (Emptied m ∷ h) n r is = grind (arith, received_of_held h n r)
+received_of_held (Turned m ∷ h) n r is = grind (arith, received_of_held h n r)
 received_of_held (Started ∷ h) n r is = received_of_held h n r is
 received_of_held (Finished ∷ h) n r is = received_of_held h n r is
 
 -- what isn't received isn't held
 pub unheld : (h : List Change) (n : ℕ) → is_received h n ≡ false → held h n ≡ None
-unheld h n gone = by_held (held h n) refl
-  where
-    by_held : (x : Option Request) → held h n ≡ x → held h n ≡ None
-    by_held None is = is
-    by_held (Some r) is = absurd (false≢true (sym gone ∙ received_of_held h n r is))
+unheld h n gone = grind (arith, received_of_held h n)
 
 -- nothing is held below ExpCmdSN
 pub unheld_below : (s : Received) (h : List Change) (n : ℕ) → StandsFor s h → n < number_expected s → held h n ≡ None
@@ -59,7 +39,7 @@ pub place_received : (h : List Change) (n : ℕ) → is_received h n ≡ true �
 place_received h n there = ap (λ b. cond b (Some (held h n)) None) there
 
 pub is_some-place_of : (h : List Change) (n : ℕ) → is_some (place_of h n) ≡ is_received h n
-is_some-place_of h n = elim (is_received h n) as (λ b. is_some (let x : Option (Option Request) = cond b (Some (held h n)) None in x) ≡ b) [ true ↦ refl | false ↦ refl ]
+is_some-place_of h n = grind arith
 
 -- a place shows its number, also beyond the last one
 pub place_shows : (s : Received) (h : List Change) (k : ℕ) → StandsFor s h → at_place s k ≡ place_of h (number_expected s + k)

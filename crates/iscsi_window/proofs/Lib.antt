@@ -8,3 +8,4 @@ pub mod TagLemmas
 pub mod BoundLemmas
 pub mod LabelLemmas
 pub mod FilledLemmas
+pub mod ShownLemmas

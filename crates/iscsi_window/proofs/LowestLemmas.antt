@@ -45,8 +45,8 @@ shown_by s (Some k) = refl
 
 read_front : {A : Type 0} (xs : List (Option A)) (m k : ℕ) → get_or (take m xs) k None ≡ cond (nat_lt k m) (get_or xs k None) None
 read_front xs m k = ⊎_elim
-    (λ lt. let test : nat_lt k m ≡ true = grind (arith, nat_tests) in get_or-take m xs k None lt ∙ ap (λ b. cond b (get_or xs k None) None) (sym test))
-    (λ ge. let far : m ≤ k = ge in let test : nat_lt k m ≡ false = grind (arith, nat_tests) in get_or_past (take m xs) k None (simp length-take (omega (arith, far))) ∙ ap (λ b. cond b (get_or xs k None) None) (sym test))
+    (λ lt. let test : nat_lt k m ≡ true = grind (arith, nat_tests) in rw (get_or-take m xs k None lt, test))
+    (λ ge. let test : nat_lt k m ≡ false = grind (arith, nat_tests) in rw (get_or_past (take m xs) k None (simp length-take (omega (arith, ge))), test))
     (cases_lt k m)
 
 pub find_since : (s : Received) (tag unit w : ℕ) (h : List Change) → StandsFor s h → ShowsLowest (is_command_below h tag unit (number_of s.first h w)) (option_map (number_shown s) (find_command s tag unit w))
@@ -67,7 +67,7 @@ find_since s tag unit w h st = record {
     f = is_command tag unit
 
     none : (n : ℕ) → n < e → is_command_below h tag unit below n ≡ false
-    none n lt = ap (λ x. nat_lt n below && is_command tag unit (let y : Option (Option Request) = Some x in y)) (unheld_below s h n st lt) ∙ (let z : (nat_lt n below && false) ≡ false = elim (nat_lt n below) as (λ b. (b && false) ≡ false) [ true ↦ refl | false ↦ refl ] in z)
+    none n lt = rw (unheld_below s h n st lt) (grind arith)
 
     here : (k : ℕ) → f (at_place s k) ≡ f (Some (held h (e + k)))
     here k = ap f (place_shows s h k st) ∙ test_held f h (e + k) refl refl

@@ -1,5 +1,5 @@
 -- Places that are read and written, also beyond the last one.
-use Rattle.std.proofs.Common.{is_some, false, ◌≡◌, ℕ, zero, suc, ◌<◌, length, arith, List, [], ◌∷◌, get_or, set, slice_get, Option, Some, None, ap, sym, refl}
+use Rattle.std.proofs.Common.{◌++◌, drop, replicate, is_some, false, ◌≡◌, ℕ, zero, suc, List, [], ◌∷◌, get_or, set, slice_get, Option, Some, None, ap, sym, refl}
 use Rattle.std.specs.Option.{option_flatten}
 
 pub option_flatten-slice_get : {X : Type 0} (xs : List (Option X)) (k : ℕ) → option_flatten (slice_get xs k) ≡ get_or xs k None
@@ -18,10 +18,23 @@ set_same [] k x read = cc
 set_same (y ∷ xs) zero x read = let same : y ≡ x = cc in ap (λ z. z ∷ xs) (sym same)
 set_same (y ∷ xs) (suc k) x read = ap (λ zs. y ∷ zs) (set_same xs k x read)
 
-pub first_is : {X : Type 0} (xs : List X) → 0 < length xs → slice_get xs 0 ≡ None → ⊥
-first_is [] some none = omega arith
-first_is (x ∷ xs) some none = cc
-
 pub none_there : {X : Type 0} (x : Option X) → is_some x ≡ false → x ≡ None
 none_there None none = refl
 none_there (Some x) none = cc
+
+pub nothing_at : {X : Type 0} (size k : ℕ) → get_or (let xs : List (Option X) = replicate size None in xs) k None ≡ None
+nothing_at zero k = refl
+nothing_at (suc size) zero = refl
+nothing_at (suc size) (suc k) = nothing_at size k
+
+-- the first place turns
+pushed : {X : Type 0} (xs : List (Option X)) (j : ℕ) → get_or (xs ++ None ∷ []) j None ≡ get_or xs j None
+pushed [] zero = refl
+pushed [] (suc j) = refl
+pushed (x ∷ xs) zero = refl
+pushed (x ∷ xs) (suc j) = pushed xs j
+
+pub passed : {X : Type 0} (xs : List (Option X)) (j : ℕ) → get_or (drop 1 xs ++ None ∷ []) j None ≡ get_or xs (suc j) None
+passed [] zero = refl
+passed [] (suc j) = refl
+passed (x ∷ xs) j = pushed xs j

@@ -1,56 +1,65 @@
--- How many places are received, where one is written and where the first one turns.
-use Rattle.std.proofs.Common.{◌≡◌, ℕ, zero, suc, ◌+◌, ◌-◌, ◌^◌, ◌<◌, ◌≤◌, ◌++◌, cond, min, is_some, List, [], ◌∷◌, length, drop, replicate, set, get_or, count_by, Option, Some, None, arith, ap, refl, subst}
-use Rattle.std.proofs.lemmas.List.Sums.{sum_by-set, sum_by-cons, sum_by_push}
-use Rattle.iscsi_wire.specs.declared.request.Request.{Request}
+-- How many places are received, and how many hold a request, where one is written and where the first one turns.
+use Rattle.std.proofs.Common.{◌≡◌, ℕ, zero, suc, ◌+◌, ◌-◌, ◌<◌, ◌≤◌, ◌++◌, cond, Bool, true, false, is_some, List, [], ◌∷◌, length, drop, replicate, set, get_or, count_by, Option, Some, None, arith, ap, refl, subst}
+use Rattle.std.proofs.lemmas.List.Sums.{sum_by-set, sum_by-cons, sum_by_push, get_or-le-sum_by}
+use Rattle.iscsi_window.specs.declared.held_request.HeldRequest.{HeldRequest}
+use Rattle.iscsi_window.specs.Received.{is_held}
 use Rattle.iscsi_window.specs.Tags.{group_of, lowered, AreBounds, ArePlacesSound}
 use Rattle.iscsi_window.proofs.TagLemmas.{turned_counted}
 use Rattle.iscsi_window.proofs.BoundLemmas.{turned_bounds}
 
--- how many numbers a place has received
-abbrev pub one : Option (Option Request) → ℕ
-one x = cond (is_some x) 1 0
+module _ (p : Option (Option HeldRequest) → Bool) where
+  -- 1 for a place that passes
+  abbrev pub one : Option (Option HeldRequest) → ℕ
+  one x = cond (p x) 1 0
 
-pub one_most : (x : Option (Option Request)) → one x ≤ 1
-one_most None = omega arith
-one_most (Some r) = omega arith
+  pub one_most : (x : Option (Option HeldRequest)) → one x ≤ 1
+  one_most x = elim (p x) as (λ b. cond b 1 0 ≤ 1) [ true ↦ omega arith | false ↦ omega arith ]
 
-pub none_received : (size : ℕ) → 0 ≡ count_by is_some (let xs : List (Option (Option Request)) = replicate size None in xs)
-none_received zero = refl
-none_received (suc size) = let rest = none_received size in let first = sum_by-cons one None (replicate size None) in omega (arith, rest, first)
+  pub one_counted : (xs : List (Option (Option HeldRequest))) (k : ℕ) → k < length xs → one (get_or xs k None) ≤ count_by p xs
+  one_counted xs k within = get_or-le-sum_by one xs k None within
 
-pub received_set : (xs : List (Option (Option Request))) (k : ℕ) (v : Option (Option Request)) → k < length xs
-    → count_by is_some (set xs k v) + one (get_or xs k None) ≡ count_by is_some xs + one v
-received_set xs k v within = sum_by-set one xs k v None within
+  pub count_set : (xs : List (Option (Option HeldRequest))) (k : ℕ) (v : Option (Option HeldRequest)) → k < length xs → count_by p (set xs k v) + one (get_or xs k None) ≡ count_by p xs + one v
+  count_set xs k v within = sum_by-set one xs k v None within
 
-received_turned : (xs : List (Option (Option Request))) → count_by is_some (drop 1 xs ++ None ∷ []) + one (get_or xs 0 None) ≡ count_by is_some xs
-received_turned [] = refl
-received_turned (x ∷ xs) = let cut = sum_by-cons one x xs in let more = sum_by_push one xs None in omega (arith, cut, more)
+  pub none_pass : p None ≡ false → (size : ℕ) → 0 ≡ count_by p (replicate size None)
+  none_pass fails zero = refl
+  none_pass fails (suc size) =
+      let rest = none_pass fails size in
+      let first = sum_by-cons one None (replicate size None) in
+      let none : ◌≡◌ {A = ℕ} (one None) 0 = ap (λ b. cond b 1 0) fails in
+      omega (arith, rest, first, none)
+
+  count_turned : p None ≡ false → (xs : List (Option (Option HeldRequest))) → count_by p (drop 1 xs ++ None ∷ []) + one (get_or xs 0 None) ≡ count_by p xs
+  count_turned fails [] = let none : ◌≡◌ {A = ℕ} (one None) 0 = ap (λ b. cond b 1 0) fails in let push = sum_by_push one [] None in omega (arith, none, push)
+  count_turned fails (x ∷ xs) = let none : ◌≡◌ {A = ℕ} (one None) 0 = ap (λ b. cond b 1 0) fails in let cut = sum_by-cons one x xs in let more = sum_by_push one xs None in omega (arith, cut, more, none)
 
 -- where nothing is received all places are alike
-all_alike : (xs : List (Option (Option Request))) → 0 ≡ count_by is_some xs → xs ++ None ∷ [] ≡ None ∷ xs
+all_alike : (xs : List (Option (Option HeldRequest))) → 0 ≡ count_by is_some xs → xs ++ None ∷ [] ≡ None ∷ xs
 all_alike [] none = refl
-all_alike (Some x ∷ xs) none = absurd (let first = sum_by-cons one (Some x) xs in omega (arith, first, none))
-all_alike (None ∷ xs) none = ap (λ ys. None ∷ ys) (all_alike xs (let first = sum_by-cons one None xs in omega (arith, first, none)))
+all_alike (Some x ∷ xs) none = absurd (let first = sum_by-cons (one is_some) (Some x) xs in omega (arith, first, none))
+all_alike (None ∷ xs) none = ap (λ ys. None ∷ ys) (all_alike xs (let first = sum_by-cons (one is_some) None xs in omega (arith, first, none)))
 
-pub turns_into_itself : (xs : List (Option (Option Request))) → 0 < length xs → 0 ≡ count_by is_some xs → drop 1 xs ++ None ∷ [] ≡ xs
+pub turns_into_itself : (xs : List (Option (Option HeldRequest))) → 0 < length xs → 0 ≡ count_by is_some xs → drop 1 xs ++ None ∷ [] ≡ xs
 turns_into_itself [] some none = absurd (omega (arith, some))
-turns_into_itself (Some x ∷ xs) some none = absurd (let first = sum_by-cons one (Some x) xs in omega (arith, first, none))
-turns_into_itself (None ∷ xs) some none = all_alike xs (let first = sum_by-cons one None xs in omega (arith, first, none))
+turns_into_itself (Some x ∷ xs) some none = absurd (let first = sum_by-cons (one is_some) (Some x) xs in omega (arith, first, none))
+turns_into_itself (None ∷ xs) some none = all_alike xs (let first = sum_by-cons (one is_some) None xs in omega (arith, first, none))
 
 -- ---- what the counters say where the first place turns: through the ring, or past it
 
-pub turned_sound : (counts bounds : List ℕ) (turned received : ℕ) (xs : List (Option (Option Request))) → ArePlacesSound counts bounds turned received xs → 0 < length xs
-    → ArePlacesSound (lowered counts (group_of (get_or xs 0 None))) bounds (min (turned + 1) (2 ^ 64 - 1)) (received - one (get_or xs 0 None)) (drop 1 xs ++ None ∷ [])
-turned_sound counts bounds turned received xs sound some = record {
+pub turned_sound : (counts bounds : List ℕ) (turned received held : ℕ) (xs : List (Option (Option HeldRequest))) → ArePlacesSound counts bounds turned received held xs → 0 < length xs
+    → ArePlacesSound (lowered counts (group_of (get_or xs 0 None))) bounds (turned + 1) (received - one is_some (get_or xs 0 None)) (held - one is_held (get_or xs 0 None)) (drop 1 xs ++ None ∷ [])
+turned_sound counts bounds turned received held xs sound some = record {
   tags = turned_counted counts xs sound.tags some;
   lowest = turned_bounds bounds turned xs sound.lowest;
-  as_many = let cut = received_turned xs in omega (arith, cut, sound.as_many);
+  as_many = let cut = count_turned is_some refl xs in omega (arith, cut, sound.as_many);
+  held_are = let cut = count_turned is_held refl xs in omega (arith, cut, sound.held_are);
 }
 
-pub passed_sound : (counts bounds : List ℕ) (turned received : ℕ) (xs : List (Option (Option Request))) → ArePlacesSound counts bounds turned received xs → 0 < length xs
-    → 0 ≡ count_by is_some xs → ArePlacesSound counts bounds (min (turned + 1) (2 ^ 64 - 1)) received xs
-passed_sound counts bounds turned received xs sound some none = record {
+pub passed_sound : (counts bounds : List ℕ) (turned received held : ℕ) (xs : List (Option (Option HeldRequest))) → ArePlacesSound counts bounds turned received held xs → 0 < length xs
+    → 0 ≡ count_by is_some xs → ArePlacesSound counts bounds (turned + 1) received held xs
+passed_sound counts bounds turned received held xs sound some none = record {
   tags = sound.tags;
-  lowest = subst (AreBounds bounds (min (turned + 1) (2 ^ 64 - 1))) (turns_into_itself xs some none) (turned_bounds bounds turned xs sound.lowest);
+  lowest = subst (AreBounds bounds (turned + 1)) (turns_into_itself xs some none) (turned_bounds bounds turned xs sound.lowest);
   as_many = sound.as_many;
+  held_are = sound.held_are;
 }

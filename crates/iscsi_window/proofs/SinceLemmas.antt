@@ -8,12 +8,12 @@ use Rattle.iscsi_wire.specs.Serial.{wire, lift, number_of_first}
 use Rattle.iscsi_wire.specs.Fields.{cmd_sn}
 use Rattle.iscsi_window.specs.declared.answer.Place.TheVariants.{Inside, Outside}
 use Rattle.iscsi_window.specs.declared.answer.Offer.{Offer}
-use Rattle.iscsi_window.specs.declared.answer.Offer.TheVariants.{Held, Outside as OutsideWindow, Duplicate}
+use Rattle.iscsi_window.specs.declared.answer.Offer.TheVariants.{Held, Duplicate}
 use Rattle.iscsi_window.specs.declared.answer.Turned.{Turned as Turn}
 use Rattle.iscsi_window.specs.Received.{Received, number_expected, room_of, at_place, IsSound}
 use Rattle.iscsi_window.specs.Windows.{number_last, place_in, IsInside, with_place, held_at, is_received_at, received_at, offer_at, offer_to, offered_to, voided, is_held_from, number_shown, emptied, emptied_if, taken_at, turned_by, advanced, advanced_if, is_next_at, is_next}
-use Rattle.iscsi_window.specs.History.{Change, Admitted, Voided, Emptied, Turned, is_received, held, has_turned, expected, last, place_of, StandsFor, number_of, after_offer, after_voiding, after_taking, after_emptying, after_turning, offer_since, turn_since, is_held_at, held_number, Law}
-use Rattle.iscsi_window.proofs.HistoryLemmas.{received_of_held, unheld, unheld_below, place_missing, place_received, is_some-place_of, place_shows, StandsFor-admitted, StandsFor-voided, StandsFor-emptied, StandsFor-turned}
+use Rattle.iscsi_window.specs.History.{Change, Admitted, Voided, Emptied, Turned, is_received, held, has_turned, expected, last, place_of, StandsFor, number_of, after_offer, after_voiding, after_taking, after_emptying, after_turning, offer_since, is_next_since, turn_since, is_held_at, held_number, Law}
+use Rattle.iscsi_window.proofs.HistoryLemmas.{received_of_held, unheld, unheld_below, is_some-place_of, place_shows, StandsFor-admitted, StandsFor-voided, StandsFor-emptied, StandsFor-turned}
 
 -- ExpCmdSN, as the history has it
 pub expected_is : (s : Received) (h : List Change) → StandsFor s h → number_expected s ≡ expected s.first h
@@ -78,39 +78,21 @@ StandsFor-offer s r answer now h st told state =
 
 pub offered_since : (s : Received) (r : Request) (h : List Change) → IsSound s → StandsFor s h → offer_to s r ≡ offer_since s.first (length s.places) h (number_of s.first h (cmd_sn r))
 offered_since s r h sound st =
-    ⊎_elim inside outside (stands_or_strays s (cmd_sn r))
-    ∙ ap (λ e. cond (nat_le e (lift e (cmd_sn r)) && nat_le (lift e (cmd_sn r)) (e + length s.places - 1 - s.unfinished)) (cond (is_received h (lift e (cmd_sn r))) Duplicate Held) OutsideWindow) (expected_is s h st)
-    ∙ ap (λ u. cond (nat_le (expected s.first h) m && nat_le m (expected s.first h + length s.places - 1 - u)) (cond (is_received h m) Duplicate Held) OutsideWindow) st.unfinished
-  where
-    n : ℕ
-    n = lift (number_expected s) (cmd_sn r)
+    let e : ℕ = number_expected s in
+    let k : ℕ = lift e (cmd_sn r) - e in
+    grind (arith, nat_tests, expected_is s h st, st.unfinished, place_shows s h k st, is_some-place_of h (e + k))
 
-    m : ℕ
-    m = number_of s.first h (cmd_sn r)
-
-    test : Bool
-    test = nat_le (number_expected s) n && nat_le n (number_last s)
-
-    inside : Stands s (cmd_sn r) (n - number_expected s) → offer_to s r ≡ cond test (cond (is_received h n) Duplicate Held) OutsideWindow
-    inside x =
-        let within : test ≡ true = let low : number_expected s ≤ n = omega (arith, x.number) in let high : n ≤ number_last s = omega (arith, x.number, x.within, sound.counted) in grind (arith, nat_tests) in
-        ap (offer_at s) x.place ∙ ap (λ b. cond b Duplicate Held) (received_here s (cmd_sn r) (n - number_expected s) h st x) ∙ ap (λ b. cond b (cond (is_received h n) Duplicate Held) OutsideWindow) (sym within)
-
-    outside : Strays s (cmd_sn r) → offer_to s r ≡ cond test (cond (is_received h n) Duplicate Held) OutsideWindow
-    outside x =
-        let without : test ≡ false = ⊎_elim
-        (λ lt. let no : test ≡ false = grind (arith, nat_tests) in no)
-        (λ ge. let far : number_last s < n = omega (arith, ge, sound.counted, sound.not_empty) in let no : test ≡ false = grind (arith, nat_tests) in no)
-        x.far in
-        ap (offer_at s) x.no_place ∙ ap (λ b. cond b (cond (is_received h n) Duplicate Held) OutsideWindow) (sym without)
+-- the number that comes next
+pub next_since : (s : Received) (r : Request) (h : List Change) → IsSound s → StandsFor s h → is_next s r ≡ is_next_since s.first (length s.places) h (number_of s.first h (cmd_sn r))
+next_since s r h sound st = let first = place_shows s h 0 st in let some = is_some-place_of h (number_expected s + 0) in grind (arith, nat_tests, expected_is s h st, st.unfinished, first, some)
 
 -- ---- a number without a request
 
 pub voided_since : (s : Received) (w : ℕ) (h : List Change) → StandsFor s h → IsInside (place_in s w) → is_received_at s (place_in s w) ≡ is_received h (number_of s.first h w)
-voided_since s w h st there = ⊎_elim
-    (λ x. ap (is_received_at s) x.place ∙ received_here s w (lift (number_expected s) w - number_expected s) h st x ∙ ap (λ e. is_received h (lift e w)) (expected_is s h st))
-    (λ x. absurd (subst IsInside x.no_place there))
-    (stands_or_strays s w)
+voided_since s w h st there =
+    let e : ℕ = number_expected s in
+    let k : ℕ = lift e w - e in
+    grind (arith, nat_tests, expected_is s h st, place_shows s h k st, is_some-place_of h (e + k))
 
 voided_stands : (s : Received) (w : ℕ) (h : List Change) → StandsFor s h → IsInside (place_in s w) → StandsFor (voided s w) (after_voiding (not (is_received_at s (place_in s w))) (number_of s.first h w) h)
 voided_stands s w h st there =
@@ -139,24 +121,16 @@ StandsFor-void s w answer now h st there told state =
 
 -- a test that passes for nothing tells the same of a place and of what is held
 pub test_held : (f : Option (Option Request) → Bool) (h : List Change) (n : ℕ) → f None ≡ false → f (Some None) ≡ false → f (place_of h n) ≡ f (Some (held h n))
-test_held f h n missing empty = by_received (is_received h n) refl
-  where
-    by_received : (b : Bool) → is_received h n ≡ b → f (place_of h n) ≡ f (Some (held h n))
-    by_received true is = ap f (place_received h n is)
-    by_received false is = ap f (place_missing h n is) ∙ missing ∙ sym (ap (λ x. let y : Option (Option Request) = Some x in f y) (unheld h n is) ∙ empty)
+test_held f h n missing empty = grind (arith, unheld h n)
 
 held_place : (h : List Change) (n : ℕ) → option_flatten (place_of h n) ≡ held h n
-held_place h n = by_received (is_received h n) refl
-  where
-    by_received : (b : Bool) → is_received h n ≡ b → option_flatten (place_of h n) ≡ held h n
-    by_received true is = ap option_flatten (place_received h n is)
-    by_received false is = ap option_flatten (place_missing h n is) ∙ sym (unheld h n is)
+held_place h n = grind (arith, unheld h n)
 
 held_here : (s : Received) (w : ℕ) (h : List Change) → StandsFor s h → held_at s (place_in s w) ≡ held h (lift (number_expected s) w)
-held_here s w h st = ⊎_elim
-    (λ x. let k : ℕ = lift (number_expected s) w - number_expected s in ap (held_at s) x.place ∙ ap option_flatten (place_shows s h k st) ∙ held_place h (number_expected s + k) ∙ ap (held h) x.number)
-    (λ x. ap (held_at s) x.no_place ∙ sym (⊎_elim (λ lt. unheld_below s h (lift (number_expected s) w) st lt) (λ ge. unheld h (lift (number_expected s) w) (st.above (lift (number_expected s) w) ge)) x.far))
-    (stands_or_strays s w)
+held_here s w h st =
+    let e : ℕ = number_expected s in
+    let n : ℕ = lift e w in
+    grind (arith, nat_tests, place_shows s h (n - e) st, held_place h (e + (n - e)), unheld_below s h n st, unheld h n, st.above n)
 
 pub emptied_since : (s : Received) (w : ℕ) (h : List Change) → StandsFor s h → held_at s (place_in s w) ≡ held h (number_of s.first h w)
 emptied_since s w h st = held_here s w h st ∙ ap (λ e. held h (lift e w)) (expected_is s h st)
@@ -187,11 +161,7 @@ StandsFor-empty s w answer now h st told state =
 
 -- a test that passes where a request is held shows that its number was received
 pub received_of_test : (f : Option (Option Request) → Bool) (h : List Change) (n : ℕ) → f (Some None) ≡ false → f (Some (held h n)) ≡ true → is_received h n ≡ true
-received_of_test f h n empty passes = by_held (held h n) refl passes
-  where
-    by_held : (x : Option Request) → held h n ≡ x → f (Some x) ≡ true → is_received h n ≡ true
-    by_held None is said = absurd (false≢true (sym empty ∙ said))
-    by_held (Some r) is said = received_of_held h n r is
+received_of_test f h n empty passes = grind (arith, unheld h n)
 
 -- a received number, from ExpCmdSN on, has a place below the room
 pub within_room : (s : Received) (k : ℕ) (h : List Change) → StandsFor s h → is_received h (number_expected s + k) ≡ true → k < room_of s
@@ -202,14 +172,7 @@ held_from_here s k conn h st = ap (is_held_from conn) (place_shows s h k st) ∙
 
 pub taken_since : (s : Received) (k : ℕ) (conn : Option ℕ) (h : List Change) → StandsFor s h
     → cond (is_held_from conn (at_place s k)) (Some (number_shown s k)) None ≡ option_map wire (held_number h conn (expected s.first h + k))
-taken_since s k conn h st =
-    ap (λ b. cond b (Some (number_shown s k)) None) (held_from_here s k conn h st)
-    ∙ by_test (is_held_at h conn (number_expected s + k))
-    ∙ ap (λ e. option_map wire (held_number h conn (e + k))) (expected_is s h st)
-  where
-    by_test : (b : Bool) → cond b (Some (number_shown s k)) None ≡ option_map wire (cond b (Some (number_expected s + k)) None)
-    by_test true = refl
-    by_test false = refl
+taken_since s k conn h st = grind (arith, held_from_here s k conn h st, expected_is s h st)
 
 taken_stands : (s : Received) (k : ℕ) (conn : Option ℕ) (h : List Change) → StandsFor s h → StandsFor (taken_at s k conn) (after_emptying (held_number h conn (expected s.first h + k)) h)
 taken_stands s k conn h st =
@@ -239,14 +202,7 @@ turn_at e h = cond (is_received h e) (Some (record { sn = wire e; request = held
 
 turned_here : (s : Received) (h : List Change) → StandsFor s h → turned_by s ≡ turn_at (number_expected s) h
 unfolding turn_at
-turned_here s h st = ap (option_map (λ (r : Option Request). let t : Turn = record { sn = wire e; request = r } in t)) (first_shows s h st) ∙ by_received (is_received h e)
-  where
-    e : ℕ
-    e = number_expected s
-
-    by_received : (b : Bool) → option_map (λ (r : Option Request). let t : Turn = record { sn = wire e; request = r } in t) (let x : Option (Option Request) = cond b (Some (held h e)) None in x) ≡ cond b (Some (record { sn = wire e; request = held h e })) None
-    by_received true = refl
-    by_received false = refl
+turned_here s h st = grind (arith, first_shows s h st)
 
 pub turned_since : (s : Received) (h : List Change) → StandsFor s h → turned_by s ≡ turn_since s.first h
 unfolding turn_at

@@ -1,131 +1,90 @@
 -- The counters stay right where a place is written, and where the first one turns.
-use Rattle.std.proofs.Common.{◌≡◌, ◌∙◌, ℕ, ◌+◌, ◌-◌, ◌%◌, ◌<◌, ◌≤◌, ◌==◌, ◌&&◌, ◌++◌, true, false, cond, List, [], ◌∷◌, length, take, drop, replicate, set, get_or, position, count_by, Option, Some, None, arith, ap, sym, refl, subst, ⊎_elim, zero, suc, length-set, length-append, get_or-set_same, get_or-set_other}
-use Rattle.std.proofs.lemmas.Bool.{cases_eq, cases_lt, eq-eqb, ne_eqb, eqb-true, and_parts}
+use Rattle.std.proofs.Common.{◌≡◌, ◌∙◌, ℕ, ◌+◌, ◌-◌, ◌%◌, ◌<◌, ◌≤◌, ◌++◌, true, cond, List, [], ◌∷◌, length, drop, replicate, set, get_or, count_by, Option, Some, None, arith, ap, sym, refl, subst, ⊎_elim, zero, suc, length-set, length-append, get_or-set_same, get_or-set_other}
+use Rattle.std.proofs.lemmas.Bool.{cases_lt, eqb-true}
+use Rattle.std.proofs.lemmas.Bool.Decides.{nat_tests}
 use Rattle.std.specs.List.{slice_get}
 use Rattle.std.proofs.lemmas.Option.{slice_get_within, get_or_from_slice_get}
-use Rattle.std.proofs.lemmas.List.{get_or_past, get_or-take, get_or-replicate, length-take, length-replicate, set-set}
-use Rattle.std.proofs.lemmas.List.Quantifiers.{position-Some}
+use Rattle.std.proofs.lemmas.List.{get_or_past, get_or-replicate, length-replicate, set-set}
 use Rattle.std.proofs.lemmas.List.Sums.{sum_by-set, sum_by-cons, sum_by_push, count_by-le-length, get_or-le-sum_by}
-use Rattle.iscsi_wire.specs.Fields.{opcode, itt, lun, unit_of}
-use Rattle.iscsi_wire.specs.declared.request.Request.{Request}
-use Rattle.iscsi_window.specs.Windows.{is_unit, is_command}
+use Rattle.iscsi_wire.specs.Fields.{itt}
+use Rattle.iscsi_window.specs.declared.held_request.HeldRequest.{HeldRequest}
+use Rattle.iscsi_window.specs.Windows.{holds_command}
 use Rattle.iscsi_window.specs.Tags.{group_of, is_group, is_of, raised, lowered, IsCounted}
 
 -- ---- one place is written
 
-count_set : (g : ℕ) (xs : List (Option (Option Request))) (k : ℕ) (v : Option (Option Request)) → k < length xs → count_by (is_of g) (set xs k v) + cond (is_of g (get_or xs k None)) 1 0 ≡ count_by (is_of g) xs + cond (is_of g v) 1 0
+count_set : (g : ℕ) (xs : List (Option (Option HeldRequest))) (k : ℕ) (v : Option (Option HeldRequest)) → k < length xs → count_by (is_of g) (set xs k v) + cond (is_of g (get_or xs k None)) 1 0 ≡ count_by (is_of g) xs + cond (is_of g v) 1 0
 count_set g xs k v within = sum_by-set (λ x. cond (is_of g x) 1 0) xs k v None within
-
--- a group that a place has is counted there, and no other one
-one_of : (g : ℕ) (x : Option ℕ) (h : ℕ) → x ≡ Some h → g ≡ h → is_group g x ≡ true
-one_of g x h is same = ap (is_group g) is ∙ eq-eqb h g (sym same)
-
-none_of : (g : ℕ) (x : Option ℕ) (h : ℕ) → x ≡ Some h → (g ≡ h → ⊥) → is_group g x ≡ false
-none_of g x h is other = ap (is_group g) is ∙ ne_eqb h g (λ e. other (sym e))
 
 pub group_of_true : (g : ℕ) (x : Option ℕ) → is_group g x ≡ true → x ≡ Some g
 group_of_true g None passes = cc
 group_of_true g (Some h) passes = ap Some (eqb-true h g passes)
 
 -- a counter that a group of a place has stands in the table
-pub group_within : (place : Option (Option Request)) (g : ℕ) → group_of place ≡ Some g → g < 4093
+pub group_within : (place : Option (Option HeldRequest)) (g : ℕ) → group_of place ≡ Some g → g < 4093
 group_within None g is = cc
 group_within (Some None) g is = cc
-group_within (Some (Some r)) g is = let same : Some (itt r % 4093) ≡ Some g = is in let eq : itt r % 4093 ≡ g = cc in omega (arith, eq)
+group_within (Some (Some r)) g is = let same : Some (itt r.request % 4093) ≡ Some g = is in let eq : itt r.request % 4093 ≡ g = cc in omega (arith, eq)
 
-pub is_held : (counts : List ℕ) (xs : List (Option (Option Request))) (k g : ℕ) → IsCounted counts xs → k < length xs → group_of (get_or xs k None) ≡ Some g → 0 < get_or counts g 0
-is_held counts xs k g c within is =
-    let least : cond (is_of g (get_or xs k None)) 1 0 ≤ count_by (is_of g) xs = get_or-le-sum_by (λ x. cond (is_of g x) 1 0) xs k None within in
-    let one : ◌≡◌ {A = ℕ} (cond (is_of g (get_or xs k None)) 1 0) 1 = ap (λ b. cond b 1 0) (one_of g (group_of (get_or xs k None)) g is refl) in
-    omega (arith, least, one, c.exact g)
+pub is_held : (counts : List ℕ) (xs : List (Option (Option HeldRequest))) (k g : ℕ) → IsCounted counts xs → k < length xs → group_of (get_or xs k None) ≡ Some g → 0 < get_or counts g 0
+is_held counts xs k g c within is = let least = get_or-le-sum_by (λ x. cond (is_of g x) 1 0) xs k None within in grind (arith, nat_tests, c.exact g)
 
 -- a counter has room for one more
-pub is_few : (counts : List ℕ) (xs : List (Option (Option Request))) (g : ℕ) → IsCounted counts xs → get_or counts g 0 < 65535
+pub is_few : (counts : List ℕ) (xs : List (Option (Option HeldRequest))) (g : ℕ) → IsCounted counts xs → get_or counts g 0 < 65535
 is_few counts xs g c = omega (arith, c.exact g, c.few, count_by-le-length (is_of g) xs)
 
 -- what was there is taken back
-lowered_counted : (counts : List ℕ) (xs : List (Option (Option Request))) (k : ℕ) → IsCounted counts xs → k < length xs → IsCounted (lowered counts (group_of (get_or xs k None))) (set xs k None)
+lowered_counted : (counts : List ℕ) (xs : List (Option (Option HeldRequest))) (k : ℕ) → IsCounted counts xs → k < length xs → IsCounted (lowered counts (group_of (get_or xs k None))) (set xs k None)
 lowered_counted counts xs k c within = by_group (group_of (get_or xs k None)) refl
   where
-    left : (g : ℕ) → count_by (is_of g) (set xs k None) + cond (is_group g (group_of (get_or xs k None))) 1 0 ≡ get_or counts g 0
-    left g = let z = count_set g xs k None within in omega (arith, z, c.exact g)
-
-    few : length (set xs k None) ≤ 1024
-    few = simp length-set c.few
-
     by_group : (x : Option ℕ) → group_of (get_or xs k None) ≡ x → IsCounted (lowered counts x) (set xs k None)
     by_group None is = record {
       as_many = c.as_many;
-      few = few;
-      exact = λ g. let none : ◌≡◌ {A = ℕ} (cond (is_group g (group_of (get_or xs k None))) 1 0) 0 = ap (λ x. cond (is_group g x) 1 0) is in omega (arith, left g, none);
+      few = simp length-set c.few;
+      exact = λ g. grind (arith, count_set g xs k None within, c.exact g);
     }
     by_group (Some h) is = record {
       as_many = length-set counts h (get_or counts h 0 - 1) ∙ c.as_many;
-      few = few;
-      exact = λ g. ⊎_elim
-          (λ same.
-          let here : get_or (set counts h (get_or counts h 0 - 1)) g 0 ≡ get_or counts h 0 - 1 = subst (λ i. get_or (set counts h (get_or counts h 0 - 1)) i 0 ≡ get_or counts h 0 - 1) (sym same) (get_or-set_same counts h (get_or counts h 0 - 1) 0 (let low = group_within (get_or xs k None) h is in omega (arith, low, c.as_many))) in
-          let one : ◌≡◌ {A = ℕ} (cond (is_group g (group_of (get_or xs k None))) 1 0) 1 = ap (λ b. cond b 1 0) (one_of g (group_of (get_or xs k None)) h is same) in
-          let at : get_or counts g 0 ≡ get_or counts h 0 = ap (λ i. get_or counts i 0) same in
-          omega (arith, left g, one, here, at))
-          (λ other.
-          let there : get_or (set counts h (get_or counts h 0 - 1)) g 0 ≡ get_or counts g 0 = get_or-set_other counts h g (get_or counts h 0 - 1) 0 other in
-          let none : ◌≡◌ {A = ℕ} (cond (is_group g (group_of (get_or xs k None))) 1 0) 0 = ap (λ b. cond b 1 0) (none_of g (group_of (get_or xs k None)) h is other) in
-          omega (arith, left g, none, there))
-          (cases_eq g h);
+      few = simp length-set c.few;
+      exact = λ g.
+          let low = group_within (get_or xs k None) h is in
+          grind (arith, nat_tests, count_set g xs k None within, c.exact g, c.as_many, get_or-set_same counts h (get_or counts h 0 - 1) 0, get_or-set_other counts h g (get_or counts h 0 - 1) 0);
     }
 
 -- what comes there is counted, where nothing was
-pub raised_counted : (counts : List ℕ) (xs : List (Option (Option Request))) (k : ℕ) (v : Option (Option Request)) → IsCounted counts xs → k < length xs → get_or xs k None ≡ None → IsCounted (raised counts (group_of v)) (set xs k v)
+pub raised_counted : (counts : List ℕ) (xs : List (Option (Option HeldRequest))) (k : ℕ) (v : Option (Option HeldRequest)) → IsCounted counts xs → k < length xs → get_or xs k None ≡ None → IsCounted (raised counts (group_of v)) (set xs k v)
 raised_counted counts xs k v c within free = by_group (group_of v) refl
   where
-    more : (g : ℕ) → count_by (is_of g) (set xs k v) ≡ get_or counts g 0 + cond (is_group g (group_of v)) 1 0
-    more g =
-        let z = count_set g xs k v within in
-        let none : ◌≡◌ {A = ℕ} (cond (is_of g (get_or xs k None)) 1 0) 0 = ap (λ x. cond (is_of g x) 1 0) free in
-        omega (arith, z, none, c.exact g)
-
-    few : length (set xs k v) ≤ 1024
-    few = simp length-set c.few
-
     by_group : (x : Option ℕ) → group_of v ≡ x → IsCounted (raised counts x) (set xs k v)
     by_group None is = record {
       as_many = c.as_many;
-      few = few;
-      exact = λ g. let none : ◌≡◌ {A = ℕ} (cond (is_group g (group_of v)) 1 0) 0 = ap (λ x. cond (is_group g x) 1 0) is in omega (arith, more g, none);
+      few = simp length-set c.few;
+      exact = λ g. grind (arith, count_set g xs k v within, c.exact g);
     }
     by_group (Some h) is = record {
       as_many = length-set counts h (get_or counts h 0 + 1) ∙ c.as_many;
-      few = few;
-      exact = λ g. ⊎_elim
-          (λ same.
-          let here : get_or (set counts h (get_or counts h 0 + 1)) g 0 ≡ get_or counts h 0 + 1 = subst (λ i. get_or (set counts h (get_or counts h 0 + 1)) i 0 ≡ get_or counts h 0 + 1) (sym same) (get_or-set_same counts h (get_or counts h 0 + 1) 0 (let low = group_within v h is in omega (arith, low, c.as_many))) in
-          let one : ◌≡◌ {A = ℕ} (cond (is_group g (group_of v)) 1 0) 1 = ap (λ b. cond b 1 0) (one_of g (group_of v) h is same) in
-          let at : get_or counts g 0 ≡ get_or counts h 0 = ap (λ i. get_or counts i 0) same in
-          omega (arith, more g, one, here, at))
-          (λ other.
-          let there : get_or (set counts h (get_or counts h 0 + 1)) g 0 ≡ get_or counts g 0 = get_or-set_other counts h g (get_or counts h 0 + 1) 0 other in
-          let none : ◌≡◌ {A = ℕ} (cond (is_group g (group_of v)) 1 0) 0 = ap (λ b. cond b 1 0) (none_of g (group_of v) h is other) in
-          omega (arith, more g, none, there))
-          (cases_eq g h);
+      few = simp length-set c.few;
+      exact = λ g.
+          let low = group_within v h is in
+          grind (arith, nat_tests, count_set g xs k v within, c.exact g, c.as_many, get_or-set_same counts h (get_or counts h 0 + 1) 0, get_or-set_other counts h g (get_or counts h 0 + 1) 0);
     }
 
-put_within : (counts : List ℕ) (xs : List (Option (Option Request))) (k : ℕ) (v : Option (Option Request)) → IsCounted counts xs → k < length xs → IsCounted (raised (lowered counts (group_of (get_or xs k None))) (group_of v)) (set xs k v)
+put_within : (counts : List ℕ) (xs : List (Option (Option HeldRequest))) (k : ℕ) (v : Option (Option HeldRequest)) → IsCounted counts xs → k < length xs → IsCounted (raised (lowered counts (group_of (get_or xs k None))) (group_of v)) (set xs k v)
 put_within counts xs k v c within =
     subst (IsCounted (raised (lowered counts (group_of (get_or xs k None))) (group_of v))) (set-set xs k None v)
     (raised_counted (lowered counts (group_of (get_or xs k None))) (set xs k None) k v (lowered_counted counts xs k c within) (simp length-set within) (get_or-set_same xs k None None within))
 
 -- ---- as it is read before the write
 
-pub read_held : (counts : List ℕ) (xs : List (Option (Option Request))) (k : ℕ) (x : Option (Option Request)) → IsCounted counts xs → slice_get xs k ≡ Some x → (g : ℕ) → group_of x ≡ Some g → 0 < get_or counts g 0
+pub read_held : (counts : List ℕ) (xs : List (Option (Option HeldRequest))) (k : ℕ) (x : Option (Option HeldRequest)) → IsCounted counts xs → slice_get xs k ≡ Some x → (g : ℕ) → group_of x ≡ Some g → 0 < get_or counts g 0
 read_held counts xs k x c read g is = is_held counts xs k g c (slice_get_within xs k x read) (ap group_of (get_or_from_slice_get xs k x None read) ∙ is)
 
-pub put_counted : (counts : List ℕ) (xs : List (Option (Option Request))) (k : ℕ) (x v : Option (Option Request)) → IsCounted counts xs → slice_get xs k ≡ Some x → IsCounted (raised (lowered counts (group_of x)) (group_of v)) (set xs k v)
+pub put_counted : (counts : List ℕ) (xs : List (Option (Option HeldRequest))) (k : ℕ) (x v : Option (Option HeldRequest)) → IsCounted counts xs → slice_get xs k ≡ Some x → IsCounted (raised (lowered counts (group_of x)) (group_of v)) (set xs k v)
 put_counted counts xs k x v c read = subst (λ y. IsCounted (raised (lowered counts (group_of y)) (group_of v)) (set xs k v)) (get_or_from_slice_get xs k x None read) (put_within counts xs k v c (slice_get_within xs k x read))
 
 -- ---- the first place turns
 
-pub turned_counted : (counts : List ℕ) (xs : List (Option (Option Request))) → IsCounted counts xs → 0 < length xs → IsCounted (lowered counts (group_of (get_or xs 0 None))) (drop 1 xs ++ None ∷ [])
+pub turned_counted : (counts : List ℕ) (xs : List (Option (Option HeldRequest))) → IsCounted counts xs → 0 < length xs → IsCounted (lowered counts (group_of (get_or xs 0 None))) (drop 1 xs ++ None ∷ [])
 turned_counted counts [] c some = absurd (omega (arith, some))
 turned_counted counts (x ∷ xs) c some =
     let set_first : IsCounted (lowered counts (group_of x)) (None ∷ xs) = lowered_counted counts (x ∷ xs) 0 c some in record {
@@ -146,33 +105,12 @@ opened_counted size few = record {
     get_or-zeros : (n g : ℕ) → get_or {A = ℕ} (replicate n 0) g 0 ≡ 0
     get_or-zeros n g = ⊎_elim (λ lt. get_or-replicate n g 0 0 lt) (λ ge. get_or_past (replicate n 0) g 0 (simp length-replicate ge)) (cases_lt g n)
 
-    none_held : (g n : ℕ) → count_by (is_of g) (let xs : List (Option (Option Request)) = replicate n None in xs) ≡ 0
+    none_held : (g n : ℕ) → count_by (is_of g) (let xs : List (Option (Option HeldRequest)) = replicate n None in xs) ≡ 0
     none_held g zero = refl
     none_held g (suc n) = sum_by-cons (λ x. cond (is_of g x) 1 0) None (replicate n None) ∙ (let z = none_held g n in omega (arith, z))
 
 -- ---- a search
 
 -- a command with a tag is of the tag's group
-pub command_of : (tag unit : ℕ) (x : Option (Option Request)) → is_command tag unit x ≡ true → is_of (tag % 4093) x ≡ true
-command_of tag unit None is = is
-command_of tag unit (Some None) is = is
-command_of tag unit (Some (Some r)) is =
-    let parts = and_parts (opcode r == 1 && itt r == tag) (is_unit unit (unit_of (lun r))) is in
-    let named : (itt r == tag) ≡ true = (and_parts (opcode r == 1) (itt r == tag) parts.0).1 in
-    let same : itt r ≡ tag = eqb-true (itt r) tag named in
-    eq-eqb (itt r % 4093) (tag % 4093) (ap (λ t. t % 4093) same)
-
--- where none of the group is held the search finds nothing
-pub none_found : (counts : List ℕ) (xs : List (Option (Option Request))) (tag unit end : ℕ) → IsCounted counts xs → get_or counts (tag % 4093) 0 ≡ 0 → position (is_command tag unit) (take end xs) ≡ None
-none_found counts xs tag unit end c none = by_place (position (is_command tag unit) (take end xs)) refl
-  where
-    by_place : (p : Option ℕ) → position (is_command tag unit) (take end xs) ≡ p → p ≡ None
-    by_place None is = refl
-    by_place (Some k) is =
-        let found = position-Some (is_command tag unit) (take end xs) k None is in
-        let within : k < length (take end xs) = found.0 in
-        let short : k < end = omega (arith, within, length-take end xs) in
-        let there : k < length xs = omega (arith, within, length-take end xs) in
-        let passes : is_of (tag % 4093) (get_or xs k None) ≡ true = command_of tag unit (get_or xs k None) (subst (λ x. is_command tag unit x ≡ true) (get_or-take end xs k None short) found.1) in
-        let some : 0 < get_or counts (tag % 4093) 0 = is_held counts xs k (tag % 4093) c there (group_of_true (tag % 4093) (group_of (get_or xs k None)) passes) in
-        absurd (omega (arith, some, none))
+pub command_of : (tag unit : ℕ) (x : Option (Option HeldRequest)) → holds_command tag unit x ≡ true → is_of (tag % 4093) x ≡ true
+command_of tag unit x is = grind (arith, nat_tests)

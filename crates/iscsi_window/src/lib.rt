@@ -5,13 +5,17 @@
 #![tactic(auto)]
 
 mod answer;
+mod event_window;
 mod fault;
 mod filled_slots;
+mod held_request;
 mod place_tags;
 mod places;
 mod tags;
 mod window;
 
 pub use answer::{Offer, Place, Turned};
+pub use event_window::EventWindow;
 pub use fault::WindowFault;
+pub use held_request::HeldRequest;
 pub use window::Window;

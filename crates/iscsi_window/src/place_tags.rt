@@ -55,8 +55,8 @@ impl PlaceTags {
     pub(crate) fn put(&mut self, received: &Received, number: u64)
         ensures { self.new ≡ labelled self.old received.now number }
     {
-        if let Some(Some(request)) = received {
-            self.tags[(number % SLOTS) as usize] = request.itt();
+        if let Some(Some(held)) = received {
+            self.tags[(number % SLOTS) as usize] = held.request.itt();
         }
     }
 

@@ -1,15 +1,16 @@
 //! The places of a window, with how many requests they hold of each group of tags, and from where on.
 
-ghost use Rattle.std.specs.Prelude.{◌≡◌, ℕ, List, [], ◌∷◌, ◌++◌, ◌≤◌, ◌<◌, length, drop, replicate, slice_set, slice_index_or, Option, Some, None, IfOk, position, take, not, is_some, if◌then◌else◌};
+ghost use Rattle.std.specs.Prelude.{◌≡◌, [], ◌∷◌, ◌++◌, ◌≤◌, ◌<◌, length, drop, replicate, slice_set, slice_index_or, Option, Some, None, IfOk, position, take, not, is_some, count_by, ◌+◌, ◌-◌, ◌^◌, if◌then◌else◌};
 ghost use Rattle.circular_buffer.specs.Buffer.{buffer};
-ghost use Rattle.iscsi_window.specs.Windows.{is_command, is_held_from};
+ghost use Rattle.iscsi_window.specs.Windows.{is_held, holds_command, holds_from};
 ghost use Rattle.iscsi_window.specs.PlaceTags.{IsFirstBetween};
 
 use crate::filled_slots::FilledSlots;
+use crate::held_request::HeldRequest;
 use crate::place_tags::{PlaceTags, of_one_word};
 use crate::tags::{TagBounds, TagCounts};
 use circular_buffer::HeapCircularBuffer;
-use iscsi_wire::{Request, unit_of};
+use iscsi_wire::unit_of;
 use std::alloc::{AllocError, Global};
 use std::marker::Model;
 
@@ -17,7 +18,7 @@ use std::marker::Model;
 const SCSI_COMMAND: u8 = 0x01;
 
 /// None for a number that wasn't received, and Some of what is held for one that was.
-pub(crate) type Received = Option<Option<Request>>;
+pub(crate) type Received = Option<Option<HeldRequest>>;
 
 /// As many of them as the window has places, at every time.
 type Ring = HeapCircularBuffer<Received>;
@@ -26,38 +27,37 @@ type Ring = HeapCircularBuffer<Received>;
 /// of all places is quicker than at those of twice as many.
 const FEW: u32 = 64;
 
-/// The places, of which contracts see the ring alone. The counters, bounds, tags and bits say where a search need not
+/// The places, of which contracts see the ring and the count of turns alone. The counters, bounds, tags and bits say where a search need not
 /// look.
 #[derive(Drop)]
 pub(crate) struct Places {
     ring: Ring,
     /// For how many places a number was received. Where that is none, all are alike, and the ring stays as it is.
     received: u32,
+    /// How many places hold a request.
+    held: u32,
     tags: TagCounts,
     bounds: TagBounds,
     labels: PlaceTags,
     filled: FilledSlots,
-    /// How many places turned, which is the number of the first place. It counts no further than it can.
+    /// How many places turned, which is the number of the first place.
     turned: u64,
 }
 
 impl Model for Places {
-    ghost use Rattle.std.specs.Prelude.{Option};
-    ghost use Rattle.circular_buffer.specs.Buffer.{Buffer};
-    ghost use Rattle.iscsi_wire.specs.declared.request.Request.{Request};
-    ghost use Rattle.iscsi_window.specs.PlaceTags.{ArePlacesFound};
+    ghost use Rattle.iscsi_window.specs.PlaceTags.{Placed, ArePlacesFound};
 
-    ghost Value = { Buffer (Option (Option Request)) };
+    ghost Value = { Placed };
 
-    ghost view = { λ p. p.ring };
+    ghost view = { λ p. record { turned = p.turned; items = p.ring.items; capacity = p.ring.capacity } };
 
-    ghost invariant = { λ p. ArePlacesFound p.tags p.bounds p.labels p.filled p.turned p.received p.ring.items };
+    ghost invariant = { λ p. ArePlacesFound p.tags p.bounds p.labels p.filled p.turned p.received p.held p.ring.items };
 }
 
 /// So many places, and nothing received.
 pub(crate) fn empty_places(alloc: Global, size: u32) -> Result<Places, AllocError>
     requires { size ≤ 1024 }
-    ensures { IfOk result (λ places. places ≡ buffer (replicate size None) size) }
+    ensures { IfOk result (λ places. places ≡ record { turned = 0; items = replicate size None; capacity = size }) }
 {
     let ring = empty_ring(alloc, size)?;
     let tags = TagCounts::open(alloc)?;
@@ -66,6 +66,7 @@ pub(crate) fn empty_places(alloc: Global, size: u32) -> Result<Places, AllocErro
     Ok(Places {
         ring,
         received: 0,
+        held: 0,
         tags,
         bounds,
         labels,
@@ -85,6 +86,22 @@ fn empty_ring(alloc: Global, size: u32) -> Result<Ring, AllocError>
     Ok(ring)
 }
 
+impl Places {
+    /// How many places turned.
+    pub(crate) fn turned(&self) -> u64
+        ensures { result ≡ self.now.turned }
+    {
+        self.turned
+    }
+
+    /// How many places hold a request.
+    pub(crate) fn held(&self) -> u32
+        ensures { result ≡ count_by is_held self.now.items }
+    {
+        self.held
+    }
+}
+
 /// What place `k` has. None beyond the last place.
 pub(crate) fn at(places: &Places, k: u32) -> Received
     ensures { result ≡ slice_index_or places.now.items k None }
@@ -97,12 +114,15 @@ pub(crate) fn at(places: &Places, k: u32) -> Received
 
 /// Receives the number of place `k`, with a request that is held for it or with none, and answers true. Where it was
 /// received before, the answer is false and nothing changes.
-pub(crate) fn fill(places: &mut Places, k: u32, held: Option<Request>) -> bool
+// It is inlined, so that what it holds is written from registers into its place.
+#[inline(always)]
+pub(crate) fn fill(places: &mut Places, k: u32, held: Option<HeldRequest>) -> bool
     requires { k < length places.old.items }
     ensures answer { result ≡ not (is_some (slice_index_or places.old.items k None)) }
-    ensures state { places.new ≡ buffer
-        (if is_some (slice_index_or places.old.items k None) then places.old.items
-        else slice_set places.old.items k (Some held)) places.old.capacity }
+    ensures state { places.new ≡ record places.old {
+      items = if is_some (slice_index_or places.old.items k None) then places.old.items
+          else slice_set places.old.items k (Some held);
+    } }
 {
     let Some(place) = places.ring.get_mut(k as usize) else {
         unreachable!();
@@ -118,19 +138,21 @@ pub(crate) fn fill(places: &mut Places, k: u32, held: Option<Request>) -> bool
     places.labels.put(&received, number);
     places.filled.set(number);
     places.received += 1;
+    places.held += count_held(&received);
     *place = received;
     true
 }
 
 /// Place `k` holds no request from now on, and its number stays received. Beyond the last place nothing changes.
 pub(crate) fn clear(places: &mut Places, k: u32)
-    ensures { places.new ≡ buffer (slice_set places.old.items k (Some None)) places.old.capacity }
+    ensures { places.new ≡ record places.old { items = slice_set places.old.items k (Some None) } }
 {
     if let Some(place) = places.ring.get_mut(k as usize) {
         let number = places.turned.saturating_add(k as u64);
         places.bounds.vacate(place, number);
         places.tags.lower(place);
         places.received += 1 - count(place);
+        places.held -= count_held(place);
         *place = Some(None);
     }
 }
@@ -139,15 +161,20 @@ pub(crate) fn clear(places: &mut Places, k: u32)
 pub(crate) fn turn_first(places: &mut Places)
     requires some { 0 < length places.old.items }
     requires full { length places.old.items ≡ places.old.capacity }
-    ensures { places.new ≡ buffer (drop 1 places.old.items ++ None ∷ []) places.old.capacity }
+    requires turned { places.old.turned < 2 ^ 64 - 1 }
+    ensures { places.new ≡ record places.old {
+      turned = places.old.turned + 1;
+      items = drop 1 places.old.items ++ None ∷ [];
+    } }
 {
     if places.received > 0 {
         let first = turn_ring(&mut places.ring);
         places.tags.lower(&first);
         places.received -= count(&first);
+        places.held -= count_held(&first);
         places.filled.clear(places.turned);
     }
-    places.turned = places.turned.saturating_add(1);
+    places.turned += 1;
 }
 
 /// Takes the first place off the ring, which is full, and adds one at the end, where nothing was received. It answers
@@ -171,12 +198,22 @@ fn count(received: &Received) -> u32
     if received.is_some() { 1 } else { 0 }
 }
 
-/// Whether a SCSI Command with this tag and to this unit is held.
-pub(crate) fn holds_command(received: &Received, itt: u32, unit: u16) -> bool
-    ensures { result ≡ is_command itt unit received.now }
+/// 1 for a request that is held, and 0 for none.
+fn count_held(received: &Received) -> u32
+    ensures { result ≡ (if is_held received.now then 1 else 0) }
 {
     match received {
-        Some(Some(request)) => {
+        Some(Some(_)) => 1,
+        _ => 0,
+    }
+}
+
+/// Whether a SCSI Command with this tag and to this unit is held.
+pub(crate) fn holds_command(received: &Received, itt: u32, unit: u16) -> bool
+    ensures { result ≡ holds_command itt unit received.now }
+{
+    match received {
+        Some(Some(HeldRequest { request, .. })) => {
             request.opcode() == SCSI_COMMAND
                 && request.itt() == itt
                 && unit_of(&request.lun()) == Some(unit)
@@ -187,10 +224,12 @@ pub(crate) fn holds_command(received: &Received, itt: u32, unit: u16) -> bool
 
 /// Whether a request is held that came on connection `conn`, or on any for None.
 pub(crate) fn holds_from(received: &Received, conn: Option<u16>) -> bool
-    ensures { result ≡ is_held_from conn received.now }
+    ensures { result ≡ holds_from conn received.now }
 {
     match received {
-        Some(Some(request)) => conn.is_none_or(|conn| request.conn() == conn),
+        Some(Some(HeldRequest { request, .. })) => {
+            conn.is_none_or(|conn| request.conn() == conn)
+        }
         _ => false,
     }
 }
@@ -199,7 +238,7 @@ pub(crate) fn holds_from(received: &Received, conn: Option<u16>) -> bool
 /// bound of the tag's group, and from there on word by word of slots, into none that hasn't the tag.
 pub(crate) fn first_command(places: &Places, end: u32, itt: u32, unit: u16) -> Option<u32>
     requires { length places.now.items ≤ 1024 }
-    ensures { result ≡ position (is_command itt unit) (take end places.now.items) }
+    ensures { result ≡ position (holds_command itt unit) (take end places.now.items) }
 {
     if places.tags.is_none(itt) {
         return None;
@@ -234,7 +273,7 @@ pub(crate) fn first_command(places: &Places, end: u32, itt: u32, unit: u16) -> O
 
 /// The first place from `from` on, below `end`, where a SCSI Command with this tag and to this unit is held.
 fn first_between(places: &Places, from: u32, end: u32, itt: u32, unit: u16) -> Option<u32>
-    ensures { IsFirstBetween (is_command itt unit) places.now.items from end result }
+    ensures { IsFirstBetween (holds_command itt unit) places.now.items from end result }
 {
     for k in from..end {
         if holds_command_at(places, k, itt, unit) {
@@ -246,7 +285,7 @@ fn first_between(places: &Places, from: u32, end: u32, itt: u32, unit: u16) -> O
 
 /// Whether a SCSI Command with this tag and to this unit is held at place `k`.
 fn holds_command_at(places: &Places, k: u32, itt: u32, unit: u16) -> bool
-    ensures { result ≡ is_command itt unit (slice_index_or places.now.items k None) }
+    ensures { result ≡ holds_command itt unit (slice_index_or places.now.items k None) }
 {
     match places.ring.get(k as usize) {
         Some(received) => holds_command(received, itt, unit),
@@ -257,7 +296,7 @@ fn holds_command_at(places: &Places, k: u32, itt: u32, unit: u16) -> bool
 /// The first place where a request is held that came on connection `conn`, or on any for None.
 pub(crate) fn first_held(places: &Places, conn: Option<u16>) -> Option<u32>
     requires { length places.now.items ≤ 1024 }
-    ensures { result ≡ position (is_held_from conn) places.now.items }
+    ensures { result ≡ position (holds_from conn) places.now.items }
 {
     let k = places
         .ring

@@ -51,7 +51,7 @@ impl TagCounts {
         ensures { result ≡ is_none_of self.now (group_of received.now) }
     {
         match received {
-            Some(Some(request)) => self.is_none(request.itt()),
+            Some(Some(held)) => self.is_none(held.request.itt()),
             _ => true,
         }
     }
@@ -61,8 +61,8 @@ impl TagCounts {
         requires { (g : ℕ) → slice_index self.old g < 65535 }
         ensures { self.new ≡ raised self.old (group_of received.now) }
     {
-        if let Some(Some(request)) = received {
-            self.counts[(request.itt() % GROUPS) as usize] += 1;
+        if let Some(Some(held)) = received {
+            self.counts[(held.request.itt() % GROUPS) as usize] += 1;
         }
     }
 
@@ -71,8 +71,8 @@ impl TagCounts {
         requires { (g : ℕ) → group_of received.now ≡ Some g → 0 < slice_index self.old g }
         ensures { self.new ≡ lowered self.old (group_of received.now) }
     {
-        if let Some(Some(request)) = received {
-            self.counts[(request.itt() % GROUPS) as usize] -= 1;
+        if let Some(Some(held)) = received {
+            self.counts[(held.request.itt() % GROUPS) as usize] -= 1;
         }
     }
 }
@@ -113,8 +113,8 @@ impl TagBounds {
     pub(crate) fn occupy(&mut self, received: &Received, number: u64, is_only: bool)
         ensures { self.new ≡ occupied self.old (group_of received.now) number is_only }
     {
-        if let Some(Some(request)) = received {
-            let bound = &mut self.bounds[(request.itt() % GROUPS) as usize];
+        if let Some(Some(held)) = received {
+            let bound = &mut self.bounds[(held.request.itt() % GROUPS) as usize];
             *bound = if is_only { number } else { number.min(*bound) };
         }
     }
@@ -124,8 +124,8 @@ impl TagBounds {
     pub(crate) fn vacate(&mut self, received: &Received, number: u64)
         ensures { self.new ≡ vacated self.old (group_of received.now) number }
     {
-        if let Some(Some(request)) = received {
-            let bound = &mut self.bounds[(request.itt() % GROUPS) as usize];
+        if let Some(Some(held)) = received {
+            let bound = &mut self.bounds[(held.request.itt() % GROUPS) as usize];
             if *bound == number {
                 *bound = number.saturating_add(1);
             }

@@ -1,24 +1,22 @@
 //! The window: a ring of places, one for each number from the expected one on.
 
-ghost use Rattle.std.specs.Prelude.{Err, ◌≡◌, ℕ, List, true, [], ◌∷◌, ◌+◌, ◌-◌, ◌^◌, ◌<◌, ◌≤◌, ◌⊎◌, ◌↔◌, ◌==◌, length, replicate, slice_set, slice_index_or, Option, Some, None, IsSome, OnSome, IfOk, not, position, take, option_map, if◌then◌else◌};
-ghost use Rattle.circular_buffer.specs.Buffer.{buffer};
+ghost use Rattle.std.specs.Prelude.{Err, ◌≡◌, List, true, [], ◌∷◌, ◌+◌, ◌-◌, ◌^◌, ◌<◌, ◌⊎◌, ◌↔◌, length, Option, Some, None, OnSome, IfOk, not, option_map, if◌then◌else◌};
 ghost use Rattle.iscsi_wire.specs.Fields.{cmd_sn};
-ghost use Rattle.iscsi_wire.specs.Serial.{wire, lift};
+ghost use Rattle.iscsi_wire.specs.Serial.{wire};
 ghost use Rattle.iscsi_window.specs.Received.{number_expected, at_place, IsSound, HasRoom};
-ghost use Rattle.iscsi_window.specs.Windows.{opened, number_last, place_in, IsInside, held_at, offer_to, offered_to, is_received_at, voided, is_command, is_asked, is_held_from, number_shown, find_command, emptied, first_from, dropped_at, taken_at, turned_by, turned_on, advanced, is_next, with_unfinished};
+ghost use Rattle.iscsi_window.specs.Windows.{opened, number_last, place_in, IsInside, held_at, offer_to, offered_to, is_received_at, voided, is_held_from, number_shown, find_command, emptied, first_from, dropped_at, taken_at, turned_by, request_at, advanced, is_next, with_unfinished};
 ghost use Rattle.iscsi_window.specs.History.{Change, Started, Finished, is_received, held, expected, number_of, StandsFor, Law, after_offer, after_voiding, after_taking, after_emptying, after_turning, after_passing, offer_since, is_next_since, turn_since, is_command_below, is_held_at, held_number, ShowsLowest, TookLowest};
 
 use crate::answer::{Offer, Place, Turned};
+use crate::event_window::EventWindow;
 use crate::fault::WindowFault;
-use crate::places::{
-    Places, at, clear, empty_places, fill, first_command, first_held, holds_from, turn_first,
-};
-use iscsi_wire::{Request, serial_lt};
+use crate::held_request::HeldRequest;
+use iscsi_wire::Request;
 use std::alloc::Global;
 use std::marker::Model;
 
-/// The most places of a window.
-const MOST_PLACES: u32 = 1024;
+/// What stands for the event of arrival, which a `Window` doesn't show.
+const NO_EVENT: u64 = 0;
 
 /// The numbers that a session has received and not yet turned, and the requests that it holds for them.
 ///
@@ -29,45 +27,22 @@ const MOST_PLACES: u32 = 1024;
 /// The clauses `stands` follow a window over every history of calls: what was admitted, voided, emptied and
 /// turned, in numbers that don't wrap. The law of `size` says what that means.
 pub struct Window {
-    first: u32,
-    turned: u64,
-    unfinished: u32,
-    size: u32,
-    places: Places,
+    events: EventWindow,
 }
 
 impl Drop for Window {
     fn drop(self) {
-        let Window {
-            first: _first,
-            turned: _turned,
-            unfinished: _unfinished,
-            size: _size,
-            places: _places,
-        } = self;
+        let Window { events: _events } = self;
     }
 }
 
 impl Model for Window {
-    ghost use Rattle.std.specs.Prelude.{◌≡◌, length};
-    ghost use Rattle.iscsi_window.specs.Received.{Received, IsSound};
+    ghost use Rattle.iscsi_window.specs.Received.{Received};
+    ghost use Rattle.iscsi_window.specs.Windows.{shown};
 
     ghost Value = { Received };
 
-    ghost view = { λ w. record {
-      first = w.first;
-      turned = w.turned;
-      unfinished = w.unfinished;
-      places = w.places.items;
-    } };
-
-    ghost invariant = { λ w. (length w.places.items ≡ w.size) × (w.places.capacity ≡ w.size)
-        × IsSound (record {
-          first = w.first;
-          turned = w.turned;
-          unfinished = w.unfinished;
-          places = w.places.items;
-        }) };
+    ghost view = { λ w. shown w.events };
 }
 
 impl Window {
@@ -79,16 +54,8 @@ impl Window {
         ensures bad_size { (result ≡ Err WindowFault.BadSize) ↔ ((size < 1) ⊎ (1024 < size)) }
         ensures stands { IfOk result (λ w. StandsFor w []) }
     {
-        if size < 1 || size > MOST_PLACES {
-            return Err(WindowFault::BadSize);
-        }
-        let places = empty_places(alloc, size).map_err(|_| WindowFault::NoMemory)?;
         Ok(Window {
-            first,
-            turned: 0,
-            unfinished: 0,
-            size,
-            places,
+            events: EventWindow::open(alloc, first, size)?,
         })
     }
 
@@ -98,49 +65,42 @@ impl Window {
         ensures sound { IsSound self.now }
         ensures law { (h : List Change) → StandsFor self.now h → Law self.now h }
     {
-        self.size
+        self.events.size()
     }
 
     /// How many numbers have turned since the window was opened.
     pub fn turned(&self) -> u64
         ensures { result ≡ self.now.turned }
     {
-        self.turned
+        self.events.turned()
     }
 
     /// How many commands are counted as being executed.
     pub fn unfinished(&self) -> u32
         ensures { result ≡ self.now.unfinished }
     {
-        self.unfinished
+        self.events.unfinished()
     }
 
     /// ExpCmdSN: the number whose turn is next.
     pub fn exp(&self) -> u32
         ensures { result ≡ wire (number_expected self.now) }
     {
-        self.first.wrapping_add((self.turned % (1 << 32)) as u32)
+        self.events.exp()
     }
 
     /// MaxCmdSN: the last admitted number. It is ExpCmdSN - 1 where none is admitted.
     pub fn max(&self) -> u32
         ensures { result ≡ wire (number_last self.now) }
     {
-        self.exp()
-            .wrapping_add(self.size - 1)
-            .wrapping_sub(self.unfinished)
+        self.events.max()
     }
 
     /// Where the number that the wire shows as `w` stands. A number at distance 2^31 is outside.
     pub fn place(&self, w: u32) -> Place
         ensures { result ≡ place_in self.now w }
     {
-        let ahead = w.wrapping_sub(self.exp());
-        if ahead < self.size - self.unfinished {
-            Place::Inside(ahead)
-        } else {
-            Place::Outside
-        }
+        self.events.place(w)
     }
 
     /// Holds the request at its CmdSN, if that is admitted and wasn't received before. Otherwise nothing
@@ -155,14 +115,7 @@ impl Window {
         ensures stands { (h : List Change) → StandsFor self.old h →
             StandsFor self.new (after_offer result (number_of self.old.first h (cmd_sn request.now)) request.now h) }
     {
-        let Place::Inside(k) = self.place(request.cmd_sn()) else {
-            return Offer::Outside;
-        };
-        if fill(&mut self.places, k, Some(*request)) {
-            Offer::Held
-        } else {
-            Offer::Duplicate
-        }
+        self.events.offer(request, NO_EVENT)
     }
 
     /// Receives the number with nothing held for it, and answers true. Where it was received before, the
@@ -176,10 +129,7 @@ impl Window {
         ensures stands { (h : List Change) → StandsFor self.old h →
             StandsFor self.new (after_voiding result (number_of self.old.first h w) h) }
     {
-        let Place::Inside(k) = self.place(w) else {
-            unreachable!();
-        };
-        fill(&mut self.places, k, None)
+        self.events.void(w)
     }
 
     /// The lowest number, below the one that the wire shows as `below`, for which a SCSI Command with this
@@ -196,10 +146,7 @@ impl Window {
         ensures answer_since { (h : List Change) → StandsFor self.now h →
             ShowsLowest (is_command_below h itt unit (number_of self.now.first h below)) result }
     {
-        let exp = self.exp();
-        let ahead = ahead_of(exp, below);
-        let k = first_command(&self.places, ahead, itt, unit)?;
-        Some(exp.wrapping_add(k))
+        self.events.find_held(itt, unit, below)
     }
 
     /// Takes out the request that is held for the number, which stays received. Where none is held, nothing
@@ -212,12 +159,8 @@ impl Window {
         ensures stands { (h : List Change) → StandsFor self.old h →
             StandsFor self.new (after_taking result (number_of self.old.first h w) h) }
     {
-        let Place::Inside(k) = self.place(w) else {
-            return None;
-        };
-        let request = at(&self.places, k).flatten()?;
-        clear(&mut self.places, k);
-        Some(request)
+        let held = self.events.empty(w)?;
+        Some(held.request)
     }
 
     /// Takes out the request with the lowest number of those that are held and came on connection `conn`, or
@@ -227,10 +170,7 @@ impl Window {
         ensures state { self.new ≡ dropped_at self.old (first_from self.old conn) }
         ensures stands { (h : List Change) → StandsFor self.old h → TookLowest (is_held_at h conn) result self.new h }
     {
-        let k = first_held(&self.places, conn)?;
-        let sn = self.exp().wrapping_add(k);
-        clear(&mut self.places, k);
-        Some(sn)
+        self.events.drop_first(conn)
     }
 
     /// Takes out the request that is held `ahead` numbers after the expected one, if it came on connection
@@ -244,11 +184,7 @@ impl Window {
         ensures stands { (h : List Change) → StandsFor self.old h →
             StandsFor self.new (after_emptying (held_number h conn (expected self.old.first h + ahead)) h) }
     {
-        if !holds_from(&at(&self.places, ahead), conn) {
-            return None;
-        }
-        clear(&mut self.places, ahead);
-        Some(self.exp().wrapping_add(ahead))
+        self.events.drop_at(ahead, conn)
     }
 
     /// Turns the expected number, if it is received. Otherwise nothing changes.
@@ -263,9 +199,8 @@ impl Window {
         ensures stands { (h : List Change) → StandsFor self.old h →
             StandsFor self.new (after_turning result (expected self.old.first h) h) }
     {
-        let sn = self.exp();
-        let request = at(&self.places, 0)?;
-        self.turn();
+        let sn = self.events.exp();
+        let request = request_of(self.events.advance()?);
         Some(Turned { sn, request })
     }
 
@@ -277,7 +212,7 @@ impl Window {
         ensures answer_since { (h : List Change) → StandsFor self.now h → result ≡
             is_next_since self.now.first (length self.now.places) h (number_of self.now.first h (cmd_sn request.now)) }
     {
-        self.place(request.cmd_sn()) == Place::Inside(0) && at(&self.places, 0).is_none()
+        self.events.is_next(request)
     }
 
     /// Turns the number of this request as it comes: the window is as after `offer` and `advance`, and holds nothing of
@@ -292,17 +227,7 @@ impl Window {
         ensures stands { (h : List Change) → StandsFor self.old h →
             StandsFor self.new (after_passing (number_of self.old.first h (cmd_sn request.now)) request.now h) }
     {
-        self.turn();
-    }
-
-    /// The expected number turns, whatever its place has.
-    fn turn(&mut self)
-        requires { self.old.turned < 2 ^ 64 - 1 }
-        ensures state { self.new ≡ turned_on self.old }
-        ensures room { self.old.unfinished < length self.old.places → HasRoom self.new }
-    {
-        turn_first(&mut self.places);
-        self.turned += 1;
+        self.events.pass(request);
     }
 
     /// Counts a command as being executed: the last admitted number isn't admitted any more.
@@ -311,7 +236,7 @@ impl Window {
         ensures state { self.new ≡ with_unfinished self.old (self.old.unfinished + 1) }
         ensures stands { (h : List Change) → StandsFor self.old h → StandsFor self.new (Started ∷ h) }
     {
-        self.unfinished += 1;
+        self.events.start_one();
     }
 
     /// Takes a command back from the count: one number more is admitted.
@@ -320,17 +245,14 @@ impl Window {
         ensures state { self.new ≡ with_unfinished self.old (self.old.unfinished - 1) }
         ensures stands { (h : List Change) → StandsFor self.old h → StandsFor self.new (Finished ∷ h) }
     {
-        self.unfinished -= 1;
+        self.events.finish_one();
     }
 }
 
-/// How far the number that the wire shows as `below` is above the expected one, and 0 for one below it.
-fn ahead_of(exp: u32, below: u32) -> u32
-    ensures { (e : ℕ) → 2 ^ 31 ≤ e → wire e ≡ exp → result ≡ lift e below - e }
+/// The request of what was held, where there was one.
+fn request_of(held: Option<HeldRequest>) -> Option<Request>
+    ensures { Some result ≡ request_at (Some held) }
 {
-    if serial_lt(exp, below) {
-        below.wrapping_sub(exp)
-    } else {
-        0
-    }
+    let held = held?;
+    Some(held.request)
 }

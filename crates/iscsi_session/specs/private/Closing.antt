@@ -5,7 +5,8 @@ use Rattle.iscsi_wire.specs.declared.reply.Reply.TheVariants.{Logout, Reject}
 use Rattle.iscsi_wire.specs.declared.request.Request.{Request}
 use Rattle.iscsi_wire.specs.Serial.{wire}
 use Rattle.iscsi_wire.specs.Fields.{connection_of, header_of, function, itt, cid}
-use Rattle.iscsi_window.specs.Windows.{number_expected, is_asked, is_held_from}
+use Rattle.iscsi_window.specs.declared.held_request.HeldRequest.{HeldRequest}
+use Rattle.iscsi_window.specs.Windows.{number_expected, is_asked, holds_from}
 use Rattle.iscsi_tasks.specs.declared.task.Task.{Task}
 use Rattle.iscsi_tasks.specs.declared.cover.Cover.{Cover}
 use Rattle.iscsi_tasks.specs.declared.cover.Cover.TheVariants.{All as AllOfThem, Conn as OfConn}
@@ -50,23 +51,23 @@ all_leaving_effects s [] covers = []
 all_leaving_effects s (unit ∷ units) covers = leaving_effects s unit covers ++ all_leaving_effects (with_left s unit covers) units covers
 
 -- the held requests are taken out
-abbrev pub emptied_place : Option ℕ → Option (Option Request) → Option (Option Request)
-emptied_place scope p = if is_held_from scope p then Some None else p
+abbrev pub emptied_place : Option ℕ → Option (Option HeldRequest) → Option (Option HeldRequest)
+emptied_place scope p = if holds_from scope p then Some None else p
 
 abbrev pub with_emptied : Core → Option ℕ → Core
 with_emptied s scope = record s { window = record s.window { places = map (emptied_place scope) s.window.places } }
 
 -- those of these places, of which the first is that of number n
-abbrev pub emptied_from : ℕ → Option ℕ → List (Option (Option Request)) → List Effect
+abbrev pub emptied_from : ℕ → Option ℕ → List (Option (Option HeldRequest)) → List Effect
 emptied_from n scope [] = []
-emptied_from n scope (p ∷ ps) = (if is_held_from scope p then Empty (wire n) ∷ [] else []) ++ emptied_from (n + 1) scope ps
+emptied_from n scope (p ∷ ps) = (if holds_from scope p then Empty (wire n) ∷ [] else []) ++ emptied_from (n + 1) scope ps
 
 abbrev pub emptying_effects : Core → Option ℕ → List Effect
 emptying_effects s scope = emptied_from (number_expected s.window) scope s.window.places
 
 -- so many places have no request that is to be taken out
-abbrev pub is_clear_below : Option ℕ → ℕ → List (Option (Option Request)) → Bool
-is_clear_below scope k ps = list_all (λ p. not (is_held_from scope p)) (take k ps)
+abbrev pub is_clear_below : Option ℕ → ℕ → List (Option (Option HeldRequest)) → Bool
+is_clear_below scope k ps = list_all (λ p. not (holds_from scope p)) (take k ps)
 
 -- the functions that wait are dropped
 abbrev pub with_dropped : Core → Option ℕ → Core

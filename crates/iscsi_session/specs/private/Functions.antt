@@ -8,7 +8,7 @@ use Rattle.iscsi_wire.specs.Serial.{wire, lift}
 use Rattle.iscsi_wire.specs.Fields.{connection_of, is_immediate, function, itt, rtt, cmd_sn, ref_cmd_sn}
 use Rattle.iscsi_window.specs.declared.answer.Place.{Place}
 use Rattle.iscsi_window.specs.declared.answer.Place.TheVariants.{Inside, Outside}
-use Rattle.iscsi_window.specs.Windows.{Received, number_expected, place_in, is_received_at, voided, find_command, number_shown, emptied, with_unfinished}
+use Rattle.iscsi_window.specs.Windows.{Arrived, number_expected, place_in, is_received_at, voided, find_held, number_shown, emptied, with_unfinished}
 use Rattle.iscsi_tasks.specs.declared.task.Task.{Task}
 use Rattle.iscsi_tasks.specs.declared.cover.Cover.TheVariants.{All as AllOfThem, Below}
 use Rattle.iscsi_tasks.specs.declared.member.Member.{Member}
@@ -35,7 +35,7 @@ abbrev pub staying : (Task → Bool) → Members → List Live → List Live
 staying covers set live = filter (λ l. not (is_gone covers set l.ticket)) live
 
 -- the numbered ones give their places back
-abbrev pub finished_by : Received → List Live → List Live → Received
+abbrev pub finished_by : Arrived → List Live → List Live → Arrived
 finished_by w before after = with_unfinished w (w.unfinished + count_by is_numbered after - count_by is_numbered before)
 
 -- the covered commands of the unit left
@@ -87,7 +87,7 @@ abbrev pub abort_by : Core → Request → ℕ → Outcome
 abort_by s r unit =
     elim (tagged_in s (rtt r) unit) [
       | Some l ↦ Abort l.ticket
-      | None ↦ elim (find_command s.window (rtt r) unit (cmd_sn r)) [
+      | None ↦ elim (find_held s.window (rtt r) unit (cmd_sn r)) [
         | Some k ↦ EmptyNumber (number_shown s.window k)
         | None ↦ missing_at s r (place_in s.window (ref_cmd_sn r))
       ]

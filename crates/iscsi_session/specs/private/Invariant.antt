@@ -2,20 +2,19 @@
 use Rattle.std.specs.Prelude.{◌≡◌, ℕ, ◌+◌, ◌*◌, ◌^◌, ◌<◌, ◌≤◌, true, List, length, All, count_by, is_some, nat_lt}
 use Rattle.std.specs.List.{list_all, AllPairs}
 use Rattle.iscsi_wire.specs.Fields.{connection_of}
-use Rattle.iscsi_window.specs.Received.{Received}
+use Rattle.iscsi_window.specs.Received.{Arrived}
 use Rattle.iscsi_tasks.specs.Sets.{Members}
 use Rattle.iscsi_commands.specs.declared.live.Live.{Live}
 use Rattle.iscsi_session.specs.declared.session.waiting.Waiting.{Waiting}
 use Rattle.iscsi_history.specs.rules.Settings.{is_known}
 use Rattle.iscsi_history.specs.rules.Management.{may_wait}
-use Rattle.iscsi_session.specs.private.Standing.{are_known, is_held, is_place_known, Match, are_ascending, are_within}
+use Rattle.iscsi_session.specs.private.Standing.{are_known, is_place_known, Match, are_ascending, are_within}
 use Rattle.iscsi_session.specs.private.Steps.{is_numbered, AreCounted}
 use Rattle.iscsi_session.specs.private.Turning.{waiting_in}
 
 -- what the invariant speaks of: the fields that callers see as `Core`, those behind them, and the containers' rooms
 pub record Inner : Type 0 where
-  pub window : Received
-  pub held : ℕ  -- the count of held requests
+  pub window : Arrived
   pub events : ℕ
   pub conns : List (ℕ × ℕ)
   pub entered : ℕ
@@ -23,18 +22,15 @@ pub record Inner : Type 0 where
   pub live : List Live
   pub immediate : List ℕ  -- the count of immediate commands, for each connection
   pub sets : List Members
-  pub arrived : List ℕ
   pub waiting : List Waiting
   pub live_room : ℕ  -- how many elements each of these has memory for
-  pub arrived_room : ℕ
   pub waiting_room : ℕ
   pub left_room : ℕ
 
 -- the window, and the requests that it holds
-pub record IsWindowSound (w : Received) (held count taken : ℕ) (conns : List (ℕ × ℕ)) : Type 0 where
+pub record IsWindowSound (w : Arrived) (count taken : ℕ) (conns : List (ℕ × ℕ)) : Type 0 where
   pub fits : w.unfinished ≤ length w.places  -- each command in execution has a place
   pub most : length w.places ≤ 1024
-  pub held_is : held ≡ count_by is_held w.places  -- the held requests are counted
   pub turned : w.turned + count_by is_some w.places ≤ taken  -- an event received one number at the most
   pub entered : count + count_by is_some w.places ≤ taken  -- and so many commands may enter yet
   pub known : list_all (is_place_known conns) w.places ≡ true  -- each held request is numbered, and came on a connection of the session
@@ -61,9 +57,8 @@ pub record IsWaitlistSound (functions : List Waiting) (next_turn : ℕ) : Type 0
   pub in_order : AllPairs (λ a b. a.event < b.event) functions  -- each arrived after those before it
 
 -- the containers' rooms, by the numbers of places and connections
-pub record HasRooms (places conns live_room arrived_room waiting_room left_room : ℕ) : Type 0 where
+pub record HasRooms (places conns live_room waiting_room left_room : ℕ) : Type 0 where
   pub live : places + 8 * conns ≤ live_room  -- for a command at each place, and the immediate ones of each connection
-  pub arrived : places ≤ arrived_room  -- for the event of arrival of each place
   pub waiting : 4 * conns ≤ waiting_room  -- for the functions that may wait on each connection
   pub left : places + 8 * conns ≤ left_room  -- for the tickets of as many commands as there is room for, where all leave
 
@@ -76,9 +71,8 @@ pub record IsWithinLimits (count most cids sets : ℕ) : Type 0 where
 
 -- what holds of every session
 pub record IsSessionSound (s : Inner) : Type 0 where
-  pub window : IsWindowSound s.window s.held s.entered s.taken s.conns
+  pub window : IsWindowSound s.window s.entered s.taken s.conns
   pub commands : AreCommandsSound s.window.unfinished s.entered s.conns s.immediate s.sets s.live
   pub functions : AreFunctionsSound s.taken s.conns s.waiting
-  pub rooms : HasRooms (length s.window.places) (length s.conns) s.live_room s.arrived_room s.waiting_room s.left_room
-  pub arrivals : length s.arrived ≡ length s.window.places  -- the events of arrival stand beside the places
+  pub rooms : HasRooms (length s.window.places) (length s.conns) s.live_room s.waiting_room s.left_room
   pub limits : IsWithinLimits s.taken s.events (length s.conns) (length s.sets)

@@ -4,7 +4,9 @@ use Rattle.std.specs.List.{list_all}
 use Rattle.iscsi_wire.specs.declared.request.Request.{Request}
 use Rattle.iscsi_wire.specs.Serial.{wire, number_of_first}
 use Rattle.iscsi_wire.specs.Fields.{connection_of, is_immediate, itt, cmd_sn}
-use Rattle.iscsi_window.specs.Received.{Received, number_expected}
+use Rattle.iscsi_window.specs.declared.held_request.HeldRequest.{HeldRequest}
+use Rattle.iscsi_window.specs.Received.{Arrived, number_expected}
+pub use Rattle.iscsi_window.specs.Received.{is_held}
 use Rattle.iscsi_tasks.specs.declared.task.Task.{Task}
 use Rattle.iscsi_tasks.specs.declared.member.Member.{Member}
 use Rattle.iscsi_tasks.specs.Sets.{Members, opened}
@@ -24,7 +26,7 @@ pub use Rattle.iscsi_connections.specs.Connected.{stat_sn_on}
 
 -- what a session keeps
 pub record Core : Type 0 where
-  pub window : Received
+  pub window : Arrived
   pub events : ℕ
   pub conns : List (ℕ × ℕ)  -- the CID and the next StatSN of each connection
   pub entered : ℕ  -- the commands that ever entered a set
@@ -32,23 +34,20 @@ pub record Core : Type 0 where
   pub live : List Live
   pub sets : List Members  -- the task set of each unit
   pub level : ℕ
-  pub arrived : List ℕ  -- the events in which the requests arrived that are held, for each place of the window
   pub waiting : List Waiting  -- the functions that wait, in order of arrival
   pub open_conns : List ℕ  -- the connections that aren't closed
 
--- what a window keeps of a number
-abbrev pub place_of : Trace → ℕ → Option (Option Request)
-place_of t n = if is_received t n then Some (option_map (λ (a : Arrival). a.request) (held t n)) else None
+-- what a window holds of a request that came
+abbrev pub held_of : Arrival → HeldRequest
+held_of a = record { request = a.request; event = a.event }
 
--- a request is held at the place
-abbrev pub is_held : Option (Option Request) → Bool
-is_held None = false
-is_held (Some None) = false
-is_held (Some (Some r)) = true
+-- what it keeps of a number
+abbrev pub place_of : Trace → ℕ → Option (Option HeldRequest)
+place_of t n = if is_received t n then Some (option_map held_of (held t n)) else None
 
 -- the request that is held at the place is numbered, and came on one of the connections
-abbrev pub is_place_known : List (ℕ × ℕ) → Option (Option Request) → Bool
-is_place_known conns (Some (Some r)) = not (is_immediate r) && is_known (connection_of r) conns
+abbrev pub is_place_known : List (ℕ × ℕ) → Option (Option HeldRequest) → Bool
+is_place_known conns (Some (Some h)) = not (is_immediate h.request) && is_known (connection_of h.request) conns
 is_place_known conns _ = true
 
 -- what is kept of a live command
@@ -109,7 +108,7 @@ are_within entered units live = list_all (λ l. nat_le l.ticket entered && nat_l
 -- ---- a session agrees with what has happened, where some turns may be due yet
 
 -- its window
-pub record WindowAgrees (o : Setting) (w : Received) (t : Trace) : Type 0 where
+pub record WindowAgrees (o : Setting) (w : Arrived) (t : Trace) : Type 0 where
   pub first : w.first ≡ o.first
   pub size : length w.places ≡ o.window
   -- received are all numbers before the next, and those that the window keeps
@@ -128,11 +127,6 @@ pub record WindowAgrees (o : Setting) (w : Received) (t : Trace) : Type 0 where
   -- a live numbered command takes a place at the window's end
   pub few : w.unfinished ≤ length w.places
   pub free : (k : ℕ) → length w.places ≤ k + w.unfinished → slice_index_or w.places k None ≡ None
-
--- the events in which the requests arrived that it holds
-pub record ArrivalsAgree (w : Received) (arrived : List ℕ) (t : Trace) : Type 0 where
-  pub long : length arrived ≡ length w.places
-  pub at_place : (k : ℕ) (a : Arrival) → k < length w.places → held t (number_expected w + k) ≡ Some a → slice_index_or arrived k 0 ≡ a.event
 
 -- a function that waits: its number is so much above the first one
 abbrev pub arrival_waiting : ℕ → Waiting → Arrival
@@ -178,7 +172,6 @@ pub record Agrees (o : Setting) (s : Core) (t : Trace) : Type 0 where
   pub unfinished : s.window.unfinished ≡ unfinished t
   pub enabled : EnabledSoFar o t  -- what was given is what the rule enables
   pub level : s.level ≡ o.level
-  pub arrived : ArrivalsAgree s.window s.arrived t
   pub waiting : WaitingAgrees o s.waiting t
   pub open_conns : s.open_conns ≡ open_of o t
 

@@ -6,9 +6,7 @@ use Rattle.iscsi_wire.specs.declared.reply.Reply.{Reply}
 use Rattle.iscsi_wire.specs.declared.reply.Reply.TheVariants.{Scsi}
 use Rattle.iscsi_wire.specs.Serial.{wire, lift, number_of_first}
 use Rattle.iscsi_wire.specs.Fields.{connection_of, is_immediate, cmd_sn, attr_code, itt}
-use Rattle.iscsi_window.specs.declared.answer.Place.{Place}
-use Rattle.iscsi_window.specs.declared.answer.Place.TheVariants.{Inside, Outside}
-use Rattle.iscsi_window.specs.Windows.{Received, number_expected, number_last, place_in as window_place, is_received_at, offered_to, with_unfinished}
+use Rattle.iscsi_window.specs.Windows.{Arrived, number_expected, number_last, offered_in, with_unfinished}
 use Rattle.iscsi_tasks.specs.declared.task.Task.{Task}
 use Rattle.iscsi_tasks.specs.declared.member.Member.{Member}
 use Rattle.iscsi_tasks.specs.Sets.{Members, tasks_in, opened as opened_set, entered_to, left_by, with_ticket, is_enabled_in, is_new, next_in, given_by}
@@ -39,21 +37,14 @@ abbrev pub refusal_by : Core → Event → Option SessionFault
 refusal_by s e = if not (comes_on s.conns e) then Some UnknownConnection else (if nat_lt s.taken s.events then None else Some Exhausted)
 
 -- as many numbers have turned as commands began, at the least. MaxCmdSN doesn't go back then
-abbrev pub KeepsPace : Received → Received → Type 0
+abbrev pub KeepsPace : Arrived → Arrived → Type 0
 KeepsPace w w' = w'.unfinished + w.turned ≤ w.unfinished + w'.turned
 
 -- ---- an offer
 
--- the event in which a request arrived is noted where it is held
-abbrev pub noted_in : Place → List ℕ → ℕ → List ℕ
-noted_in Outside arrived event = arrived
-noted_in (Inside k) arrived event = slice_set arrived k event
-
-abbrev pub noted_at : Received → Place → List ℕ → ℕ → List ℕ
-noted_at w place arrived event = if is_received_at w place then arrived else noted_in place arrived event
-
+-- a request that came in this event is offered
 abbrev pub with_offered : Core → Request → Core
-with_offered s r = record s { window = offered_to s.window r; arrived = noted_at s.window (window_place s.window (cmd_sn r)) s.arrived (s.taken - 1) }
+with_offered s r = record s { window = offered_in s.window r (s.taken - 1) }
 
 -- ---- task sets
 
@@ -138,7 +129,7 @@ abbrev pub set_entered : Core → Request → ℕ → Members
 set_entered s r unit = entered_to (set_at s unit) (new_task s r)
 
 -- a numbered command takes a place of the window
-abbrev pub started : Received → Request → Received
+abbrev pub started : Arrived → Request → Arrived
 started w r = if is_immediate r then w else with_unfinished w (w.unfinished + 1)
 
 -- the request enters
@@ -195,7 +186,7 @@ sets_left sets None = sets
 sets_left sets (Some l) = slice_set sets l.unit (set_without l sets)
 
 -- a numbered command gives its place back
-abbrev pub finished : Received → Live → Received
+abbrev pub finished : Arrived → Live → Arrived
 finished w l = if l.immediate then w else with_unfinished w (w.unfinished - 1)
 
 abbrev pub without_command : Core → Live → Core

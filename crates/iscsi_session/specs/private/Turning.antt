@@ -1,10 +1,11 @@
 -- What a session keeps when a request executes or waits, and at a turn, and the effects, by what it keeps before. For
 -- private contracts alone.
-use Rattle.std.specs.Prelude.{Bool, ℕ, ℤ, pos, ◌-ℤ◌, ◌+◌, ◌-◌, ◌==◌, ◌&&◌, not, nat_lt, nat_le, List, [], ◌∷◌, ◌++◌, length, drop, filter, find, count_by, slice_index_or, Option, Some, None, is_some, if◌then◌else◌}
+use Rattle.std.specs.Prelude.{Bool, ℕ, ℤ, pos, ◌-ℤ◌, ◌+◌, ◌-◌, ◌==◌, ◌&&◌, not, nat_lt, nat_le, List, [], ◌∷◌, ◌++◌, length, filter, find, count_by, Option, Some, None, is_some, if◌then◌else◌}
 use Rattle.iscsi_wire.specs.declared.reply.Reply.TheVariants.{Task, Reject}
 use Rattle.iscsi_wire.specs.declared.request.Request.{Request}
 use Rattle.iscsi_wire.specs.Serial.{lift, number_of_first}
 use Rattle.iscsi_wire.specs.Fields.{connection_of, header_of, opcode, itt, cmd_sn}
+use Rattle.iscsi_window.specs.declared.held_request.HeldRequest.{HeldRequest}
 use Rattle.iscsi_window.specs.Windows.{number_expected, room_of, advanced, is_next}
 use Rattle.iscsi_history.specs.declared.effect.Effect.{Effect}
 use Rattle.iscsi_history.specs.declared.effect.Effect.TheVariants.{Deliver, Immediate, Wait}
@@ -55,20 +56,16 @@ executed_effects s r event =
 -- ---- a turn
 
 abbrev pub with_advanced : Core → Core
-with_advanced s = record s { window = advanced s.window; arrived = drop 1 s.arrived ++ 0 ∷ [] }
-
--- the event in which the request of the next number arrived
-abbrev pub next_arrived : Core → ℕ
-next_arrived s = slice_index_or s.arrived 0 0
+with_advanced s = record s { window = advanced s.window }
 
 -- the turn of the next number, if it is received
-abbrev pub turned_if : Core → Option (Option Request) → Core
+abbrev pub turned_if : Core → Option (Option HeldRequest) → Core
 turned_if s None = s
 turned_if s (Some None) = with_advanced s
-turned_if s (Some (Some r)) = with_executed (with_advanced s) r (next_arrived s)
+turned_if s (Some (Some h)) = with_executed (with_advanced s) h.request h.event
 
-abbrev pub turn_effects : Core → Option (Option Request) → List Effect
-turn_effects s (Some (Some r)) = Deliver r ∷ executed_effects (with_advanced s) r (next_arrived s)
+abbrev pub turn_effects : Core → Option (Option HeldRequest) → List Effect
+turn_effects s (Some (Some h)) = Deliver h.request ∷ executed_effects (with_advanced s) h.request h.event
 turn_effects s _ = []
 
 -- ---- functions that wait

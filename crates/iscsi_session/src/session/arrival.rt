@@ -1,8 +1,7 @@
 //! The arrival of a request, and the turns that become due by it.
 
-ghost use Rattle.std.specs.Prelude.{false, ◌-◌, ◌*◌, ◌≡◌, ◌==◌, ℕ, ◌+◌, ◌≤◌, ◌<◌, true, [], ◌∷◌, ◌++◌, length, drop, replicate, slice_index_or, Some, IfSome, nat_lt, count_by, is_some, vec_len, vec_capacity};
+ghost use Rattle.std.specs.Prelude.{false, ◌-◌, ◌*◌, ◌≡◌, ℕ, ◌+◌, ◌≤◌, ◌<◌, true, ◌++◌, length, Some, nat_lt, count_by, is_some, vec_len, vec_capacity};
 ghost use Rattle.std.specs.List.{list_all};
-ghost use Rattle.std.specs.VecDeque.{deque_capacity};
 ghost use Rattle.iscsi_wire.specs.Fields.{connection_of, is_immediate, opcode};
 ghost use Rattle.iscsi_window.specs.Windows.{at_place, offer_to, number_expected};
 ghost use Rattle.iscsi_history.specs.rules.Settings.{Setting, is_known as known_in};
@@ -13,17 +12,15 @@ ghost use Rattle.iscsi_history.specs.rules.Agenda.{arrival, arrival_open, arriva
 ghost use Rattle.iscsi_history.specs.rules.Items.{agenda, functions_at};
 ghost use Rattle.iscsi_history.specs.rules.Run.{effects_of};
 ghost use Rattle.iscsi_session.specs.private.Standing.{Agrees, Settled, is_held};
-ghost use Rattle.iscsi_session.specs.private.Steps.{KeepsPace, noted_in, with_offered};
+ghost use Rattle.iscsi_session.specs.private.Steps.{KeepsPace, with_offered};
 ghost use Rattle.iscsi_session.specs.private.Functions.{owed};
 ghost use Rattle.iscsi_session.specs.private.Turning.{turned_if, turn_effects, comes_next};
 
 use crate::opcode::kind_of;
 use crate::session::Session;
 use iscsi_history::{Effect, Kind, Why};
-use iscsi_window::{Offer, Place};
+use iscsi_window::{HeldRequest, Offer};
 use iscsi_wire::Request;
-use std::alloc::Global;
-use std::collections::VecDeque;
 
 impl Session {
     /// Takes a request that arrived. Nothing is taken on a connection that is closed.
@@ -145,9 +142,15 @@ impl Session {
         requires room { vec_len out.old + owed self.old.live self.old.sets + 6 * count_by is_held self.old.window.places
             + 6 ≤ vec_capacity out.old }
         // It is offered, and turns.
-        ensures session { self.new ≡ turned_if (with_offered self.old request) (Some (Some request)) }
+        ensures session { self.new ≡ turned_if (with_offered self.old request) (Some (Some (record {
+          request = request;
+          event = self.old.taken - 1;
+        }))) }
         ensures effects { out.new.items ≡ out.old.items
-            ++ turn_effects (with_offered self.old request) (Some (Some request)) }
+            ++ turn_effects (with_offered self.old request) (Some (Some (record {
+              request = request;
+              event = self.old.taken - 1;
+            }))) }
         ensures spent { vec_len out.new + owed self.new.live self.new.sets
             + 6 * (count_by is_held self.new.window.places + length self.new.waiting) ≤ vec_len out.old
             + owed self.old.live self.old.sets
@@ -155,7 +158,6 @@ impl Session {
         ensures capacity { vec_capacity out.new ≡ vec_capacity out.old }
     {
         self.window.pass(&request);
-        pass(&mut self.arrived);
         let event = self.taken - 1;
         self.deliver(request, event, out);
     }
@@ -172,13 +174,7 @@ impl Session {
         ensures counted { self.new.window.turned + count_by is_some self.new.window.places ≤ self.old.window.turned
             + count_by is_some self.old.window.places + 1 }
     {
-        let place = self.window.place(request.cmd_sn());
-        let offer = self.window.offer(request);
-        if offer == Offer::Held {
-            self.held += 1;
-            note(&mut self.arrived, place, self.taken - 1);
-        }
-        offer
+        self.window.offer(request, self.taken - 1)
     }
 
     /// Runs the agenda: delivers each number that is due, and executes the functions that waited for it before.
@@ -266,49 +262,12 @@ impl Session {
             ≡ count_by is_some self.old.window.places }
         ensures waiting { length self.new.waiting ≤ length self.old.waiting }
     {
-        let Some(turned) = self.window.advance() else {
+        let Some(held) = self.window.advance() else {
             return false;
         };
-        let event = pass(&mut self.arrived);
-        if let Some(request) = turned.request {
-            self.held -= 1;
+        if let Some(HeldRequest { request, event }) = held {
             self.deliver(request, event, out);
         }
         true
     }
-}
-
-/// Opens the events of arrival for so many places, none of which holds a request. None where memory is refused.
-pub(crate) fn open(alloc: Global, places: u32) -> Option<VecDeque<u64>>
-    ensures events { IfSome result (λ arrived. arrived.items ≡ replicate places 0) }
-    ensures capacity { IfSome result (λ arrived. places ≤ deque_capacity arrived) }
-{
-    let mut arrived = VecDeque::with_capacity(alloc, places as usize).ok()?;
-    for _ in 0..places {
-        arrived.push_back_reserved(0);
-    }
-    Some(arrived)
-}
-
-/// Notes the event in which the request of a place arrived.
-fn note(arrived: &mut VecDeque<u64>, place: Place, event: u64)
-    requires { (k : ℕ) → place ≡ Place.Inside k → k < length arrived.old.items }
-    ensures events { arrived.new.items ≡ noted_in place arrived.old.items event }
-    ensures capacity { deque_capacity arrived.new ≡ deque_capacity arrived.old }
-{
-    if let Place::Inside(k) = place {
-        arrived[k as usize] = event;
-    }
-}
-
-/// The first place is passed: its event comes back, and a place is new at the end.
-fn pass(arrived: &mut VecDeque<u64>) -> u64
-    requires { 0 < length arrived.old.items }
-    ensures event { result ≡ slice_index_or arrived.old.items 0 0 }
-    ensures events { arrived.new.items ≡ drop 1 arrived.old.items ++ 0 ∷ [] }
-    ensures capacity { deque_capacity arrived.new ≡ deque_capacity arrived.old }
-{
-    let event = arrived.pop_front().unwrap();
-    arrived.push_back_reserved(0);
-    event
 }

@@ -12,7 +12,7 @@ use iscsi_commands::{Live, LiveCommands, Placed};
 use iscsi_connections::Connections;
 use iscsi_history::{Effect, Why};
 use iscsi_tasks::LinkedTaskSet;
-use iscsi_window::Window;
+use iscsi_window::EventWindow;
 use iscsi_wire::{Reply, Sense};
 
 /// HARDWARE ERROR, INTERNAL TARGET FAILURE.
@@ -73,7 +73,7 @@ fn take_enabled(sets: &mut [LinkedTaskSet], live: &LiveCommands, ticket: u64) ->
 }
 
 /// A command is over: it gives its place of the window back, or counts no more among the immediate ones.
-pub(crate) fn finish(window: &mut Window, connections: &mut Connections, command: &Live)
+pub(crate) fn finish(window: &mut EventWindow, connections: &mut Connections, command: &Live)
     requires numbered { command.now.immediate ≡ false → 0 < window.old.unfinished }
     requires known { known_in command.now.conn connections.old.conns ≡ true }
     requires some { command.now.immediate ≡ true →

@@ -19,7 +19,7 @@ use iscsi_commands::Live;
 use iscsi_connections::Connections;
 use iscsi_history::{Effect, Verdict};
 use iscsi_tasks::{Attr, Task};
-use iscsi_window::Window;
+use iscsi_window::EventWindow;
 use iscsi_wire::{Reply, Request, distance};
 
 /// The tag that names no task (RFC 7143 section 11.2.1.8).
@@ -272,7 +272,7 @@ impl Session {
 }
 
 /// A command begins: it takes a place of the window, or counts among the immediate ones of its connection.
-fn begin(window: &mut Window, connections: &mut Connections, request: &Request)
+fn begin(window: &mut EventWindow, connections: &mut Connections, request: &Request)
     requires space { is_immediate request.now ≡ false → HasRoom window.old }
     requires known { known_in (connection_of request.now) connections.old.conns ≡ true }
     requires few { is_immediate request.now ≡ true →

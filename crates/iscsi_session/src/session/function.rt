@@ -95,9 +95,7 @@ impl Session {
         ensures turned { self.new.window.turned ≡ self.old.window.turned }
         ensures counted { count_by is_some self.new.window.places ≡ count_by is_some self.old.window.places }
     {
-        if self.window.empty(sn).is_some() {
-            self.held -= 1;
-        }
+        self.window.empty(sn);
         out.push_reserved(Effect::Empty { sn });
     }
 

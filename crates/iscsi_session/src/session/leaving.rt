@@ -14,7 +14,7 @@ use iscsi_commands::LiveCommands;
 use iscsi_connections::Connections;
 use iscsi_history::Effect;
 use iscsi_tasks::{Cover, LinkedTaskSet};
-use iscsi_window::Window;
+use iscsi_window::EventWindow;
 
 impl Session {
     /// The covered commands of a unit leave, the oldest first.
@@ -107,7 +107,7 @@ fn dequeue_one(sets: &mut [LinkedTaskSet], live: &LiveCommands, unit: u16, ticke
 fn end_all(
     tickets: &[u64],
     unit: u16,
-    window: &mut Window,
+    window: &mut EventWindow,
     connections: &mut Connections,
     live: &mut LiveCommands,
     out: &mut Vec<Effect>,
@@ -141,7 +141,7 @@ fn end_one(
     is_there: bool,
     unit: u16,
     ticket: u64,
-    window: &mut Window,
+    window: &mut EventWindow,
     connections: &mut Connections,
     live: &mut LiveCommands,
     out: &mut Vec<Effect>,
@@ -168,7 +168,12 @@ fn end_one(
 }
 
 /// The live command with this ticket is over.
-fn end(window: &mut Window, connections: &mut Connections, live: &mut LiveCommands, ticket: u64)
+fn end(
+    window: &mut EventWindow,
+    connections: &mut Connections,
+    live: &mut LiveCommands,
+    ticket: u64,
+)
     requires ascending { are_ascending live.old.items ≡ true }
     requires there { IsSome (find_ticket ticket live.old.items) }
     requires numbered { count_by is_numbered live.old.items ≤ window.old.unfinished }

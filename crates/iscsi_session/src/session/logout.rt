@@ -142,10 +142,10 @@ impl Session {
             + count_by is_held self.old.window.places }
         ensures capacity { vec_capacity out.new ≡ vec_capacity out.old }
     {
-        if let Some(sn) = self.window.drop_at(ahead, scope) {
-            self.held -= 1;
-            out.push_reserved(Effect::Empty { sn });
-        }
+        let Some(sn) = self.window.drop_at(ahead, scope) else {
+            return;
+        };
+        out.push_reserved(Effect::Empty { sn });
     }
 
     /// The functions of a connection that wait, or of all for None, are dropped.

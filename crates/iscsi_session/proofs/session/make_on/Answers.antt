@@ -1,11 +1,11 @@
-use Rattle.std.proofs.Common.{true, Option, ◌+◌, [], rules, ℕ, ◌*◌, ◌≡◌, ◌≤◌, ◌∙◌, ap, sym, arith, length, is_some, replicate, None, refl, List, vec_capacity}
+use Rattle.std.proofs.Common.{true, Option, ◌+◌, [], rules, ℕ, ◌*◌, ◌≡◌, ◌≤◌, ap, arith, length, is_some, replicate, None, refl, List, vec_capacity}
 use Rattle.std.proofs.lemmas.Bool.Decides.{nat_tests}
-use Rattle.iscsi_wire.specs.declared.request.Request.{Request}
+use Rattle.iscsi_window.specs.declared.held_request.HeldRequest.{HeldRequest}
 use Rattle.iscsi_window.specs.Windows.{opened}
 use Rattle.iscsi_tasks.specs.Sets.{opened as opened_set}
 use Rattle.iscsi_connections.specs.Connected.{Connected}
 use Rattle.iscsi_session.specs.promises.Settings.{setting_of}
-use Rattle.iscsi_session.specs.private.Standing.{is_held, is_place_known, tickets_of}
+use Rattle.iscsi_session.specs.private.Standing.{is_place_known, tickets_of}
 use Rattle.iscsi_history.specs.rules.Settings.{Setting, is_valid}
 use Rattle.iscsi_session.specs.private.Invariant.{HasRooms, IsWithinLimits, IsSessionSound}
 use Rattle.iscsi_session.proofs.CountLemmas.{AreCounted-opened}
@@ -17,10 +17,9 @@ use Rattle.iscsi_history.proofs.PlaceLemmas.{all_none}
 use Rattle.std.proofs.lemmas.List.{length-replicate as so_many}
 
 -- a session that was opened is sound
-opened_sound : (first size events units depth live_room arrived_room waiting_room left_room : ℕ) (conns : List (ℕ × ℕ)) → size ≤ 1024 → HasRooms size (length conns) live_room arrived_room waiting_room left_room → IsWithinLimits 0 events (length conns) units
+opened_sound : (first size events units depth live_room waiting_room left_room : ℕ) (conns : List (ℕ × ℕ)) → size ≤ 1024 → HasRooms size (length conns) live_room waiting_room left_room → IsWithinLimits 0 events (length conns) units
     → IsSessionSound (record {
       window = opened first size;
-      held = 0;
       events = events;
       conns = conns;
       entered = 0;
@@ -28,19 +27,17 @@ opened_sound : (first size events units depth live_room arrived_room waiting_roo
       live = [];
       immediate = replicate (length conns) 0;
       sets = replicate units (opened_set depth);
-      arrived = replicate size 0;
       waiting = [];
       live_room = live_room;
-      arrived_room = arrived_room;
       waiting_room = waiting_room;
       left_room = left_room;
     })
-opened_sound first size events units depth live_room arrived_room waiting_room left_room conns most rooms limits =
-    let long : length (opened first size).places ≡ size = so_many size None in
+opened_sound first size events units depth live_room waiting_room left_room conns most rooms limits =
+    let long : length (opened {A = HeldRequest} first size).places ≡ size = so_many size None in
     let sets : length (replicate units (opened_set depth)) ≡ units = so_many units (opened_set depth) in
-    let none = none_counted {A = Option Request} is_some size refl in
+    let none = none_counted {A = Option HeldRequest} is_some size refl in
     record {
-      window = record { fits = omega arith; most = omega (arith, long); held_is = sym (none_counted is_held size refl); turned = omega (arith, none); entered = omega (arith, none); known = all_none (is_place_known conns) size refl };
+      window = record { fits = omega arith; most = omega (arith, long); turned = omega (arith, none); entered = omega (arith, none); known = all_none (is_place_known conns) size refl };
       commands = record {
         numbered = omega arith;
         known = refl;
@@ -51,7 +48,6 @@ opened_sound first size events units depth live_room arrived_room waiting_room l
       };
       functions = record { before = refl; known = refl; may = refl; few = λ cid. omega arith };
       rooms = rw long rooms;
-      arrivals = so_many size 0 ∙ sym long;
       limits = rw sets limits;
     }
 
@@ -66,11 +62,10 @@ invariant_of-result c =
     let left_room : c.args.options.window + c.from.result * c.len.result ≤ vec_capacity c.in_ok-ok-3.field-0 = search rules in
     let most : c.args.options.window ≤ 1024 = search rules in
     let connections = c.requires.connections in
-    rw (is, none, c.in_ok-with_room.ensures, c.in_ok-open.ensures, c.in_ok-open-2.ensures.events, ap (λ (x : Connected). x.conns) connections, ap (λ (x : Connected). x.immediate) connections)
-    (opened_sound c.args.options.first c.args.options.window c.args.options.events c.args.options.units c.args.options.depth _ _ _ _ c.args.options.conns.items most
+    rw (is, none, c.in_ok-with_room.ensures, c.in_ok-open.ensures, ap (λ (x : Connected). x.conns) connections, ap (λ (x : Connected). x.immediate) connections)
+    (opened_sound c.args.options.first c.args.options.window c.args.options.events c.args.options.units c.args.options.depth _ _ _ c.args.options.conns.items most
     (record {
       live = omega (arith, c.len.ensures, c.args.options.conns.ok.0, ap (λ n. n * c.len.result) c.from.ensures);
-      arrived = c.in_ok-open-2.ensures.capacity;
       waiting = omega (arith, c.len-2.ensures, c.args.options.conns.ok.0);
       left = omega (arith, c.len.ensures, c.args.options.conns.ok.0, ap (λ n. n * c.len.result) c.from.ensures);
     })
@@ -81,7 +76,7 @@ returns c = record {
   settled =
       let is : c.in_ok-ok.field-0 ≡ opened c.args.options.first c.args.options.window = search rules in
       let none : c.in_ok-ok-2.field-0.items ≡ [] = search rules in
-      rw (is, none, c.in_ok-with_room.ensures, c.in_ok-open.ensures, c.in_ok-open-2.ensures.events, ap (λ (x : Connected). x.conns) (c.requires.connections), ap (λ (x : Connected). x.open_conns) (c.requires.connections)) (Settled-opened (setting_of c.args.options) 0);
+      rw (is, none, c.in_ok-with_room.ensures, c.in_ok-open.ensures, ap (λ (x : Connected). x.conns) (c.requires.connections), ap (λ (x : Connected). x.open_conns) (c.requires.connections)) (Settled-opened (setting_of c.args.options) 0);
   taken = refl;
   belong = refl;
 }

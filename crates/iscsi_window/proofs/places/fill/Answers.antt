@@ -2,13 +2,14 @@ use Rattle.std.proofs.Common.{arith, cond, min, ◌+◌, ◌-◌, ◌^◌, ◌�
 use Rattle.std.specs.List.{slice_get}
 use Rattle.std.specs.Option.{option_copied_mut}
 use Rattle.std.proofs.lemmas.Option.{slice_get_within, get_or_from_slice_get}
-use Rattle.circular_buffer.specs.Buffer.{buffer}
+use Rattle.iscsi_window.specs.PlaceTags.{Placed}
 use Rattle.iscsi_window.proofs.PlaceLemmas.{set_same, none_there}
 use Rattle.iscsi_window.proofs.TagLemmas.{is_few, raised_counted}
 use Rattle.iscsi_window.proofs.BoundLemmas.{bounds_filled}
-use Rattle.iscsi_window.proofs.ReceivedLemmas.{one, received_set}
+use Rattle.iscsi_window.proofs.ReceivedLemmas.{one, count_set}
 use Rattle.iscsi_window.proofs.LabelLemmas.{labels_put}
 use Rattle.iscsi_window.proofs.FilledLemmas.{filled_put}
+use Rattle.iscsi_window.specs.Received.{is_held}
 use Rattle.iscsi_window.specs.FilledSlots.{IsSlotSet}
 use Rattle.iscsi_window.proofs.places.fill.Goals as goal
 use Rattle.iscsi_window.proofs.places.fill.Goals.{In-Some}
@@ -43,7 +44,8 @@ invariant_of-places-2 c =
         tags = rw c.raise.ensures (raised_counted c.places.inside.tags c.places.inside.ring.items c.args.k (Some c.args.held) s.tags within free);
         lowest = rw (c.occupy.ensures, c.saturating_add-number.ensures, c.is_none_like-is_only.ensures)
             (bounds_filled c.places.inside.tags c.places.inside.bounds c.places.inside.turned c.places.inside.ring.items c.args.k (Some c.args.held) s.tags s.lowest within);
-        as_many = let more = received_set c.places.inside.ring.items c.args.k (Some c.args.held) within in let before = ap one free in omega (arith, more, before, s.as_many);
+        as_many = let more = count_set is_some c.places.inside.ring.items c.args.k (Some c.args.held) within in let before = ap (one is_some) free in omega (arith, more, before, s.as_many);
+        held_are = let more = count_set is_held c.places.inside.ring.items c.args.k (Some c.args.held) within in let before = ap (one is_held) free in omega (arith, more, before, s.held_are, c.count_held.ensures);
       };
       labels = rw (c.put.ensures, c.saturating_add-number.ensures) (labels_put c.places.inside.labels c.places.inside.turned c.places.inside.ring.items c.args.k (Some c.args.held) c.places.invariant.labels s.tags.few within);
       filled =
@@ -55,4 +57,4 @@ pub returns-clause-answer : goal.returns-clause-answer
 returns-clause-answer c = rw (was (goal.at.returns-clause-answer c).In-Some, sym c.is_some.ensures, c.if-is_some.false) refl
 
 pub returns-clause-state : goal.returns-clause-state
-returns-clause-state c = rw (was (goal.at.returns-clause-state c).In-Some, sym c.is_some.ensures, c.if-is_some.false) (ap (λ b. buffer (Rattle.std.proofs.Common.set b.items c.args.k (Some c.args.held)) b.capacity) c.places.view_is)
+returns-clause-state c = rw (was (goal.at.returns-clause-state c).In-Some, sym c.is_some.ensures, c.if-is_some.false) (ap (λ (b : Placed). let d : Placed = record b { items = Rattle.std.proofs.Common.set b.items c.args.k (Some c.args.held) } in d) c.places.view_is)

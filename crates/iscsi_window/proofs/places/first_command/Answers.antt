@@ -1,10 +1,8 @@
-use Rattle.std.proofs.Common.{◌≡◌, ◌%◌, ◌+◌, ◌<◌, ◌≤◌, false, ℕ, ◌-◌, ◌∙◌, get_or, None, length, ap, sym, position, take, arith, ⊎_elim, Option}
+use Rattle.std.proofs.Common.{◌≡◌, ◌%◌, ◌+◌, ◌<◌, ◌≤◌, false, ℕ, ◌-◌, ◌∙◌, get_or, None, length, ap, sym, position, take, arith, ⊎_elim}
 use Rattle.std.proofs.lemmas.Bool.{eqb-true, cases_lt}
-use Rattle.iscsi_wire.specs.declared.request.Request.{Request}
-use Rattle.circular_buffer.specs.Buffer.{Buffer}
-use Rattle.iscsi_window.specs.Windows.{is_command}
-use Rattle.iscsi_window.proofs.TagLemmas.{none_found}
-use Rattle.iscsi_window.proofs.BoundLemmas.{none_before, found_below, none_below}
+use Rattle.iscsi_window.specs.PlaceTags.{Placed}
+use Rattle.iscsi_window.specs.Windows.{holds_command}
+use Rattle.iscsi_window.proofs.BoundLemmas.{none_found, none_before, found_below, none_below}
 use Rattle.iscsi_window.proofs.LabelLemmas.{none_between, first_between}
 use Rattle.iscsi_window.proofs.FilledLemmas.{untagged, none_filled_with}
 use Rattle.iscsi_window.proofs.places.first_command.Goals as goal
@@ -13,20 +11,20 @@ use Rattle.iscsi_window.proofs.places.first_command.Goals.{After-min-first, then
 pub returns-then-is_none : goal.returns-then-is_none
 returns-then-is_none c =
     let zero : get_or c.places.inside.tags (c.args.itt % 4093) 0 ≡ 0 = eqb-true (get_or c.places.inside.tags (c.args.itt % 4093) 0) 0 (sym c.is_none.ensures ∙ c.if-is_none.true) in
-    sym (none_found c.places.inside.tags c.places.inside.ring.items c.args.itt c.args.unit c.args.end c.places.invariant.sound.tags zero)
-    ∙ ap (λ b. position (is_command c.args.itt c.args.unit) (take c.args.end b.items)) c.places.view_is
+    none_found c.places.inside.tags c.places.inside.ring.items c.args.itt c.args.unit c.args.end c.places.invariant.sound.tags zero
+    ∙ ap (λ b. position (holds_command c.args.itt c.args.unit) (take c.args.end b.items)) c.places.view_is
 
 -- no place before the first of the search holds one
-none_yet : (c : After-min-first) (j : ℕ) → j < c.min-first.result → is_command c.args.itt c.args.unit (get_or c.args.places.now.items j None) ≡ false
+none_yet : (c : After-min-first) (j : ℕ) → j < c.min-first.result → holds_command c.args.itt c.args.unit (get_or c.args.places.now.items j None) ≡ false
 none_yet c j below =
     let short : j < get_or c.places.inside.bounds (c.args.itt % 4093) 0 - c.places.inside.turned = omega (arith, below, c.of.ensures, c.saturating_sub-bound.ensures, c.min-first.ensures) in
-    ap (λ b. is_command c.args.itt c.args.unit (get_or b.items j None)) (sym c.places.view_is)
+    ap (λ b. holds_command c.args.itt c.args.unit (get_or b.items j None)) (sym c.places.view_is)
     ∙ none_before c.places.inside.bounds c.places.inside.turned c.places.inside.ring.items c.args.itt c.args.unit j c.places.invariant.sound.lowest short
 
 pub returns-then-holds_command_at : goal.returns-then-holds_command_at
 returns-then-holds_command_at c =
-    let long = ap (λ (b : Buffer (Option (Option Request))). length b.items) c.places.view_is in
-    found_below (is_command c.args.itt c.args.unit) c.args.places.now.items c.args.end None c.min-first.result
+    let long = ap (λ (b : Placed). length b.items) c.places.view_is in
+    found_below (holds_command c.args.itt c.args.unit) c.args.places.now.items c.args.end None c.min-first.result
     (omega (arith, long, c.if-first-end.true, c.min-end.ensures, c.len.ensures.len)) (omega (arith, c.if-first-end.true, c.min-end.ensures))
     (none_yet (goal.at.returns-then-holds_command_at c).After-min-first) (sym c.holds_command_at.ensures ∙ c.if-holds_command_at.true)
 
@@ -39,9 +37,9 @@ loop-k-preserved c = λ j below. ⊎_elim
     (λ before. c.loop-k.invariant j before)
     (λ inside. elim c.if-may_have.branch [
       | then-may_have+else-is_some w ↦
-          none_between (is_command c.args.itt c.args.unit) c.args.places.now.items c.loop-k.k (c.loop-k.k + c.of_one_word-count.result) w.first_between-found.result w.first_between-found.ensures (sym w.is_some.ensures ∙ w.if-is_some.false) j inside (omega (arith, below))
+          none_between (holds_command c.args.itt c.args.unit) c.args.places.now.items c.loop-k.k (c.loop-k.k + c.of_one_word-count.result) w.first_between-found.result w.first_between-found.ensures (sym w.is_some.ensures ∙ w.if-is_some.false) j inside (omega (arith, below))
       | else-may_have w ↦
-          ap (λ b. is_command c.args.itt c.args.unit (get_or b.items j None)) (sym c.places.view_is)
+          ap (λ b. holds_command c.args.itt c.args.unit (get_or b.items j None)) (sym c.places.view_is)
           ∙ untagged c.places.inside.labels c.places.inside.turned c.places.inside.ring.items c.args.itt c.args.unit c.loop-k.k c.of_one_word-count.result c.saturating_add-number.result j c.places.invariant.labels c.saturating_add-number.ensures
           (c.may_have.ensures.fits w.if-may_have.false) c.of_one_word-count.ensures.together (c.may_have.ensures.none w.if-may_have.false) inside (omega (arith, below))
     ])
@@ -49,21 +47,21 @@ loop-k-preserved c = λ j below. ⊎_elim
 
 pub returns-then-is_some : goal.returns-then-is_some
 returns-then-is_some c =
-    let long = ap (λ (b : Buffer (Option (Option Request))). length b.items) c.places.view_is in
+    let long = ap (λ (b : Placed). length b.items) c.places.view_is in
     let to : ℕ = c.loop-k.k + c.of_one_word-count.result in
     let short : to ≤ c.min-end.result = omega (arith, c.of_one_word-count.ensures.most, c.loop-k-test.true) in
-    first_between (is_command c.args.itt c.args.unit) c.args.places.now.items c.args.end c.loop-k.k to c.first_between-found.result c.first_between-found.ensures (sym c.is_some.ensures ∙ c.if-is_some.true)
+    first_between (holds_command c.args.itt c.args.unit) c.args.places.now.items c.args.end c.loop-k.k to c.first_between-found.result c.first_between-found.ensures (sym c.is_some.ensures ∙ c.if-is_some.true)
     (omega (arith, short, c.min-end.ensures)) (omega (arith, long, short, c.min-end.ensures, c.len.ensures.len)) c.loop-k.invariant
 
 pub returns : goal.returns
 returns c =
-    let long = ap (λ (b : Buffer (Option (Option Request))). length b.items) c.places.view_is in
-    none_below (is_command c.args.itt c.args.unit) c.args.places.now.items c.args.end None (λ j short within. c.loop-k.invariant j (omega (arith, long, short, within)))
+    let long = ap (λ (b : Placed). length b.items) c.places.view_is in
+    none_below (holds_command c.args.itt c.args.unit) c.args.places.now.items c.args.end None (λ j short within. c.loop-k.invariant j (omega (arith, long, short, within)))
 
 -- no place with a bit has the tag
 pub returns-then-not-may_be_filled : goal.returns-then-not-may_be_filled
 returns-then-not-may_be_filled c =
-    none_below (is_command c.args.itt c.args.unit) c.args.places.now.items c.args.end None (λ j short within.
-    ap (λ b. is_command c.args.itt c.args.unit (get_or b.items j None)) (sym c.places.view_is)
+    none_below (holds_command c.args.itt c.args.unit) c.args.places.now.items c.args.end None (λ j short within.
+    ap (λ b. holds_command c.args.itt c.args.unit (get_or b.items j None)) (sym c.places.view_is)
     ∙ none_filled_with c.places.inside.labels c.places.inside.filled c.places.inside.turned c.places.inside.ring.items c.args.itt c.args.unit j c.places.invariant.labels c.places.invariant.filled
     (c.may_be_filled.ensures.fits c.if-not-may_be_filled.true) (c.may_be_filled.ensures.none c.if-not-may_be_filled.true) (omega (arith, c.requires, short, within)))

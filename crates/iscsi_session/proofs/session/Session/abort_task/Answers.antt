@@ -1,7 +1,7 @@
 use Rattle.std.proofs.Common.{rules, ◌≡◌, ◌∙◌, ℕ, Option, None, Some, option_map, sym, arith}
 use Rattle.iscsi_wire.specs.declared.request.Request.{Request}
 use Rattle.iscsi_wire.specs.Fields.{rtt, cmd_sn, ref_cmd_sn}
-use Rattle.iscsi_window.specs.Windows.{place_in, find_command, number_shown}
+use Rattle.iscsi_window.specs.Windows.{place_in, find_held, number_shown}
 use Rattle.iscsi_session.specs.declared.outcome.Outcome.{Outcome}
 use Rattle.iscsi_session.specs.declared.outcome.Outcome.TheVariants.{Empty as EmptyNumber}
 use Rattle.iscsi_session.specs.private.Standing.{Core}
@@ -13,11 +13,11 @@ use Rattle.iscsi_session.proofs.session.Session.abort_task.Goals.{After-find_hel
 abbrev by_shown : Core → Request → Option ℕ → Outcome
 by_shown s r x = elim x [ Some sn ↦ EmptyNumber sn | None ↦ missing_at s r (place_in s.window (ref_cmd_sn r)) ]
 
-untagged : (s : Core) (r : Request) (unit : ℕ) (x : Option ℕ) → tagged_in s (rtt r) unit ≡ None → x ≡ option_map (number_shown s.window) (find_command s.window (rtt r) unit (cmd_sn r)) → by_shown s r x ≡ abort_by s r unit
+untagged : (s : Core) (r : Request) (unit : ℕ) (x : Option ℕ) → tagged_in s (rtt r) unit ≡ None → x ≡ option_map (number_shown s.window) (find_held s.window (rtt r) unit (cmd_sn r)) → by_shown s r x ≡ abort_by s r unit
 untagged s r unit x none is = grind arith
 
-held_is : (c : After-find_held) → c.find_held.result ≡ option_map (number_shown c.args.self.now.window) (find_command c.args.self.now.window (rtt c.args.request.now) c.args.unit (cmd_sn c.args.request.now))
-held_is c = rw (← c.self.view_is, ← c.rtt-2.ensures, ← c.cmd_sn.ensures) c.find_held.ensures.answer
+held_is : (c : After-find_held) → c.find_held.result ≡ option_map (number_shown c.args.self.now.window) (find_held c.args.self.now.window (rtt c.args.request.now) c.args.unit (cmd_sn c.args.request.now))
+held_is c = rw (← c.self.view_is, ← c.rtt-2.ensures, ← c.cmd_sn.ensures) c.find_held.ensures
 
 pub returns-in-Some-find_held : goal.returns-in-Some-find_held
 returns-in-Some-find_held c =

@@ -2,7 +2,7 @@ use Rattle.std.proofs.Common.{not, cond, ◌≡◌, ◌==◌, ◌&&◌, ◌∙�
 use Rattle.std.proofs.lemmas.Bool.{ltb-true}
 use Rattle.std.proofs.lemmas.List.{get_or-set_same, set-set}
 use Rattle.std.proofs.lemmas.List.Sums.{count_by-le-length}
-use Rattle.iscsi_window.specs.Windows.{Received}
+use Rattle.iscsi_window.specs.Windows.{Arrived}
 use Rattle.iscsi_tasks.specs.Sets.{Members, opened, is_new}
 use Rattle.iscsi_slots.specs.Queued.{Queued}
 use Rattle.iscsi_commands.specs.declared.live.Live.{Live}
@@ -72,7 +72,7 @@ command c =
     }
 
 -- the window, once the command gave its place back
-finished_parts : (w v : Received) (l : Live) (left all : ℕ) → v ≡ finished w l → left + cond (not l.immediate) 1 0 ≡ all → all ≤ w.unfinished
+finished_parts : (w v : Arrived) (l : Live) (left all : ℕ) → v ≡ finished w l → left + cond (not l.immediate) 1 0 ≡ all → all ≤ w.unfinished
     → (v.turned ≡ w.turned) × ((v.places ≡ w.places) × ((v.unfinished ≤ w.unfinished) × (left ≤ v.unfinished)))
 finished_parts w v l left all is counted few = grind arith
 

@@ -1,8 +1,7 @@
-use Rattle.std.proofs.Common.{◌≡◌, ◌<◌, ◌-◌, Some, ◌+◌, ◌∙◌, ◌++◌, ◌∷◌, true, length, subst, ap, sym, arith, is_some, count_by, refl}
-use Rattle.std.proofs.lemmas.List.Sums.{count_by-le-length as few_counted}
+use Rattle.std.proofs.Common.{◌≡◌, ◌<◌, ◌-◌, ◌+◌, ◌∙◌, ◌++◌, ◌∷◌, Some, true, length, subst, ap, sym, arith, is_some, count_by}
 use Rattle.iscsi_wire.specs.declared.request.Request.{Request}
 use Rattle.iscsi_wire.specs.Fields.{connection_of}
-use Rattle.iscsi_window.specs.Windows.{Received, offered_to, advanced}
+use Rattle.iscsi_window.specs.Windows.{Arrived}
 use Rattle.iscsi_history.specs.declared.effect.Effect.TheVariants.{Deliver}
 use Rattle.iscsi_history.specs.rules.Settings.{is_known}
 use Rattle.iscsi_session.specs.contracts.session.Session.{the_view}
@@ -10,68 +9,59 @@ use Rattle.iscsi_session.specs.private.Standing.{Core, is_held}
 use Rattle.iscsi_session.specs.private.Steps.{with_offered}
 use Rattle.iscsi_session.specs.private.Turning.{comes_next, with_executed, executed_effects, with_advanced, turned_if, turn_effects}
 use Rattle.iscsi_session.specs.private.Functions.{owed}
-use Rattle.iscsi_session.proofs.WindowLemmas.{comes_alone, Delivered, delivered, delivered_core, grown_sound, length-passed}
-use Rattle.iscsi_session.proofs.SoundLemmas.{window_sound, advanced_sound, arrivals_sound}
+use Rattle.iscsi_session.proofs.WindowLemmas.{held_now, comes_alone, Delivered, delivered, grown_sound}
+use Rattle.iscsi_session.proofs.SoundLemmas.{window_sound, advanced_sound}
 use Rattle.iscsi_session.proofs.session.Session.deliver_at_once.Goals as goal
 
 -- the request has turned
-turned : (s : Core) (r : Request) → comes_next s r ≡ true → Delivered s.window r
-turned s r next = delivered s.window r (comes_alone s r next).1
+turned : (s : Core) (r : Request) → comes_next s r ≡ true → Delivered s.window (held_now s r)
+turned s r next = delivered s.window (held_now s r) (comes_alone s r next).1
 
 -- so many are held and received as before
-held_same : (s : Core) (r : Request) (w : Received) → comes_next s r ≡ true → w ≡ advanced (offered_to s.window r) → count_by is_held w.places ≡ count_by is_held s.window.places
-held_same s r w next is = let d : Delivered s.window r = turned s r next in omega (arith, ap (λ (v : Received). count_by is_held v.places) is, d.advanced_is.held, d.grown_is.held)
+held_same : (s : Core) (r : Request) (w : Arrived) → comes_next s r ≡ true → w ≡ (with_advanced (with_offered s r)).window → count_by is_held w.places ≡ count_by is_held s.window.places
+held_same s r w next is = let d = turned s r next in omega (arith, ap (λ (v : Arrived). count_by is_held v.places) is, d.advanced_is.held, d.grown_is.held)
 
-received_same : (s : Core) (r : Request) (w : Received) → comes_next s r ≡ true → w ≡ advanced (offered_to s.window r) → count_by is_some w.places ≡ count_by is_some s.window.places
-received_same s r w next is = let d : Delivered s.window r = turned s r next in omega (arith, ap (λ (v : Received). count_by is_some v.places) is, d.advanced_is.counted, d.grown_is.counted)
-
-some_places : (s : Core) (r : Request) → comes_next s r ≡ true → 0 < length s.window.places
-some_places s r next = let d : Delivered s.window r = turned s r next in omega (arith, d.grown_is.counted, d.grown_is.long, few_counted is_some (offered_to s.window r).places)
+received_same : (s : Core) (r : Request) (w : Arrived) → comes_next s r ≡ true → w ≡ (with_advanced (with_offered s r)).window → count_by is_some w.places ≡ count_by is_some s.window.places
+received_same s r w next is = let d = turned s r next in omega (arith, ap (λ (v : Arrived). count_by is_some v.places) is, d.advanced_is.counted, d.grown_is.counted)
 
 pub invariant_of-self : goal.invariant_of-self
 invariant_of-self c =
     let inv = c.self.invariant in
     let s : Core = the_view c.self.inside in
     let now = λ (P : Core → Type 0). subst P (sym c.self.view_is) in
-    let d : Delivered s.window c.args.request = turned s c.args.request (now (λ v. comes_next v c.args.request ≡ true) c.requires.next) in
-    let is = c.pass.ensures.state in
+    let d : Delivered s.window (held_now s c.args.request) = turned s c.args.request (now (λ v. comes_next v c.args.request ≡ true) c.requires.next) in
+    let is = c.pass.ensures.state (s.taken - 1) in
     let window = grown_sound inv.window d.grown_is (now (λ v. v.window.turned + count_by is_some v.window.places < v.taken) c.requires.counted) (now (λ v. v.entered + count_by is_some v.window.places < v.taken) c.requires.entered)
     c.requires.regular (now (λ v. is_known (connection_of c.args.request) v.conns ≡ true) c.requires.known) in
-    arrivals_sound (window_sound inv (ap (λ (v : Received). v.unfinished) is ∙ d.advanced_is.unfinished ∙ d.grown_is.unfinished) (ap (λ (v : Received). length v.places) is ∙ d.advanced_is.long ∙ d.grown_is.long)
-    (advanced_sound window d.advanced_is is refl)) (ap length c.pass-event.ensures.events ∙ length-passed s.arrived (omega (arith, inv.arrivals, some_places s c.args.request (now (λ v. comes_next v c.args.request ≡ true) c.requires.next)))) (omega (arith, c.pass-event.ensures.capacity))
+    window_sound inv (ap (λ (v : Arrived). v.unfinished) is ∙ d.advanced_is.unfinished ∙ d.grown_is.unfinished) (ap (λ (v : Arrived). length v.places) is ∙ d.advanced_is.long ∙ d.grown_is.long) (advanced_sound window d.advanced_is is)
 
 pub deliver-requires-clause-counted : goal.deliver-requires-clause-counted
 deliver-requires-clause-counted c =
     let s : Core = the_view c.self.inside in
     let next : comes_next s c.args.request ≡ true = ap (λ (v : Core). comes_next v c.args.request) c.self.view_is ∙ c.requires.next in
-    omega (arith, c.requires.entered, ap (λ (v : Core). v.entered + count_by is_some v.window.places) c.self.view_is, ap (λ (v : Core). v.taken) c.self.view_is, received_same s c.args.request c.pass.new.self next c.pass.ensures.state)
+    omega (arith, c.requires.entered, ap (λ (v : Core). v.entered + count_by is_some v.window.places) c.self.view_is, ap (λ (v : Core). v.taken) c.self.view_is, received_same s c.args.request c.pass.new.self next (c.pass.ensures.state (s.taken - 1)))
 
 pub deliver-requires-clause-room : goal.deliver-requires-clause-room
 deliver-requires-clause-room c =
     let s : Core = the_view c.self.inside in
     let next : comes_next s c.args.request ≡ true = ap (λ (v : Core). comes_next v c.args.request) c.self.view_is ∙ c.requires.next in
-    omega (arith, c.requires.room, ap (λ (v : Core). count_by is_held v.window.places) c.self.view_is, ap (λ (v : Core). owed v.live v.sets) c.self.view_is, held_same s c.args.request c.pass.new.self next c.pass.ensures.state)
+    omega (arith, c.requires.room, ap (λ (v : Core). count_by is_held v.window.places) c.self.view_is, ap (λ (v : Core). owed v.live v.sets) c.self.view_is, held_same s c.args.request c.pass.new.self next (c.pass.ensures.state (s.taken - 1)))
 
 pub returns-clause-session : goal.returns-clause-session
 returns-clause-session c =
     let s : Core = the_view c.self.inside in
     let r : Request = c.args.request in
-    let next : comes_next s r ≡ true = ap (λ (v : Core). comes_next v r) c.self.view_is ∙ c.requires.next in
-    let core = delivered_core s r c.pass.new.self c.pass-event.new.arrived.items next (omega (arith, c.self.invariant.arrivals, some_places s r next)) c.pass.ensures.state c.pass-event.ensures.events in
-    c.deliver.ensures.session ∙ ap (λ (v : Core). with_executed v r (s.taken - 1)) core.0 ∙ ap (with_executed (with_advanced (with_offered s r)) r) core.1
-    ∙ ap (λ (v : Core). turned_if (with_offered v r) (Some (Some r))) c.self.view_is
+    c.deliver.ensures.session ∙ ap (λ (v : Arrived). with_executed (record s { window = v }) r (s.taken - 1)) (c.pass.ensures.state (s.taken - 1)) ∙ ap (λ (v : Core). turned_if (with_offered v r) (Some (Some (held_now v r)))) c.self.view_is
 
 pub returns-clause-effects : goal.returns-clause-effects
 returns-clause-effects c =
     let s : Core = the_view c.self.inside in
     let r : Request = c.args.request in
-    let next : comes_next s r ≡ true = ap (λ (v : Core). comes_next v r) c.self.view_is ∙ c.requires.next in
-    let core = delivered_core s r c.pass.new.self c.pass-event.new.arrived.items next (omega (arith, c.self.invariant.arrivals, some_places s r next)) c.pass.ensures.state c.pass-event.ensures.events in
-    c.deliver.ensures.effects ∙ ap (λ es. c.args.out.now.items ++ Deliver r ∷ es)
-    (ap (λ (v : Core). executed_effects v r (s.taken - 1)) core.0 ∙ ap (executed_effects (with_advanced (with_offered s r)) r) core.1) ∙ ap (λ (v : Core). c.args.out.now.items ++ turn_effects (with_offered v r) (Some (Some r))) c.self.view_is
+    c.deliver.ensures.effects ∙ ap (λ (v : Arrived). c.args.out.now.items ++ Deliver r ∷ executed_effects (record s { window = v }) r (s.taken - 1)) (c.pass.ensures.state (s.taken - 1))
+    ∙ ap (λ (v : Core). c.args.out.now.items ++ turn_effects (with_offered v r) (Some (Some (held_now v r)))) c.self.view_is
 
 pub returns-clause-spent : goal.returns-clause-spent
 returns-clause-spent c =
     let s : Core = the_view c.self.inside in
     let next : comes_next s c.args.request ≡ true = ap (λ (v : Core). comes_next v c.args.request) c.self.view_is ∙ c.requires.next in
-    omega (arith, c.deliver.ensures.spent, c.deliver.ensures.waiting, ap (λ (v : Core). length v.waiting) c.self.view_is, held_same s c.args.request c.pass.new.self next c.pass.ensures.state, ap (λ (v : Core). count_by is_held v.window.places) c.self.view_is, ap (λ (v : Core). owed v.live v.sets) c.self.view_is)
+    omega (arith, c.deliver.ensures.spent, c.deliver.ensures.waiting, ap (λ (v : Core). length v.waiting) c.self.view_is, held_same s c.args.request c.pass.new.self next (c.pass.ensures.state (s.taken - 1)), ap (λ (v : Core). count_by is_held v.window.places) c.self.view_is, ap (λ (v : Core). owed v.live v.sets) c.self.view_is)

@@ -6,7 +6,7 @@ use Rattle.iscsi_history.proofs.PlaceLemmas.{written}
 use Rattle.std.proofs.lemmas.Int.{to_z-of_z}
 use Rattle.iscsi_wire.specs.declared.request.Request.{Request}
 use Rattle.iscsi_wire.specs.Fields.{is_immediate}
-use Rattle.iscsi_window.specs.Windows.{Received}
+use Rattle.iscsi_window.specs.Windows.{Arrived}
 use Rattle.iscsi_tasks.specs.Sets.{Members, opened, entered_to, given_by}
 use Rattle.iscsi_commands.specs.declared.live.Live.{Live}
 use Rattle.iscsi_connections.specs.Connected.{Connected}
@@ -19,7 +19,7 @@ use Rattle.iscsi_session.proofs.session.Session.enter.Goals as goal
 use Rattle.iscsi_session.proofs.session.Session.enter.Goals.{After-enter-slot, After-push}
 
 -- the window, once the command began: a place of it is left
-started_parts : (w v : Received) (r : Request) → v ≡ started w r → w.unfinished ≤ length w.places → (is_immediate r ≡ false → w.unfinished < length w.places)
+started_parts : (w v : Arrived) (r : Request) → v ≡ started w r → w.unfinished ≤ length w.places → (is_immediate r ≡ false → w.unfinished < length w.places)
     → (v.turned ≡ w.turned) × ((v.places ≡ w.places) × ((v.unfinished ≡ w.unfinished + cond (not (is_immediate r)) 1 0) × (v.unfinished ≤ length w.places)))
 started_parts w v r is few space = grind arith
 

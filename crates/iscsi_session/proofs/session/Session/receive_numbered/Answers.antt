@@ -11,7 +11,7 @@ use Rattle.iscsi_history.proofs.ReceivedItems.{ignored_receives}
 use Rattle.iscsi_session.proofs.ArriveLemmas.{offered_known, carried_at_once, held_settled, held_effects, held_receives}
 use Rattle.iscsi_session.specs.private.Steps.{KeepsPace, with_offered}
 use Rattle.iscsi_session.specs.private.Turning.{comes_next, turned_if}
-use Rattle.iscsi_session.proofs.WindowLemmas.{comes_alone, comes_first, Delivered, delivered}
+use Rattle.iscsi_session.proofs.WindowLemmas.{held_now, comes_alone, comes_first, Delivered, delivered}
 use Rattle.iscsi_session.proofs.PaceLemmas.{pace-turned, turned_taken}
 use Rattle.iscsi_session.proofs.session.Session.receive_numbered.Goals as goal
 
@@ -19,7 +19,7 @@ is_next_of : (s : Core) (r : Request) → comes_next s r ≡ true → is_next s.
 is_next_of s r next = (comes_alone s r next).1
 
 held_next : (s : Core) (r : Request) → comes_next s r ≡ true → offer_to s.window r ≡ Held
-held_next s r next = (comes_first s.window r (is_next_of s r next)).held
+held_next s r next = (comes_first s.window (held_now s r) (is_next_of s r next)).held
 
 pub returns-in-Held-clause-settled : goal.returns-in-Held-clause-settled
 returns-in-Held-clause-settled c = λ o index t now h.
@@ -95,13 +95,13 @@ returns-then-comes_next-clause-received c = λ o index t now h.
 
 pub returns-then-comes_next-clause-taken : goal.returns-then-comes_next-clause-taken
 returns-then-comes_next-clause-taken c =
-    c.run_agenda.ensures.taken ∙ ap (λ (v : Core). v.taken) c.deliver_at_once.ensures.session ∙ turned_taken (with_offered c.args.self.now c.args.request) (Some (Some c.args.request))
+    c.run_agenda.ensures.taken ∙ ap (λ (v : Core). v.taken) c.deliver_at_once.ensures.session ∙ turned_taken (with_offered c.args.self.now c.args.request) (Some (Some (held_now c.args.self.now c.args.request)))
 
 pub returns-then-comes_next-clause-pace : goal.returns-then-comes_next-clause-pace
 returns-then-comes_next-clause-pace c =
     let s : Core = c.args.self.now in
     let r : Request = c.args.request in
-    let d : Delivered s.window r = delivered s.window r (is_next_of s r (sym c.comes_next.ensures ∙ c.if-comes_next.true)) in
+    let d : Delivered s.window (held_now s r) = delivered s.window (held_now s r) (is_next_of s r (sym c.comes_next.ensures ∙ c.if-comes_next.true)) in
     let one : KeepsPace (with_offered s r).window c.deliver_at_once.new.self.window = subst (λ (v : Core). KeepsPace (with_offered s r).window v.window) (sym c.deliver_at_once.ensures.session)
     (subst (λ p. KeepsPace (with_offered s r).window (turned_if (with_offered s r) p).window) d.first.there (pace-turned (with_offered s r))) in
     omega (arith, one, c.run_agenda.ensures.pace, d.grown_is.turned, d.grown_is.unfinished)

@@ -1,4 +1,4 @@
-use Rattle.std.proofs.Common.{◌∙◌, refl, ap, sym, subst, deque_capacity, vec_capacity}
+use Rattle.std.proofs.Common.{◌∙◌, refl, ap, sym, subst, vec_capacity}
 use Rattle.iscsi_connections.specs.Connected.{Connected}
 use Rattle.iscsi_session.specs.private.Standing.{Core}
 use Rattle.iscsi_session.specs.private.Steps.{count_reply}
@@ -8,12 +8,12 @@ use Rattle.iscsi_session.proofs.session.Session.reply.Goals as goal
 
 pub invariant_of-self : goal.invariant_of-self
 invariant_of-self c =
-    let old : Inner = record { window = c.self.inside.window; held = c.self.inside.held; events = c.self.inside.events; conns = c.self.inside.connections.conns; entered = c.self.inside.entered; taken = c.self.inside.taken; live = c.self.inside.live.items; immediate = c.self.inside.connections.immediate; sets = c.self.inside.sets.items; arrived = c.self.inside.arrived.items; waiting = c.self.inside.waiting.items; live_room = c.self.inside.live.room; arrived_room = deque_capacity c.self.inside.arrived; waiting_room = c.self.inside.waiting.room; left_room = vec_capacity c.self.inside.left } in
+    let old : Inner = record { window = c.self.inside.window; events = c.self.inside.events; conns = c.self.inside.connections.conns; entered = c.self.inside.entered; taken = c.self.inside.taken; live = c.self.inside.live.items; immediate = c.self.inside.connections.immediate; sets = c.self.inside.sets.items; waiting = c.self.inside.waiting.items; live_room = c.self.inside.live.room; waiting_room = c.self.inside.waiting.room; left_room = vec_capacity c.self.inside.left } in
     subst (λ (x : Connected). IsSessionSound (record old { conns = x.conns; immediate = x.immediate })) (sym c.assign_stat_sn-stat_sn.ensures.state)
     (replied_sound c.self.invariant c.args.conn refl)
 
 pub returns-clause-session : goal.returns-clause-session
 returns-clause-session c =
-    let old : Core = record { window = c.self.inside.window; events = c.self.inside.events; conns = c.self.inside.connections.conns; entered = c.self.inside.entered; taken = c.self.inside.taken; live = c.self.inside.live.items; sets = c.self.inside.sets.items; level = c.self.inside.level; arrived = c.self.inside.arrived.items; waiting = c.self.inside.waiting.items; open_conns = c.self.inside.connections.open_conns } in
+    let old : Core = record { window = c.self.inside.window; events = c.self.inside.events; conns = c.self.inside.connections.conns; entered = c.self.inside.entered; taken = c.self.inside.taken; live = c.self.inside.live.items; sets = c.self.inside.sets.items; level = c.self.inside.level; waiting = c.self.inside.waiting.items; open_conns = c.self.inside.connections.open_conns } in
     ap (λ (x : Connected). record old { conns = x.conns; open_conns = x.open_conns }) c.assign_stat_sn-stat_sn.ensures.state
     ∙ ap (λ (s : Core). record s { conns = count_reply c.args.conn s.conns }) c.self.view_is

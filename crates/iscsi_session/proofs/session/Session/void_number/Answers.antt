@@ -20,7 +20,7 @@ invariant_of-self c =
     let inv = c.self.invariant in
     let g = changed (goal.at.invariant_of-self c).After-void in
     let less = few (goal.at.invariant_of-self c).After-void in
-    window_sound inv g.unfinished g.long (changed_sound inv.window g (omega arith) (omega (arith, less, rw (← c.self.view_is) at c.requires.counted)) (omega (arith, less, rw (← c.self.view_is) at c.requires.entered)))
+    window_sound inv g.unfinished g.long (changed_sound inv.window g (omega (arith, less, rw (← c.self.view_is) at c.requires.counted)) (omega (arith, less, rw (← c.self.view_is) at c.requires.entered)))
 
 pub returns-clause-held : goal.returns-clause-held
 returns-clause-held c = rw (← c.self.view_is) (omega (arith, (changed (goal.at.returns-clause-held c).After-void).held_is))

@@ -1,5 +1,5 @@
 use Rattle.std.proofs.Common.{◌≡◌, ◌∙◌, ◌+◌, ◌-◌, ◌≤◌, ◌==◌, ℕ, not, cond, true, List, Some, count_by, ap, sym, arith, rules}
-use Rattle.iscsi_window.specs.Windows.{Received, with_unfinished}
+use Rattle.iscsi_window.specs.Windows.{Arrived, with_unfinished}
 use Rattle.iscsi_commands.specs.declared.live.Live.{Live}
 use Rattle.iscsi_history.specs.rules.Settings.{is_known}
 use Rattle.iscsi_session.specs.private.Steps.{is_numbered, finished, find_ticket, without_ticket}
@@ -30,7 +30,7 @@ finish-requires c =
     }
 
 -- a numbered command gives its place back
-finished_is : (w : Received) (l : Live) (left all : ℕ) → left + cond (not l.immediate) 1 0 ≡ all → all ≤ w.unfinished → finished w l ≡ with_unfinished w (w.unfinished + left - all)
+finished_is : (w : Arrived) (l : Live) (left all : ℕ) → left + cond (not l.immediate) 1 0 ≡ all → all ≤ w.unfinished → finished w l ≡ with_unfinished w (w.unfinished + left - all)
 finished_is w l left all counted few = grind arith
 
 pub returns : goal.returns

@@ -1,36 +1,26 @@
-use Rattle.std.proofs.Common.{rules, ◌∙◌}
+use Rattle.std.proofs.Common.{◌∙◌, ap, sym, refl}
+use Rattle.iscsi_window.specs.Windows.{shown}
 use Rattle.iscsi_window.proofs.SinceLemmas.{emptied_since, StandsFor-empty}
+use Rattle.iscsi_window.proofs.ShownLemmas.{held_shown, emptied_shown}
 use Rattle.iscsi_window.proofs.window.Window.empty.Goals as goal
 
-pub returns-in_default-clause-answer : goal.returns-in_default-clause-answer
-returns-in_default-clause-answer c = search rules
+pub returns-in_err-held-clause-answer : goal.returns-in_err-held-clause-answer
+returns-in_err-held-clause-answer c = rw (← c.self.view_is) (c.from_residual.ensures ∙ held_shown c.self.inside.events c.args.w _ _ (sym c.in_err-held.was ∙ c.empty.ensures.answer) refl)
 
-pub returns-in_default-clause-state : goal.returns-in_default-clause-state
-returns-in_default-clause-state c = search rules
+pub returns-in_err-held-clause-state : goal.returns-in_err-held-clause-state
+returns-in_err-held-clause-state c = rw (← c.self.view_is) (ap shown c.empty.ensures.state ∙ emptied_shown c.self.inside.events c.args.w)
 
-pub returns-in_default-clause-answer_since : goal.returns-in_default-clause-answer_since
-returns-in_default-clause-answer_since c = λ h st. returns-in_default-clause-answer c ∙ emptied_since c.args.self.now c.args.w h st
+pub returns-in_err-held-clause-answer_since : goal.returns-in_err-held-clause-answer_since
+returns-in_err-held-clause-answer_since c = λ h st. returns-in_err-held-clause-answer c ∙ emptied_since c.args.self.now c.args.w h st
 
-pub returns-in_default-clause-stands : goal.returns-in_default-clause-stands
-returns-in_default-clause-stands c = λ h st. StandsFor-empty c.args.self.now c.args.w _ _ h st (returns-in_default-clause-answer c) (returns-in_default-clause-state c)
-
-pub returns-in_err-request-clause-answer : goal.returns-in_err-request-clause-answer
-returns-in_err-request-clause-answer c = search rules
-
-pub returns-in_err-request-clause-state : goal.returns-in_err-request-clause-state
-returns-in_err-request-clause-state c = search rules
-
-pub returns-in_err-request-clause-answer_since : goal.returns-in_err-request-clause-answer_since
-returns-in_err-request-clause-answer_since c = λ h st. returns-in_err-request-clause-answer c ∙ emptied_since c.args.self.now c.args.w h st
-
-pub returns-in_err-request-clause-stands : goal.returns-in_err-request-clause-stands
-returns-in_err-request-clause-stands c = λ h st. StandsFor-empty c.args.self.now c.args.w _ _ h st (returns-in_err-request-clause-answer c) (returns-in_err-request-clause-state c)
+pub returns-in_err-held-clause-stands : goal.returns-in_err-held-clause-stands
+returns-in_err-held-clause-stands c = λ h st. StandsFor-empty c.args.self.now c.args.w _ _ h st (returns-in_err-held-clause-answer c) (returns-in_err-held-clause-state c)
 
 pub returns-clause-answer : goal.returns-clause-answer
-returns-clause-answer c = search rules
+returns-clause-answer c = rw (← c.self.view_is) (held_shown c.self.inside.events c.args.w _ _ (sym c.in_ok-held.was ∙ c.empty.ensures.answer) refl)
 
 pub returns-clause-state : goal.returns-clause-state
-returns-clause-state c = search rules
+returns-clause-state c = rw (← c.self.view_is) (ap shown c.empty.ensures.state ∙ emptied_shown c.self.inside.events c.args.w)
 
 pub returns-clause-answer_since : goal.returns-clause-answer_since
 returns-clause-answer_since c = λ h st. returns-clause-answer c ∙ emptied_since c.args.self.now c.args.w h st

@@ -1,28 +1,18 @@
-use Rattle.std.proofs.Common.{rules, ◌∙◌, subst}
-use Rattle.iscsi_window.specs.Received.{IsSound}
+use Rattle.std.proofs.Common.{◌∙◌, ap, sym, subst}
+use Rattle.iscsi_window.specs.Received.{Received, IsSound}
+use Rattle.iscsi_window.specs.Windows.{shown}
 use Rattle.iscsi_window.proofs.SinceLemmas.{offered_since, StandsFor-offer}
+use Rattle.iscsi_window.proofs.ShownLemmas.{offer_shown, offered_shown, sound_shown}
 use Rattle.iscsi_window.proofs.window.Window.offer.Goals as goal
 
-pub returns-in_default-clause-answer : goal.returns-in_default-clause-answer
-returns-in_default-clause-answer c = search rules
-
-pub returns-in_default-clause-state : goal.returns-in_default-clause-state
-returns-in_default-clause-state c = search rules
-
-pub returns-in_default-clause-answer_since : goal.returns-in_default-clause-answer_since
-returns-in_default-clause-answer_since c = λ h st. returns-in_default-clause-answer c ∙ offered_since c.args.self.now c.args.request.now h (subst IsSound c.self.view_is c.self.invariant.2) st
-
-pub returns-in_default-clause-stands : goal.returns-in_default-clause-stands
-returns-in_default-clause-stands c = λ h st. StandsFor-offer c.args.self.now c.args.request.now _ _ h st (returns-in_default-clause-answer c) (returns-in_default-clause-state c)
-
 pub returns-clause-answer : goal.returns-clause-answer
-returns-clause-answer c = search rules
+returns-clause-answer c = rw (← c.self.view_is) (c.offer.ensures.answer ∙ sym (offer_shown c.self.inside.events c.args.request.now))
 
 pub returns-clause-state : goal.returns-clause-state
-returns-clause-state c = search rules
+returns-clause-state c = rw (← c.self.view_is) (ap shown c.offer.ensures.state ∙ offered_shown c.self.inside.events c.args.request.now 0)
 
 pub returns-clause-answer_since : goal.returns-clause-answer_since
-returns-clause-answer_since c = λ h st. returns-clause-answer c ∙ offered_since c.args.self.now c.args.request.now h (subst IsSound c.self.view_is c.self.invariant.2) st
+returns-clause-answer_since c = λ h st. returns-clause-answer c ∙ offered_since c.args.self.now c.args.request.now h (subst (λ (s : Received). IsSound s) c.self.view_is (sound_shown c.self.inside.events c.offer.ensures.sound)) st
 
 pub returns-clause-stands : goal.returns-clause-stands
 returns-clause-stands c = λ h st. StandsFor-offer c.args.self.now c.args.request.now _ _ h st (returns-clause-answer c) (returns-clause-state c)
