@@ -174,7 +174,7 @@ static void test_memory(void) {
 
 /* What an opening asks for, by docs/USING.md. */
 static size_t formula(const cundarrix_options *options, size_t connections) {
-    return 71724 + (size_t)5556 * options->window + (size_t)(160 + 48 * options->depth) * options->units
+    return 71668 + (size_t)5574 * options->window + (size_t)(160 + 48 * options->depth) * options->units
         + (59626 + (size_t)462 * options->own + (size_t)328 * options->unwritten) * connections;
 }
 
