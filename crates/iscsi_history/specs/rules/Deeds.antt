@@ -1,4 +1,5 @@
--- What a request does that executes: the first case of its table that fits, by what is found (RFC 7143, RFC 7144, SAM-5).
+-- What a request does that executes, in one table: the first case that fits, by what is found (RFC 7143, RFC 7144, SAM-5). Its
+-- marks are those of Execution, Management and Logout (`deeds_are`). A session decides by it.
 use Rattle.std.specs.Prelude.{ℕ, ◌+◌, ◌==◌, ◌&&◌, not, Bool, true, false, nat_lt, nat_le, List, [], ◌∷◌, ◌++◌, Option, Some, None, option_map, is_some, if◌then◌else◌}
 use Rattle.std.specs.List.{list_any}
 use Rattle.iscsi_wire.specs.declared.reply.Reply.{Reply}

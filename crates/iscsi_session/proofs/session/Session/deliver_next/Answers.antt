@@ -12,7 +12,7 @@ use Rattle.iscsi_session.specs.private.Invariant.{Inner, IsSessionSound}
 use Rattle.iscsi_session.specs.private.Turning.{with_executed, executed_effects, with_advanced, turned_if, turn_effects}
 use Rattle.iscsi_history.proofs.BoolLemmas.{and_first, not_true}
 use Rattle.iscsi_session.proofs.WindowLemmas.{Advanced, advanced_at, length-passed}
-use Rattle.iscsi_session.proofs.ManageLemmas.{placed_executed, waiting_executed}
+use Rattle.iscsi_session.proofs.PaceLemmas.{executed_stays, executed_counted}
 use Rattle.iscsi_session.proofs.SoundLemmas.{window_sound, advanced_sound, arrivals_sound}
 use Rattle.iscsi_session.proofs.session.Session.deliver_next.Goals as goal
 use Rattle.iscsi_session.proofs.session.Session.deliver_next.Goals.{In-Some, In-Some-request}
@@ -49,12 +49,12 @@ invariant_of-self-in_default-request c =
     let n = turned (goal.at.invariant_of-self-in_default-request c).In-Some in
     turned_sound c.self.invariant n c.advance.ensures.state (let request : c.in-Some.turned.request ≡ None = search rules in omega (arith, ap {B = ℕ} (λ (q : Option Request). cond (is_held (Some q)) 1 0) request)) c.pass-event.ensures.events (omega (arith, c.pass-event.ensures.capacity))
 
-pub deliver-requires-clause-numbered : goal.deliver-requires-clause-numbered
-deliver-requires-clause-numbered c = numbered (goal.at.deliver-requires-clause-numbered c).In-Some-request
+pub deliver_apart-requires-clause-numbered : goal.deliver_apart-requires-clause-numbered
+deliver_apart-requires-clause-numbered c = numbered (goal.at.deliver_apart-requires-clause-numbered c).In-Some-request
 
-pub deliver-requires-clause-counted : goal.deliver-requires-clause-counted
-deliver-requires-clause-counted c =
-    let n = held (goal.at.deliver-requires-clause-counted c).In-Some-request in
+pub deliver_apart-requires-clause-counted : goal.deliver_apart-requires-clause-counted
+deliver_apart-requires-clause-counted c =
+    let n = held (goal.at.deliver_apart-requires-clause-counted c).In-Some-request in
     omega (arith, c.self.invariant.window.entered, ap (λ w. count_by is_some w.places) c.advance.ensures.state, n.counted)
 
 pub returns-in-Some-request-clause-session : goal.returns-in-Some-request-clause-session
@@ -62,7 +62,7 @@ returns-in-Some-request-clause-session c =
     let n = held (goal.at.returns-in-Some-request-clause-session c).In-Some-request in
     let s : Core = the_view c.self.inside in
     let r : Request = c.in-Some-request.request in
-    c.deliver.ensures.session ∙ ap (λ u. with_executed u r c.pass-event.result) (advanced_core s _ _ c.advance.ensures.state c.pass-event.ensures.events) ∙ ap (with_executed (with_advanced s) r) c.pass-event.ensures.event
+    c.deliver_apart.ensures.session ∙ ap (λ u. with_executed u r c.pass-event.result) (advanced_core s _ _ c.advance.ensures.state c.pass-event.ensures.events) ∙ ap (with_executed (with_advanced s) r) c.pass-event.ensures.event
     ∙ sym (ap (turned_if s) n.here) ∙ ap (λ (u : Core). turned_if u (at_place u.window 0)) c.self.view_is
 
 pub returns-in-Some-request-clause-effects : goal.returns-in-Some-request-clause-effects
@@ -70,31 +70,31 @@ returns-in-Some-request-clause-effects c =
     let n = held (goal.at.returns-in-Some-request-clause-effects c).In-Some-request in
     let s : Core = the_view c.self.inside in
     let r : Request = c.in-Some-request.request in
-    c.deliver.ensures.effects ∙ ap (λ es. c.args.out.now.items ++ es)
+    c.deliver_apart.ensures.effects ∙ ap (λ es. c.args.out.now.items ++ es)
     (ap (λ u. Deliver r ∷ executed_effects u r c.pass-event.result) (advanced_core s _ _ c.advance.ensures.state c.pass-event.ensures.events) ∙ ap (λ event. Deliver r ∷ executed_effects (with_advanced s) r event) c.pass-event.ensures.event
     ∙ sym (ap (turn_effects s) n.here) ∙ ap (λ (u : Core). turn_effects u (at_place u.window 0)) c.self.view_is)
 
 pub returns-in-Some-request-clause-spent : goal.returns-in-Some-request-clause-spent
 returns-in-Some-request-clause-spent c =
     let n = held (goal.at.returns-in-Some-request-clause-spent c).In-Some-request in
-    omega (arith, ap (λ w. count_by is_held w.places) c.advance.ensures.state, n.held, c.deliver.ensures.spent, ap (λ (u : Core). count_by is_held u.window.places) c.self.view_is, ap (λ (u : Core). owed u.live u.sets) c.self.view_is)
+    omega (arith, ap (λ w. count_by is_held w.places) c.advance.ensures.state, n.held, c.deliver_apart.ensures.spent, ap (λ (u : Core). count_by is_held u.window.places) c.self.view_is, ap (λ (u : Core). owed u.live u.sets) c.self.view_is)
 
-pub deliver-requires-clause-room : goal.deliver-requires-clause-room
-deliver-requires-clause-room c =
-    let n = held (goal.at.deliver-requires-clause-room c).In-Some-request in
+pub deliver_apart-requires-clause-room : goal.deliver_apart-requires-clause-room
+deliver_apart-requires-clause-room c =
+    let n = held (goal.at.deliver_apart-requires-clause-room c).In-Some-request in
     omega (arith, ap (λ w. count_by is_held w.places) c.advance.ensures.state, n.held, c.requires.room, ap (λ (u : Core). count_by is_held u.window.places) c.self.view_is, ap (λ (u : Core). owed u.live u.sets) c.self.view_is)
 
 pub returns-in-Some-request-clause-fewer : goal.returns-in-Some-request-clause-fewer
 returns-in-Some-request-clause-fewer c = λ said.
     let path = (goal.at.returns-in-Some-request-clause-fewer c).In-Some-request in
     let t : Core = record (the_view c.self.inside) { window = c.advance.new.self; arrived = c.pass-event.new.arrived.items } in
-    let g = placed_executed t c.in-Some-request.request c.pass-event.result (numbered path) in
-    omega (arith, ap (λ (u : Core). count_by is_some u.window.places) c.deliver.ensures.session, g.counted, ap (λ w. count_by is_some w.places) c.advance.ensures.state, (held path).counted, ap (λ (u : Core). count_by is_some u.window.places) c.self.view_is)
+    let counted = executed_counted t c.in-Some-request.request c.pass-event.result (numbered path) in
+    omega (arith, ap (λ (u : Core). count_by is_some u.window.places) c.deliver_apart.ensures.session, counted, ap (λ w. count_by is_some w.places) c.advance.ensures.state, (held path).counted, ap (λ (u : Core). count_by is_some u.window.places) c.self.view_is)
 
 pub returns-in-Some-request-clause-waiting : goal.returns-in-Some-request-clause-waiting
 returns-in-Some-request-clause-waiting c =
     let t : Core = record (the_view c.self.inside) { window = c.advance.new.self; arrived = c.pass-event.new.arrived.items } in
-    omega (arith, ap (λ (u : Core). length u.waiting) c.deliver.ensures.session, waiting_executed t c.in-Some-request.request c.pass-event.result, ap (λ (u : Core). length u.waiting) c.self.view_is)
+    omega (arith, ap (λ (u : Core). length u.waiting) c.deliver_apart.ensures.session, (executed_stays t c.in-Some-request.request c.pass-event.result).waiting, ap (λ (u : Core). length u.waiting) c.self.view_is)
 
 pub returns-in_default-request-clause-spent : goal.returns-in_default-request-clause-spent
 returns-in_default-request-clause-spent c =
