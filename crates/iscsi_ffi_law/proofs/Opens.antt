@@ -16,17 +16,16 @@ use Rattle.iscsi_wire.specs.Serial.{lift, number_of_first}
 use Rattle.iscsi_history.specs.declared.deed.Deed.{Deed}
 use Rattle.iscsi_history.specs.declared.deed.Deed.TheVariants.{Void, Empty, Abort, AbortEarlier, AbortAll, CloseConn, CloseSession}
 use Rattle.iscsi_history.specs.rules.Execution.{exp_of, reply_on}
-use Rattle.iscsi_history.specs.rules.Deeds.{facts_of, if_found, deed_marks}
-use Rattle.iscsi_history.specs.rules.Items.{marks_after}
+use Rattle.iscsi_history.specs.rules.Deeds.{facts_of, if_found, deed_marks, marks_after, function_marks}
 use Rattle.iscsi_history.specs.rules.Logout.{close_conn, end_session, is_last_open, parting, taken_out, all_held, live_of_units}
-use Rattle.iscsi_history.specs.rules.Management.{abort_all, answer, function_marks, held_command, is_before, live_with_tag}
+use Rattle.iscsi_history.specs.rules.Management.{abort_all, answer, held_command, is_before, live_with_tag}
 use Rattle.iscsi_history.specs.rules.Settings.{Setting, is_known}
 use Rattle.iscsi_history.specs.rules.Trace.{Arrival, ClosesConn, ClosesSession, Command, Empties, Enters, Leaves, Mark, Sends, Trace, Voids, held, held_among, is_closed, is_received, live_in}
 use Rattle.iscsi_history.proofs.AbortMarks.{none_viewed}
 use Rattle.iscsi_history.proofs.Forms.{Deeds, if_some, marks_done}
 use Rattle.iscsi_history.proofs.NumberingLemmas.{passed, unseen}
 use Rattle.iscsi_history.proofs.BoolLemmas.{and_parts}
-use Rattle.iscsi_history.proofs.DeedTable.{Befits, befits_function, befits_deed, says_function, deeds_are}
+use Rattle.iscsi_history.proofs.DeedTable.{Befits, befits_function, befits_deed}
 use Rattle.iscsi_ffi_law.specs.Arrived.{emptying}
 
 -- nothing is closed by it, and no held request is taken out
@@ -161,10 +160,10 @@ module _ (o : Setting) (t : Trace) (a : Arrival) where
   opens_deed _ b = IsBare refl
 
   pub opens_function : Opens o a (function_marks o t a)
-  opens_function = subst (Opens o a) (sym (says_function o t a)) (opens_deed _ (befits_function (facts_of o t a) a.request))
+  opens_function = opens_deed _ (befits_function (facts_of o t a) a.request)
 
   pub opens_after : Opens o a (marks_after o t a)
-  opens_after = subst (Opens o a) (sym (deeds_are o t a)) (opens_deed _ (befits_deed (facts_of o t a) a.request))
+  opens_after = opens_deed _ (befits_deed (facts_of o t a) a.request)
 
 pub opens_reply : (o : Setting) (a : Arrival) (reply : Reply) → Opens o a (reply_on a reply)
 opens_reply o a reply = IsBare refl

@@ -1,35 +1,17 @@
--- What a request does by the table is what it does by the rules.
-use Rattle.std.proofs.Common.{◌≡◌, ℕ, ◌<◌, ◌==◌, ◌&&◌, ◌||◌, not, cond, Bool, true, false, nat_lt, List, [], ◌∷◌, ◌++◌, filter, Option, Some, None, option_map, is_some, refl, ap, sym, subst, ◌∙◌, arith}
-use Rattle.std.specs.List.{list_any}
+-- What is found where a request does what the table says, and what holds of each deed of it.
+use Rattle.std.proofs.Common.{◌≡◌, ℕ, ◌<◌, ◌==◌, ◌||◌, not, cond, Bool, true, false, nat_lt, Option, Some, None, is_some, refl, ap, sym, subst, ◌∙◌, arith}
 use Rattle.std.proofs.lemmas.Bool.{false≢true, cond_both, eqb-true}
 use Rattle.std.proofs.lemmas.Bool.Decides.{nat_tests}
 use Rattle.iscsi_wire.specs.declared.request.Request.{Request}
-use Rattle.iscsi_wire.specs.declared.reply.Reply.TheVariants.{Task, Nop, Reject as RejectReply}
-use Rattle.iscsi_wire.specs.Serial.{wire, lift}
-use Rattle.iscsi_wire.specs.Fields.{header_of, opcode, attr_code, function, itt, rtt, cid, lun, ref_cmd_sn, unit_of}
+use Rattle.iscsi_wire.specs.Fields.{opcode, attr_code, function, itt, cid, lun, unit_of}
 use Rattle.iscsi_history.specs.declared.deed.Answer.{Answer}
 use Rattle.iscsi_history.specs.declared.deed.Answer.TheVariants.{Reject, Pong, NoUnit, Full, Respond, LogOut}
 use Rattle.iscsi_history.specs.declared.deed.Deed.{Deed}
 use Rattle.iscsi_history.specs.declared.deed.Deed.TheVariants.{Nothing, Wait, Reply as Replies, Enter, Void, Empty, Abort, AbortEarlier, AbortAll, CloseConn, CloseSession}
-use Rattle.iscsi_history.specs.declared.verdict.Verdict.{Verdict}
-use Rattle.iscsi_history.specs.declared.verdict.Verdict.TheVariants.{Nothing as None', Answer as Answered}
-use Rattle.iscsi_history.specs.rules.Settings.{Setting}
-use Rattle.iscsi_history.specs.rules.Trace.{Arrival, Command, Mark, Voids, Empties, Leaves, Trace, first_of, is_received, live_in}
-use Rattle.iscsi_history.specs.rules.Execution.{exp_of, NO_TAG, unit_named, is_tag_live, is_crowded, is_full, place_named, scsi_to, verdict_of, reply_on, marks_of}
-use Rattle.iscsi_history.specs.rules.Management.{is_supported, may_wait, refusal_to, answer, live_with_tag, held_command, abort_missing, abort_task, query, function_marks, management_marks}
-use Rattle.iscsi_history.specs.rules.Logout.{is_open, logout_marks}
-use Rattle.iscsi_history.specs.rules.Items.{marks_after}
+use Rattle.iscsi_history.specs.rules.Execution.{NO_TAG, unit_named}
+use Rattle.iscsi_history.specs.rules.Management.{is_supported, refusal}
+use Rattle.iscsi_history.specs.rules.Deeds.{Facts, command_deed, abort_deed, query_deed, unit_deed, function_deed, logout_deed, deed_of}
 use Rattle.iscsi_history.specs.promises.Aborts.{is_set_abort}
-use Rattle.iscsi_history.proofs.BoolLemmas.{and_second}
-use Rattle.iscsi_history.specs.rules.Deeds.{Facts, command_deed, abort_deed, query_deed, unit_deed, function_deed, refusal, logout_deed, nop_deed, deed_of, waiting_deed, arrival_deed, of_unit, facts_of, reply_of, deed_marks}
-
--- one of a list passes just where there is a first one that does
-any_first : {A : Type 0} (p : A → Bool) (xs : List A) → list_any p xs ≡ is_some (first_of (filter p xs))
-any_first p [] = refl
-any_first p (x ∷ xs) = elim (p x) as (λ b. (b || list_any p xs) ≡ is_some (first_of (cond b (x ∷ filter p xs) (filter p xs)))) [
-  | true ↦ refl
-  | false ↦ any_first p xs
-]
 
 -- the unit that a request names is one of the session's
 pub named_below : (units : ℕ) (r : Request) (u : ℕ) → unit_named units r ≡ Some u → u < units
@@ -51,15 +33,9 @@ pub record BefitsEnter (f : Facts) (unit : ℕ) : Type 0 where
   pub uncrowded : f.is_crowded ≡ false
   pub not_full : f.is_full ≡ false
 
--- a function that may wait
-pub record BefitsWait (f : Facts) (r : Request) : Type 0 where
-  pub may : may_wait r ≡ true
-  pub ahead : f.is_ahead ≡ true
-  pub few : f.is_awaited ≡ false
-
 -- Function complete isn't the answer of a function over a whole set that takes nothing out
 abbrev pub Befits : Facts → Request → Deed → Type 0
-Befits f r Wait = BefitsWait f r
+Befits f r Wait = ⊥
 Befits f r (Replies x) = is_set_abort r ≡ true → x ≡ Respond 0 → ⊥
 Befits f r (Enter unit) = BefitsEnter f unit
 Befits f r Void = ((function r == 1) ≡ true) × (f.is_missing ≡ true)
@@ -110,7 +86,7 @@ module _ (f : Facts) (r : Request) where
           cond_both (function r == 10) _ _ (Befits f r) (λ is. says_query f.has_commands 10 is refl) (λ is. (named, other)))))
 
   -- a refusal isn't Function complete
-  pub refused_otherwise : (x : Answer) → refusal f r ≡ Some x → x ≡ Respond 0 → ⊥
+  pub refused_otherwise : (x : Answer) → refusal f.level f.unit r ≡ Some x → x ≡ Respond 0 → ⊥
   refused_otherwise x is = by_tests (itt r == NO_TAG) (function r == 8) (not (is_supported f.level (function r))) f.unit is
     where
       by_tests : (b c d : Bool) (y : Option ℕ) → cond b (Some (Reject 9)) (cond c (Some (Respond 4)) (cond d (Some (Respond 5)) (elim y [ Some u ↦ None | None ↦ Some (Respond 2) ]))) ≡ Some x → x ≡ Respond 0 → ⊥
@@ -121,7 +97,7 @@ module _ (f : Facts) (r : Request) where
       by_tests false false false None h e = cc
 
   -- nor a Logout Response
-  pub refused_plainly : (x : Answer) → refusal f r ≡ Some x → is_parting x ≡ false
+  pub refused_plainly : (x : Answer) → refusal f.level f.unit r ≡ Some x → is_parting x ≡ false
   refused_plainly x is = by_tests (itt r == NO_TAG) (function r == 8) (not (is_supported f.level (function r))) f.unit is
     where
       fits : (y : Answer) → is_parting y ≡ false → Some y ≡ Some x → is_parting x ≡ false
@@ -134,10 +110,10 @@ module _ (f : Facts) (r : Request) where
       by_tests false false false (Some u) h = absurd cc
       by_tests false false false None h = fits (Respond 2) refl h
 
-  unless_refused : (d : Deed) → Befits f r d → Befits f r (elim (refusal f r) [ Some x ↦ Replies x | None ↦ d ])
-  unless_refused d befits = by_refusal (refusal f r) refl
+  unless_refused : (d : Deed) → Befits f r d → Befits f r (elim (refusal f.level f.unit r) [ Some x ↦ Replies x | None ↦ d ])
+  unless_refused d befits = by_refusal (refusal f.level f.unit r) refl
     where
-      by_refusal : (x : Option Answer) → refusal f r ≡ x → Befits f r (elim x [ Some y ↦ Replies y | None ↦ d ])
+      by_refusal : (x : Option Answer) → refusal f.level f.unit r ≡ x → Befits f r (elim x [ Some y ↦ Replies y | None ↦ d ])
       by_refusal (Some y) is = says_other y (refused_otherwise y is)
       by_refusal None is = befits
 
@@ -170,19 +146,6 @@ module _ (f : Facts) (r : Request) where
           cond_both (function r == 1) _ _ (Befits f r) (λ is. cond_both f.is_open _ _ (Befits f r) (λ is. (refl, is)) (λ is. says_other (LogOut 1) (λ e. cc))) (λ is.
           cond_both (function r == 2) _ _ (Befits f r) (λ is. says_other (LogOut 2) (λ e. cc)) (λ is. says_other (Reject 9) (λ e. cc)))))
 
-  pub befits_arrival : Befits f r (arrival_deed f r)
-  befits_arrival = cond_both (opcode r == 0x02 && may_wait r) _ _ (Befits f r) (λ is. unless_refused (waiting_deed f r) (waiting (and_second (opcode r == 0x02) (may_wait r) is))) (λ is. befits_deed)
-    where
-      not_false : (b : Bool) → not b ≡ false → b ≡ true
-      not_false true is = refl
-      not_false false is = absurd cc
-
-      waiting : may_wait r ≡ true → Befits f r (waiting_deed f r)
-      waiting may =
-          cond_both f.is_far _ _ (Befits f r) (λ is. says_other (Respond 255) (λ e. cc)) (λ is.
-          cond_both (not f.is_ahead) _ _ (Befits f r) (λ is. befits_function) (λ near.
-          cond_both f.is_awaited _ _ (Befits f r) (λ is. says_other (Reject 6) (λ e. cc)) (λ few. record { may = may; ahead = not_false f.is_ahead near; few = few })))
-
 -- ---- what holds of each deed of a table
 
 -- those of functions, which are answered by responses
@@ -210,7 +173,7 @@ through_function P f r nothing reply void empty abort earlier all = with_answers
 
 pub through_deed : (P : Deed → Type 0) (f : Facts) (r : Request) → P (function_deed f r) → P Nothing → ((x : Answer) → P (Replies x)) → ((unit : ℕ) → P (Enter unit)) → ((closing : ℕ) → P (CloseConn closing)) → P CloseSession → P (deed_of f r)
 through_deed P f r functions nothing reply enter close end =
-    cond_both (opcode r == 0x02) _ _ P (λ is. by_refusal (refusal f r)) (λ is.
+    cond_both (opcode r == 0x02) _ _ P (λ is. by_refusal (refusal f.level f.unit r)) (λ is.
     cond_both (opcode r == 0x06) _ _ P (λ is. logout) (λ is.
     cond_both (opcode r == 0x00) _ _ P (λ is. cond_both (itt r == NO_TAG) _ _ P (λ is. nothing) (λ is. reply Pong)) (λ is.
     cond_both (opcode r == 0x04) _ _ P (λ is. reply _) (λ is. command))))
@@ -238,135 +201,4 @@ through_deed P f r functions nothing reply enter close end =
 
 -- what executes doesn't wait
 pub never_waits : (f : Facts) (r : Request) → deed_of f r ≡ Wait → ⊥
-never_waits f r =
-    through_deed (λ d. d ≡ Wait → ⊥) f r (through_function (λ d. d ≡ Wait → ⊥) f r (λ e. cc) (λ x e. cc) (λ e. cc) (λ u n e. cc) (λ u n e. cc) (λ u e. cc) (λ u e. cc)) (λ e. cc) (λ x e. cc) (λ u e. cc) (λ u e. cc) (λ e. cc)
-
--- ---- the marks
-
--- how a function is refused
-pub refusal_is : (f : Facts) (level units : ℕ) (r : Request) → f.level ≡ level → f.unit ≡ unit_named units r → refusal_to level units r ≡ option_map (reply_of r) (refusal f r)
-refusal_is f level units r same unit = rw (same, unit) (by_tests (itt r == NO_TAG) (function r == 8) (not (is_supported level (function r))) (unit_named units r))
-  where
-    by_tests : (b c d : Bool) (x : Option ℕ)
-        → cond b (Some (RejectReply 9 (header_of r))) (cond c (Some (Task (itt r) 4)) (cond d (Some (Task (itt r) 5)) (elim x [ Some u ↦ None | None ↦ Some (Task (itt r) 2) ])))
-        ≡ option_map (reply_of r) (cond b (Some (Reject 9)) (cond c (Some (Respond 4)) (cond d (Some (Respond 5)) (elim x [ Some u ↦ None | None ↦ Some (Respond 2) ]))))
-    by_tests true c d x = refl
-    by_tests false true d x = refl
-    by_tests false false true x = refl
-    by_tests false false false (Some u) = refl
-    by_tests false false false None = refl
-
-module _ (o : Setting) (t : Trace) (a : Arrival) where
-  abbrev f : Facts
-  f = facts_of o t a
-
-  -- the marks are those of what it does
-  abbrev Says : List Mark → Deed → Type 0
-  Says ms d = ms ≡ deed_marks o t a d
-
-  either : (b : Bool) (d e : Deed) {ms ns : List Mark} → Says ms d → Says ns e → Says (cond b ms ns) (cond b d e)
-  either true d e p q = p
-  either false d e p q = q
-
-  says_missing : (b : Bool) → Says (cond b (cond (is_received t (lift (exp_of o t) (ref_cmd_sn a.request))) [] (Voids (lift (exp_of o t) (ref_cmd_sn a.request)) ∷ []) ++ answer a 0) (answer a 1)) (cond b Void (Replies (Respond 1)))
-  says_missing true = refl
-  says_missing false = refl
-
-  says_abort : (unit : ℕ) → unit_named o.units a.request ≡ Some unit → Says (abort_task o t a unit) (abort_deed f unit)
-  says_abort unit named = rw named (by_live (live_with_tag t (rtt a.request) unit) refl)
-    where
-      missing : Deed
-      missing = cond f.is_missing Void (Replies (Respond 1))
-
-      by_held : (x : Option Arrival) → held_command o t (rtt a.request) unit a.number ≡ x
-          → Says (elim x [ Some h ↦ Empties h ∷ answer a 0 | None ↦ abort_missing o t a (lift (exp_of o t) (ref_cmd_sn a.request)) ]) (elim (option_map (λ (h : Arrival). wire h.number) x) [ Some sn ↦ Empty unit sn | None ↦ missing ])
-      by_held (Some h) is = rw is
-      by_held None is = says_missing f.is_missing
-
-      by_live : (x : Option Command) → live_with_tag t (rtt a.request) unit ≡ x
-          → Says (elim x [ Some c ↦ Leaves c ∷ answer a 0 | None ↦ elim (held_command o t (rtt a.request) unit a.number) [ Some h ↦ Empties h ∷ answer a 0 | None ↦ abort_missing o t a (lift (exp_of o t) (ref_cmd_sn a.request)) ] ])
-          (elim (option_map (λ (c : Command). c.ticket) x) [ Some ticket ↦ Abort unit ticket | None ↦ elim (option_map (λ (h : Arrival). wire h.number) (held_command o t (rtt a.request) unit a.number)) [ Some sn ↦ Empty unit sn | None ↦ missing ] ])
-      by_live (Some c) is = rw is
-      by_live None is = by_held (held_command o t (rtt a.request) unit a.number) refl
-
-  there : (unit : ℕ) → list_any (λ (c : Command). itt c.arrival.request == rtt a.request) (live_in unit t) ≡ is_some (option_map (λ (c : Command). c.ticket) (live_with_tag t (rtt a.request) unit))
-  there unit = any_first (λ (c : Command). itt c.arrival.request == rtt a.request) (live_in unit t) ∙ mapped (live_with_tag t (rtt a.request) unit)
-    where
-      mapped : (x : Option Command) → is_some x ≡ is_some (option_map (λ (c : Command). c.ticket) x)
-      mapped None = refl
-      mapped (Some c) = refl
-
-  pub says_function : Says (function_marks o t a) (function_deed f a.request)
-  says_function = by_unit (unit_named o.units a.request) refl
-    where
-      by_unit : (x : Option ℕ) → unit_named o.units a.request ≡ x → Says (function_marks o t a) (function_deed f a.request)
-      by_unit None is = rw (is, function_marks)
-      by_unit (Some unit) is =
-          rw (is, function_marks)
-          (either (function a.request == 1) _ _ (rw is at (says_abort unit is))
-          (either (function a.request == 5) _ _ refl
-          (either (function a.request == 9) _ _ (ap (query a) (there unit))
-          (either (function a.request == 10) _ _ refl refl))))
-
-  says_management : Says (management_marks o t a) (elim (refusal f a.request) [ Some x ↦ Replies x | None ↦ function_deed f a.request ])
-  says_management = rw (refusal_is f o.level o.units a.request refl refl, management_marks) (by_refusal (refusal f a.request))
-    where
-      by_refusal : (x : Option Answer) → Says (elim (option_map (reply_of a.request) x) [ Some reply ↦ reply_on a reply | None ↦ function_marks o t a ]) (elim x [ Some y ↦ Replies y | None ↦ function_deed f a.request ])
-      by_refusal (Some y) = refl
-      by_refusal None = says_function
-
-  says_logout : Says (logout_marks o t a) (logout_deed f a.request)
-  says_logout =
-      either (itt a.request == NO_TAG) _ _ refl
-      (either (function a.request == 0) _ _ refl
-      (either (function a.request == 1) _ _ (either (is_open o t (cid a.request)) _ _ refl refl) (either (function a.request == 2) _ _ refl refl)))
-
-  says_command : Says (marks_of t a (scsi_to a.request (is_crowded t a.request) (place_named o t a.request))) (elim f.unit [
-    | Some unit ↦ cond f.is_crowded (Replies (Reject 6)) (cond f.is_full (Replies Full) (Enter unit))
-    | None ↦ Replies NoUnit
-  ])
-  says_command = by_unit (unit_named o.units a.request) refl
-    where
-      by_tests : (b c : Bool) (unit : ℕ) → Says (marks_of t a (scsi_to a.request b (Some (unit, c)))) (cond b (Replies (Reject 6)) (cond c (Replies Full) (Enter unit)))
-      by_tests true c unit = refl
-      by_tests false true unit = refl
-      by_tests false false unit = refl
-
-      by_unit : (x : Option ℕ) → unit_named o.units a.request ≡ x → Says (marks_of t a (scsi_to a.request (is_crowded t a.request) (place_named o t a.request))) (elim f.unit [
-        | Some unit ↦ cond f.is_crowded (Replies (Reject 6)) (cond f.is_full (Replies Full) (Enter unit))
-        | None ↦ Replies NoUnit
-      ])
-      by_unit None is = rw is
-      by_unit (Some unit) is =
-          let full : f.is_full ≡ is_full o t unit = ap (λ x. of_unit x false (λ u. is_full o t u)) is in
-          rw (is, full) (by_tests (is_crowded t a.request) (is_full o t unit) unit)
-
-  says_verdict : Says (marks_of t a (verdict_of o t a.request)) (cond (opcode a.request == 0x00) (nop_deed a.request) (cond (opcode a.request == 0x04) (Replies (Reject 5)) (command_deed f a.request)))
-  says_verdict = by_tests (opcode a.request == 0x00) (itt a.request == NO_TAG) (opcode a.request == 0x04) (nat_lt 3 (attr_code a.request)) (is_tag_live t (itt a.request))
-    where
-      to : Verdict
-      to = scsi_to a.request (is_crowded t a.request) (place_named o t a.request)
-
-      by_unit : Deed
-      by_unit = elim f.unit [
-        | Some unit ↦ cond f.is_crowded (Replies (Reject 6)) (cond f.is_full (Replies Full) (Enter unit))
-        | None ↦ Replies NoUnit
-      ]
-
-      rejects : ℕ → Verdict
-      rejects reason = Answered (RejectReply reason (header_of a.request))
-
-      by_tests : (nop untagged text attr used : Bool)
-          → Says (marks_of t a (cond nop (cond untagged None' (Answered (Nop (itt a.request)))) (cond text (rejects 5) (cond untagged (rejects 9) (cond attr (rejects 9) (cond used (rejects 7) to))))))
-          (cond nop (cond untagged Nothing (Replies Pong)) (cond text (Replies (Reject 5)) (cond untagged (Replies (Reject 9)) (cond attr (Replies (Reject 9)) (cond used (Replies (Reject 7)) by_unit)))))
-      by_tests true true text attr used = refl
-      by_tests true false text attr used = refl
-      by_tests false untagged true attr used = refl
-      by_tests false true false attr used = refl
-      by_tests false false false true used = refl
-      by_tests false false false false true = refl
-      by_tests false false false false false = says_command
-
-  -- what a request does that executes
-  pub deeds_are : Says (marks_after o t a) (deed_of f a.request)
-  deeds_are = either (opcode a.request == 0x02) _ _ says_management (either (opcode a.request == 0x06) _ _ says_logout says_verdict)
+never_waits f r is = subst (Befits f r) is (befits_deed f r)

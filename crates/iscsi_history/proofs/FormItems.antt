@@ -16,11 +16,10 @@ use Rattle.iscsi_history.specs.declared.deed.Deed.{Deed}
 use Rattle.iscsi_history.specs.declared.deed.Deed.TheVariants.{Nothing, Wait, Reply as Replies, Enter, Void, Empty, Abort, AbortEarlier, AbortAll, CloseConn, CloseSession}
 use Rattle.iscsi_history.specs.rules.Settings.{Setting, is_known}
 use Rattle.iscsi_history.specs.rules.Trace.{Arrival, Command, Mark, Delivers, Executes, Voids, Empties, Leaves, Enters, Trace, first_of, received, is_received, held, held_among, entered, live, live_in, is_closed}
-use Rattle.iscsi_history.specs.rules.Execution.{attr_of, exp_of, max_of, unit_named, reply_on, next_command}
-use Rattle.iscsi_history.specs.rules.Management.{refusal_of_function, answer, held_requests, held_command, live_with_tag, is_before, abort_all, function_marks}
+use Rattle.iscsi_history.specs.rules.Execution.{attr_of, exp_of, max_of, unit_named, reply_on, next_command, reply_of}
+use Rattle.iscsi_history.specs.rules.Management.{refusal_of_function, answer, held_requests, held_command, live_with_tag, is_before, abort_all, refusal}
 use Rattle.iscsi_history.specs.rules.Logout.{is_open, is_last_open, live_of_units, all_held, end_session, close_conn}
-use Rattle.iscsi_history.specs.rules.Deeds.{Facts, function_deed, refusal, deed_of, facts_of, reply_of, if_found, deed_marks}
-use Rattle.iscsi_history.specs.rules.Items.{marks_after}
+use Rattle.iscsi_history.specs.rules.Deeds.{Facts, function_deed, deed_of, facts_of, if_found, deed_marks, marks_after, function_marks}
 use Rattle.iscsi_history.specs.promises.Aborts.{is_set_abort, is_abort, is_complete}
 use Rattle.iscsi_history.specs.promises.Answers.{Answers}
 use Rattle.iscsi_history.proofs.BoolLemmas.{and_first, and_second, and_parts, not_true, or_false}
@@ -28,7 +27,7 @@ use Rattle.iscsi_history.proofs.ListLemmas.{fewer_counted}
 use Rattle.iscsi_history.proofs.ElementLemmas.{In, in-filter, first-in}
 use Rattle.iscsi_history.proofs.TraceLemmas.{live-quiet}
 use Rattle.iscsi_history.proofs.HeldLemmas.{held-number}
-use Rattle.iscsi_history.proofs.DeedTable.{named_below, Befits, unset, befits_function, befits_deed, refused_otherwise, through_function, refusal_is, says_function, deeds_are}
+use Rattle.iscsi_history.proofs.DeedTable.{named_below, Befits, unset, befits_function, befits_deed, refused_otherwise, through_function}
 use Rattle.iscsi_history.proofs.Forms.{Start, AtTurn, AtArrival, AfterWaiting, Deeds, idle, marks_done, begun, Each, is_closing, is_completed_by, Sweeps, IsDone}
 
 -- ---- the mark by which a request executes changes nothing else
@@ -393,7 +392,7 @@ module _ (o : Setting) (t : Trace) (start : Start) (a : Arrival) where
   function_does =
       let f : Facts = facts_of o t' a in
       let x : DoesDeed (function_deed f a.request) = does_deed (function_deed f a.request) (befits_function f a.request) in
-      subst (DoesFunction o t start a) (sym (says_function o t' a)) (record { does = x.does; stays = x.stays (never_closes f a.request); sweeps = x.sweeps })
+      record { does = x.does; stays = x.stays (never_closes f a.request); sweeps = x.sweeps }
 
   pub does_function : Does o t start a (function_marks o (begun start a t) a)
   does_function = function_does.does
@@ -404,11 +403,11 @@ module _ (o : Setting) (t : Trace) (start : Start) (a : Arrival) where
   any_does =
       let f : Facts = facts_of o t' a in
       let x : DoesDeed (deed_of f a.request) = does_deed (deed_of f a.request) (befits_deed f a.request) in
-      subst (DoesAny o t start a) (sym (deeds_are o t' a)) (record { does = x.does; accepted = λ aborts h. unrefused x aborts h (refusal f a.request) refl; sweeps = λ aborts set h. x.sweeps set h })
+      record { does = x.does; accepted = λ aborts h. unrefused x aborts h (refusal f.level f.unit a.request) refl; sweeps = λ aborts set h. x.sweeps set h }
     where
       -- a function that is completed isn't refused
-      unrefused : (x : DoesDeed (deed_of (facts_of o t' a) a.request)) → is_abort a.request ≡ true → is_completed_by a x.does.deeds ≡ true → (y : Option Answer) → refusal (facts_of o t' a) a.request ≡ y → refusal_of_function o a.request ≡ None
-      unrefused x aborts h None is = refusal_is (facts_of o t' a) o.level o.units a.request refl refl ∙ ap (option_map (reply_of a.request)) is
+      unrefused : (x : DoesDeed (deed_of (facts_of o t' a) a.request)) → is_abort a.request ≡ true → is_completed_by a x.does.deeds ≡ true → (y : Option Answer) → refusal o.level (unit_named o.units a.request) a.request ≡ y → refusal_of_function o a.request ≡ None
+      unrefused x aborts h None is = ap (option_map (reply_of a.request)) is
       unrefused x aborts h (Some y) is =
           let one : (opcode a.request == 0x02) ≡ true = and_first (opcode a.request == 0x02) (function a.request == 1 || is_set_abort a.request) aborts in
           let refused : deed_of (facts_of o t' a) a.request ≡ Replies y = rw (one, is) in

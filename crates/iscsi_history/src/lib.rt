@@ -7,11 +7,9 @@ mod effect;
 mod entry;
 mod event;
 mod kind;
-mod verdict;
 
 pub use deed::{Answer, Deed};
 pub use effect::{Effect, Numbers, Why};
 pub use entry::{Effects, Entry, Log};
 pub use event::Event;
 pub use kind::Kind;
-pub use verdict::Verdict;

@@ -19,15 +19,15 @@ use Rattle.iscsi_history.specs.declared.deed.Answer.TheVariants.{Reject, Pong, L
 use Rattle.iscsi_history.specs.declared.deed.Deed.TheVariants.{Reply as Replies, Enter, Void}
 use Rattle.iscsi_history.specs.rules.Settings.{Setting}
 use Rattle.iscsi_history.specs.rules.Trace.{Arrival, Command, Mark, Admits, Delivers, Executes, Voids, Empties, Waits, Leaves, ClosesConn, ClosesSession, Ignores, Trace, after_items, first_of, is_received, held, waiting, live_in, is_closed}
-use Rattle.iscsi_history.specs.rules.Execution.{exp_of, max_of, reply_on, ignored, completion}
-use Rattle.iscsi_history.specs.rules.Deeds.{Facts, function_deed, refusal, deed_of, facts_of, reply_of, if_found, deed_marks}
-use Rattle.iscsi_history.specs.rules.Management.{may_wait, refusal_of_function, MOST_WAITING, waiting_on, answer, held_command, live_with_tag, is_before, abort_all, function_marks}
+use Rattle.iscsi_history.specs.rules.Execution.{exp_of, max_of, reply_on, ignored, completion, reply_of}
+use Rattle.iscsi_history.specs.rules.Deeds.{Facts, function_deed, deed_of, facts_of, if_found, deed_marks, marks_after, function_marks}
+use Rattle.iscsi_history.specs.rules.Management.{may_wait, refusal_of_function, MOST_WAITING, waiting_on, answer, held_command, live_with_tag, is_before, abort_all, refusal}
 use Rattle.iscsi_history.specs.rules.Logout.{is_last_open, live_of_units, all_held, taken_out, parting, end_session, close_conn}
-use Rattle.iscsi_history.specs.rules.Items.{marks_after, execution, item_of, waiting_item, immediate_item, function_item, is_waiting, functions, functions_at, turn_at, at_number, agenda}
+use Rattle.iscsi_history.specs.rules.Items.{execution, item_of, waiting_item, immediate_item, function_item, is_waiting, functions, functions_at, turn_at, at_number, agenda}
 use Rattle.iscsi_history.specs.rules.Agenda.{with_turns, numbered, kind_of, arrival_as, arrival_open, arrival, arrival_of, command_of, items_of}
 use Rattle.iscsi_history.specs.promises.Replies.{executed_in}
 use Rattle.iscsi_history.proofs.AbortMarks.{none_mapped, none_viewed}
-use Rattle.iscsi_history.proofs.DeedTable.{with_answers, through_deed, is_parting, refused_plainly, says_function, deeds_are}
+use Rattle.iscsi_history.proofs.DeedTable.{with_answers, through_deed, is_parting, refused_plainly}
 use Rattle.iscsi_outbox_rules.proofs.ClosedItems.{send_of, some_pair}
 use Rattle.iscsi_outbox_law.specs.Pairs.{EachOf}
 use Rattle.iscsi_outbox_law.proofs.PairLemmas.{each-append}
@@ -126,23 +126,20 @@ module _ (a : Arrival) where
       by_known true = of_answer 0
       by_known false = behind (Voids (lift (exp_of o t) (ref_cmd_sn a.request)) ∷ []) (answer a 0) refl refl (of_answer 0)
 
-  of_deeds : (o : Setting) (t : Trace) → Parts (deed_marks o t a (function_deed (facts_of o t a) a.request))
-  of_deeds o t =
+  of_function : (o : Setting) (t : Trace) → Parts (function_marks o t a)
+  of_function o t =
       with_answers (λ d. Parts (deed_marks o t a d)) (facts_of o t a) a.request of_none (λ n. of_answer n) (of_void o t)
       (λ unit sn. of_found Empties (held_command o t (rtt a.request) unit a.number) (λ h. (refl, refl))) (λ unit ticket. of_found Leaves (live_with_tag t (rtt a.request) unit) (λ c. (refl, refl)))
       (λ unit. of_all t unit (is_before a)) (λ unit. of_all t unit (λ x. true))
 
-  of_function : (o : Setting) (t : Trace) → Parts (function_marks o t a)
-  of_function o t = subst Parts (sym (says_function o t a)) (of_deeds o t)
-
   of_after : (o : Setting) (t : Trace) → Parts (marks_after o t a)
-  of_after o t = subst Parts (sym (deeds_are o t a)) (by_opcode (opcode a.request == 0x02) refl)
+  of_after o t = by_opcode (opcode a.request == 0x02) refl
     where
       f : Facts
       f = facts_of o t a
 
-      by_refusal : (x : Option Answer) → refusal f a.request ≡ x → Parts (deed_marks o t a (elim x [ Some y ↦ Replies y | None ↦ function_deed f a.request ]))
-      by_refusal None is = of_deeds o t
+      by_refusal : (x : Option Answer) → refusal f.level f.unit a.request ≡ x → Parts (deed_marks o t a (elim x [ Some y ↦ Replies y | None ↦ function_deed f a.request ]))
+      by_refusal None is = of_function o t
       by_refusal (Some y) is = of_reply (reply_of a.request y) (plain y (refused_plainly f a.request y is))
         where
           plain : (y : Answer) → is_parting y ≡ false → is_logout (reply_of a.request y) ≡ false
@@ -152,9 +149,9 @@ module _ (a : Arrival) where
           plain _ h = refl
 
       by_opcode : (v : Bool) → (opcode a.request == 0x02) ≡ v → Parts (deed_marks o t a (deed_of f a.request))
-      by_opcode true is = rw is (by_refusal (refusal f a.request) refl)
+      by_opcode true is = rw is (by_refusal (refusal f.level f.unit a.request) refl)
       by_opcode false is =
-          through_deed (λ d. Parts (deed_marks o t a d)) f a.request (of_deeds o t) of_none (λ x. of_other (reply_on a (reply_of a.request x)) is refl) (λ unit. of_other (deed_marks o t a (Enter unit)) is refl) (λ closing. of_close o t closing is) (of_end o t is)
+          through_deed (λ d. Parts (deed_marks o t a d)) f a.request (of_function o t) of_none (λ x. of_other (reply_on a (reply_of a.request x)) is refl) (λ unit. of_other (deed_marks o t a (Enter unit)) is refl) (λ closing. of_close o t closing is) (of_end o t is)
 
   -- ---- items
 

@@ -1,6 +1,6 @@
 -- What a request does that executes, as it counts for the limits of a session: it voids a number only within the window, being
 -- immediate; and a command enters only where its connection isn't crowded.
-use Rattle.std.proofs.Common.{◌≡◌, ℕ, ◌≤◌, ◌==◌, ◌&&◌, cond, Bool, true, false, List, [], ◌∷◌, ◌++◌, map, filter, Option, Some, None, refl, sym, subst, arith, nat_le, nat_lt}
+use Rattle.std.proofs.Common.{◌≡◌, ℕ, ◌≤◌, ◌==◌, ◌&&◌, cond, Bool, true, false, List, [], ◌∷◌, ◌++◌, map, filter, Option, Some, None, refl, arith, nat_le, nat_lt}
 use Rattle.std.proofs.lemmas.Bool.Decides.{nat_tests}
 use Rattle.iscsi_wire.specs.declared.reply.Reply.{Reply}
 use Rattle.iscsi_wire.specs.Fields.{connection_of, is_immediate, ref_cmd_sn}
@@ -10,12 +10,11 @@ use Rattle.iscsi_history.specs.declared.deed.Deed.TheVariants.{Reply as Replies,
 use Rattle.iscsi_history.specs.rules.Settings.{Setting}
 use Rattle.iscsi_history.specs.rules.Trace.{Arrival, Command, Mark, Admits, Delivers, Executes, Voids, Empties, Waits, Leaves, Enters, ClosesConn, ClosesSession, Trace, is_received, live_in}
 use Rattle.iscsi_history.specs.rules.Execution.{exp_of, max_of, is_crowded, reply_on}
-use Rattle.iscsi_history.specs.rules.Management.{answer, is_before, abort_all, function_marks}
+use Rattle.iscsi_history.specs.rules.Management.{answer, is_before, abort_all}
 use Rattle.iscsi_history.specs.rules.Logout.{is_last_open, live_of_units, all_held, taken_out, parting, end_session, close_conn}
-use Rattle.iscsi_history.specs.rules.Deeds.{facts_of, if_found, deed_marks}
-use Rattle.iscsi_history.specs.rules.Items.{marks_after}
+use Rattle.iscsi_history.specs.rules.Deeds.{facts_of, if_found, deed_marks, marks_after, function_marks}
 use Rattle.iscsi_history.proofs.BoolLemmas.{and_parts}
-use Rattle.iscsi_history.proofs.DeedTable.{Befits, befits_function, befits_deed, says_function, deeds_are}
+use Rattle.iscsi_history.proofs.DeedTable.{Befits, befits_function, befits_deed}
 use Rattle.iscsi_history.proofs.Forms.{Deeds, if_some, marks_done, Each}
 use Rattle.iscsi_outbox_rules.proofs.EachLemmas.{EachOf, each-append, each-first, each-second}
 
@@ -95,10 +94,10 @@ module _ (o : Setting) (t : Trace) (a : Arrival) where
   fair_deed _ b = tt
 
   pub fair_function : Fair (function_marks o t a)
-  fair_function = subst Fair (sym (says_function o t a)) (fair_deed _ (befits_function (facts_of o t a) a.request))
+  fair_function = fair_deed _ (befits_function (facts_of o t a) a.request)
 
   pub fair_after : Fair (marks_after o t a)
-  fair_after = subst Fair (sym (deeds_are o t a)) (fair_deed _ (befits_deed (facts_of o t a) a.request))
+  fair_after = fair_deed _ (befits_deed (facts_of o t a) a.request)
 
   pub fair_reply : (reply : Reply) → Fair (reply_on a reply)
   fair_reply reply = (tt, tt)

@@ -13,8 +13,8 @@ use Rattle.iscsi_history.specs.declared.deed.Deed.TheVariants.{Nothing, Reply, E
 use Rattle.iscsi_history.specs.rules.Settings.{Setting}
 use Rattle.iscsi_history.specs.rules.Trace.{Arrival, Command, Mark, Trace, live, live_in}
 use Rattle.iscsi_history.specs.rules.Execution.{unit_named}
-use Rattle.iscsi_history.specs.rules.Management.{live_with_tag, held_command}
-use Rattle.iscsi_history.specs.rules.Deeds.{Facts, abort_deed, unit_deed, function_deed, refusal, deed_of, of_unit, facts_of}
+use Rattle.iscsi_history.specs.rules.Management.{live_with_tag, held_command, refusal}
+use Rattle.iscsi_history.specs.rules.Deeds.{Facts, abort_deed, unit_deed, function_deed, deed_of, of_unit, facts_of}
 use Rattle.iscsi_session.specs.private.Standing.{Core, kept, CommandsAgree, SetsAgree}
 use Rattle.iscsi_session.specs.private.Deeds.{facts_by}
 use Rattle.iscsi_history.proofs.BoolLemmas.{and_true}
@@ -67,11 +67,11 @@ function_alike f g r a finds = by_unit f.unit g.unit a.unit
 pub deed_alike : (f g : Facts) (r : Request) → Alike f g → ((function r == 1) ≡ true → Finds f g) → deed_of f r ≡ deed_of g r
 deed_alike f g r a finds = rw (managed, a.is_open, a.is_used, command)
   where
-    refused : refusal f r ≡ refusal g r
+    refused : refusal f.level f.unit r ≡ refusal g.level g.unit r
     refused = rw (a.level, a.unit)
 
-    managed : ◌≡◌ {A = Deed} (elim (refusal f r) [ Some x ↦ Reply x | None ↦ function_deed f r ]) (elim (refusal g r) [ Some x ↦ Reply x | None ↦ function_deed g r ])
-    managed = rw refused (ap {B = Deed} (λ d. elim (refusal g r) [ Some x ↦ Reply x | None ↦ d ]) (function_alike f g r a finds))
+    managed : ◌≡◌ {A = Deed} (elim (refusal f.level f.unit r) [ Some x ↦ Reply x | None ↦ function_deed f r ]) (elim (refusal g.level g.unit r) [ Some x ↦ Reply x | None ↦ function_deed g r ])
+    managed = rw refused (ap {B = Deed} (λ d. elim (refusal g.level g.unit r) [ Some x ↦ Reply x | None ↦ d ]) (function_alike f g r a finds))
 
     command : ◌≡◌ {A = Deed} (elim f.unit [ Some unit ↦ cond f.is_crowded (Reply (Reject 6)) (cond f.is_full (Reply Full) (Enter unit)) | None ↦ Reply NoUnit ])
         (elim g.unit [ Some unit ↦ cond g.is_crowded (Reply (Reject 6)) (cond g.is_full (Reply Full) (Enter unit)) | None ↦ Reply NoUnit ])

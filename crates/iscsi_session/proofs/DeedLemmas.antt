@@ -1,31 +1,32 @@
 -- What a request does that executes, by what a session keeps: when it does that, and what stays as it was.
-use Rattle.std.proofs.Common.{◌≡◌, ℕ, ℤ, ◌+◌, ◌<◌, ◌≤◌, ◌==◌, not, cond, Bool, true, false, nat_lt, length, count_by, is_some, Option, Some, None, refl, ap, sym, ◌∙◌, arith}
+use Rattle.std.proofs.Common.{◌≡◌, ℕ, ℤ, ◌+◌, ◌<◌, ◌≤◌, ◌==◌, ◌&&◌, not, cond, Bool, true, false, nat_lt, nat_le, length, count_by, is_some, Option, Some, None, refl, ap, sym, ◌∙◌, arith}
 use Rattle.std.proofs.lemmas.Bool.{false≢true, cond_both}
 use Rattle.std.proofs.lemmas.Bool.Decides.{nat_tests}
 use Rattle.iscsi_window.specs.declared.held_request.HeldRequest.{HeldRequest}
 use Rattle.iscsi_wire.specs.declared.request.Request.{Request}
 use Rattle.iscsi_wire.specs.Serial.{lift}
-use Rattle.iscsi_wire.specs.Fields.{connection_of, is_immediate, function, cmd_sn, ref_cmd_sn}
+use Rattle.iscsi_wire.specs.Fields.{connection_of, is_immediate, opcode, function, cmd_sn, ref_cmd_sn}
 use Rattle.iscsi_window.specs.declared.answer.Place.{Place}
 use Rattle.iscsi_window.specs.declared.answer.Place.TheVariants.{Inside, Outside}
-use Rattle.iscsi_window.specs.Windows.{HasRoom, IsInside, number_expected, place_in, held_at, received_at, emptied_if}
+use Rattle.iscsi_window.specs.Windows.{HasRoom, IsInside, number_expected, room_of, place_in, held_at, received_at, emptied_if}
 use Rattle.iscsi_tasks.specs.declared.task.Task.{Task}
 use Rattle.iscsi_tasks.specs.declared.cover.Cover.TheVariants.{All as AllOfThem, Below}
 use Rattle.iscsi_tasks.specs.Sets.{is_covered}
+use Rattle.iscsi_history.specs.declared.deed.Answer.{Answer}
 use Rattle.iscsi_history.specs.declared.deed.Deed.{Deed}
 use Rattle.iscsi_history.specs.declared.deed.Deed.TheVariants.{Nothing, Wait, Reply, Enter, Void, Empty, Abort, AbortEarlier, AbortAll, CloseConn, CloseSession}
 use Rattle.iscsi_history.specs.rules.Settings.{is_known}
 use Rattle.iscsi_history.specs.rules.Execution.{unit_named}
-use Rattle.iscsi_history.specs.rules.Management.{may_wait}
+use Rattle.iscsi_history.specs.rules.Management.{may_wait, MOST_WAITING}
 use Rattle.iscsi_history.specs.rules.Deeds.{Facts, of_unit, unit_deed, function_deed}
 use Rattle.iscsi_session.specs.private.Standing.{Core, is_held}
-use Rattle.iscsi_session.specs.private.Steps.{set_at, is_set_full, is_numbered}
+use Rattle.iscsi_session.specs.private.Steps.{set_at, is_set_full, is_numbered, waiting_in}
 use Rattle.iscsi_session.specs.private.Functions.{is_gone, covers_ticket, aborted}
 use Rattle.iscsi_session.specs.private.Closing.{logged_out}
-use Rattle.iscsi_session.specs.private.Deeds.{live_by, held_by, missing_at, missing_by, facts_by, deed_by, arrival_by, Fits, IsReady, most_emptied, carried}
-use Rattle.iscsi_history.proofs.BoolLemmas.{and_first}
+use Rattle.iscsi_session.specs.private.Deeds.{live_by, held_by, missing_at, missing_by, facts_by, deed_by, refusal_by, waits_by, arrival_by, Fits, IsReady, most_emptied, carried}
+use Rattle.iscsi_history.proofs.BoolLemmas.{and_first, and_second}
 use Rattle.iscsi_history.proofs.ListLemmas.{fewer_counted}
-use Rattle.iscsi_history.proofs.DeedTable.{named_below, Befits, befits_function, befits_deed, befits_arrival}
+use Rattle.iscsi_history.proofs.DeedTable.{named_below, Befits, befits_function, befits_deed}
 use Rattle.iscsi_history.proofs.ReceivedItems.{no_abort_task}
 use Rattle.iscsi_session.proofs.LoggedOutLemmas.{logged_out_parts}
 use Rattle.iscsi_session.proofs.WindowLemmas.{emptied_changes, voided_changes}
@@ -37,7 +38,7 @@ of_named : {A : Type 0} (units : ℕ) (r : Request) (unit : ℕ) (none : A) (som
 of_named units r unit none some named = sym (ap (λ x. of_unit x none some) named)
 
 fits : (s : Core) (r : Request) (d : Deed) → Befits (facts_by s r) r d → Fits s r d
-fits s r Wait b = record { may = b.may; ahead = grind (arith, nat_tests, b.ahead); few = grind (arith, nat_tests, b.few) }
+fits s r Wait b = absurd b
 fits s r (Enter unit) b = record {
   inside = named_below (length s.sets) r unit b.named;
   not_full = of_named (length s.sets) r unit false (λ u. is_set_full (set_at s u)) b.named ∙ b.not_full;
@@ -58,7 +59,17 @@ pub fits_deed : (s : Core) (r : Request) → Fits s r (deed_by s r)
 fits_deed s r = fits s r _ (befits_deed (facts_by s r) r)
 
 pub fits_arrival : (s : Core) (r : Request) → Fits s r (arrival_by s r)
-fits_arrival s r = fits s r _ (befits_arrival (facts_by s r) r)
+fits_arrival s r = cond_both (opcode r == 0x02 && may_wait r) _ _ (Fits s r) (λ is. unless_refused (refusal_by s r) (waiting (and_second (opcode r == 0x02) (may_wait r) is))) (λ is. fits_deed s r)
+  where
+    waiting : may_wait r ≡ true → Fits s r (waits_by s r)
+    waiting may =
+        cond_both (nat_lt (number_expected s.window + room_of s.window) (lift (number_expected s.window) (cmd_sn r))) _ _ (Fits s r) (λ is. tt) (λ is.
+        cond_both (not (nat_lt (number_expected s.window) (lift (number_expected s.window) (cmd_sn r)))) _ _ (Fits s r) (λ is. fits_function s r) (λ ahead.
+        cond_both (nat_le MOST_WAITING (waiting_in s.waiting (connection_of r))) _ _ (Fits s r) (λ is. tt) (λ few. record { may = may; ahead = grind (arith, nat_tests, ahead); few = grind (arith, nat_tests, few) })))
+
+    unless_refused : (x : Option Answer) → Fits s r (waits_by s r) → Fits s r (elim x [ Some y ↦ Reply y | None ↦ waits_by s r ])
+    unless_refused (Some y) fits = tt
+    unless_refused None fits = fits
 
 -- ---- a number is voided, or a held request is taken out
 

@@ -9,7 +9,6 @@ use Rattle.iscsi_wire.specs.Fields.{connection_of, is_immediate}
 use Rattle.iscsi_window.specs.Windows.{Arrived}
 use Rattle.iscsi_tasks.specs.Sets.{opened}
 use Rattle.iscsi_history.specs.declared.effect.Effect.{Effect}
-use Rattle.iscsi_history.specs.declared.verdict.Verdict.TheVariants.{Nothing, Answer, Enter as EnterUnit}
 use Rattle.iscsi_history.specs.rules.Settings.{Setting, is_known}
 use Rattle.iscsi_history.specs.rules.Trace.{Arrival, Command, Mark, Enters, Sends, Trace, waiting, waiting_by, enters, leaves_ticket, sent_on, entered, live, live_in}
 use Rattle.iscsi_history.specs.rules.Execution.{unfinished, is_crowded, is_full, reply_on, next_command}
@@ -31,7 +30,7 @@ use Rattle.iscsi_session.proofs.SetParts.{SetsAgree-untouched, SetEntry, SetsAgr
 use Rattle.iscsi_history.proofs.ClosingItems.{ClosesNone, closes-more}
 use Rattle.iscsi_history.proofs.EnabledItems.{EnabledSoFar-untouched}
 use Rattle.iscsi_history.proofs.CommandItems.{EntersOne, unfinished-untouched}
-use Rattle.iscsi_history.proofs.EmptyingMarks.{quiet-marks}
+use Rattle.iscsi_history.proofs.EmptyingMarks.{quiet_none, quiet_sends, quiet_enters}
 
 -- what the session says is what the definitions say
 pub full_is : (o : Setting) (s : Core) (t : Trace) (u : ℕ) → SetsAgree o s.sets t → u < o.units → is_set_full (get_or s.sets u (opened 0)) ≡ is_full o t u
@@ -98,7 +97,7 @@ module _ (o : Setting) (s : Core) (t : Trace) (m : Mark) (e : Effect) (a : Arriv
   pub nothing_more : Follows o t (m ∷ []) s (e ∷ [])
   nothing_more =
       let none : Untouched [] = record { enters_none = refl; leaves_no = λ k. refl } in (
-        begun-untouched [] s.conns (quiet-marks t a Nothing) none (record { session = refl; conns = λ k. refl }) (RepliesAgree-quiet o s.conns t (m ∷ []) (cc b.sends_no) b.replies) refl,
+        begun-untouched [] s.conns quiet_none none (record { session = refl; conns = λ k. refl }) (RepliesAgree-quiet o s.conns t (m ∷ []) (cc b.sends_no) b.replies) refl,
         cc (b.shows, newly-untouched o t (m ∷ []) (untouched-begun [] none)),
       )
 
@@ -108,7 +107,7 @@ module _ (o : Setting) (s : Core) (t : Trace) (m : Mark) (e : Effect) (a : Arriv
       let conn : ℕ = connection_of a.request in
       let sends : List Mark = Sends conn reply ∷ [] in
       let none : Untouched sends = record { enters_none = refl; leaves_no = λ k. refl } in (
-        begun-untouched sends (count_reply conn s.conns) (quiet-marks t a (Answer reply)) none (record { session = refl; conns = λ k. refl }) (RepliesAgree-sent o s.conns t (m ∷ sends) conn (cc b.sends_no) b.known b.replies) refl,
+        begun-untouched sends (count_reply conn s.conns) (quiet_sends conn reply) none (record { session = refl; conns = λ k. refl }) (RepliesAgree-sent o s.conns t (m ∷ sends) conn (cc b.sends_no) b.known b.replies) refl,
         cc (b.replies.stat_sns conn b.known, b.shows, newly-untouched o t (m ∷ sends) (untouched-begun sends none)),
       )
 
@@ -119,7 +118,7 @@ module _ (o : Setting) (s : Core) (t : Trace) (m : Mark) (e : Effect) (a : Arriv
       let c : Command = next_command ((m ∷ []) ∷ t) a unit in
       let ms : List Mark = Enters c ∷ [] in
       let item : List Mark = m ∷ ms in
-      let q : IsQuiet ms = quiet-marks ((m ∷ []) ∷ t) a (EnterUnit unit) in
+      let q : IsQuiet ms = quiet_enters c in
       let entered_is : length (entered ((m ∷ []) ∷ t)) ≡ length (entered t) = cc (b.enters_no, append-nil (entered t)) in
       let count : s.entered ≡ length (entered ((m ∷ []) ∷ t)) = b.commands.count_is ∙ sym entered_is in
       let en : EntersOne item t c = record { one = cc b.enters_no; leaves_no = λ k. cc (b.leaves_no k); ticket = omega (arith, entered_is) } in

@@ -48,16 +48,16 @@ use Rattle.iscsi_history.specs.declared.deed.Answer.{Answer}
 use Rattle.iscsi_history.specs.declared.deed.Answer.TheVariants.{Reject, Respond}
 use Rattle.iscsi_history.specs.declared.deed.Deed.{Deed}
 use Rattle.iscsi_history.specs.declared.deed.Deed.TheVariants.{Nothing, Wait, Reply, Enter, Void, Empty, Abort, AbortEarlier, AbortAll, CloseConn, CloseSession}
-use Rattle.iscsi_history.specs.rules.Execution.{exp_of, max_of}
-use Rattle.iscsi_history.specs.rules.Management.{may_wait, waiting_on, refusal_of_function, answer, is_before, live_with_tag, held_command}
-use Rattle.iscsi_history.specs.rules.Deeds.{function_deed, refusal, waiting_deed, reply_of, if_found, deed_marks}
+use Rattle.iscsi_history.specs.rules.Execution.{exp_of, max_of, reply_of, unit_named}
+use Rattle.iscsi_history.specs.rules.Management.{may_wait, waiting_on, answer, is_before, live_with_tag, held_command, refusal}
+use Rattle.iscsi_history.specs.rules.Deeds.{function_deed, if_found, deed_marks}
 use Rattle.iscsi_session.specs.private.Functions.{covers_ticket, response_effects}
 use Rattle.iscsi_session.specs.private.Steps.{with_reply, number_by, event_by, waiting_in}
-use Rattle.iscsi_session.specs.private.Deeds.{live_by, facts_by, deed_by, arrival_by, Fits, carried, carried_effects}
+use Rattle.iscsi_session.specs.private.Deeds.{live_by, facts_by, deed_by, refusal_by, waits_by, arrival_by, Fits, carried, carried_effects}
 use Rattle.iscsi_session.specs.private.Turning.{position_by, next_position, without_waiting, waited_by, with_executed, executed_effects, next_waiting, function_if, function_effects, immediate_as, immediate_effects}
 use Rattle.iscsi_history.proofs.ApartLemmas.{apart-filter}
 use Rattle.iscsi_history.proofs.CommandItems.{ticket_alone}
-use Rattle.iscsi_history.proofs.DeedTable.{never_waits, refusal_is, says_function, deeds_are}
+use Rattle.iscsi_history.proofs.DeedTable.{never_waits}
 use Rattle.iscsi_session.proofs.CommandParts.{CommandsAgree-untouched}
 use Rattle.iscsi_session.proofs.FindLemmas.{tagged_in-is}
 use Rattle.iscsi_session.proofs.LogoutItem.{session_ends, conn_closes}
@@ -228,7 +228,7 @@ executes : (o : Setting) (s : Core) (t : Trace) (m : Mark) (e : Effect) (a : Arr
 executes o s t m e a event b number_is event_is now x w =
     let d : Deed = deed_by s a.request in
     let done = does o s t m e a b (position_by s a.request) event (position_of o s a b.first number_is) now d (fits_deed s a.request) (meets o s t m e a b number_is event_is x d w) in
-    let is : execution o t m a ≡ m ∷ deed_marks o ((m ∷ []) ∷ t) a d = ap (λ ms. m ∷ ms) (deeds_are o ((m ∷ []) ∷ t) a ∙ ap (deed_marks o ((m ∷ []) ∷ t) a) (deed_is o s t m e a b (λ one. x))) in
+    let is : execution o t m a ≡ m ∷ deed_marks o ((m ∷ []) ∷ t) a d = ap (λ d. m ∷ deed_marks o ((m ∷ []) ∷ t) a d) (deed_is o s t m e a b (λ one. x)) in
     subst (λ item. Follows o t item (with_executed s a.request event) (e ∷ executed_effects s a.request event)) (sym is) done
 
 -- ---- at its turn
@@ -295,7 +295,7 @@ waited-item o s t w h found =
     let d : Deed = waited_by s w in
     let done = does o s' t (Executes a) (Immediate a.request) a b (next_position s) w.event (rw (number, h.window.first)) refl d (fits_function s' w.request) (whole_meets o s' t a b d (whole_function (facts_by s' w.request) w.request may)) in
     let is : function_item o t a ≡ Executes a ∷ deed_marks o t' a d =
-    ap (λ ms. Executes a ∷ ms) (says_function o t' a ∙ ap (deed_marks o t' a) (function_is o s' t (Executes a) (Immediate a.request) a b (λ one. absurd (false≢true (sym (no_abort_task w.request may) ∙ one))))) in
+    ap (λ x. Executes a ∷ deed_marks o t' a x) (function_is o s' t (Executes a) (Immediate a.request) a b (λ one. absurd (false≢true (sym (no_abort_task w.request may) ∙ one)))) in
     subst (λ item. Follows o t item (function_if s (Some w)) (function_effects s (Some w))) (sym is) done
   where
     whole_meets : (o : Setting) (s : Core) (t : Trace) (a : Arrival) (b : Begun o s t (Executes a) (Immediate a.request) a) (d : Deed) → is_whole d ≡ true → Meets o s t (Executes a) (Immediate a.request) a b d
@@ -349,7 +349,7 @@ module _ (o : Setting) (s : Core) (index : ℕ) (t : Trace) (r : Request) (h : S
   becomes_now : Becomes (execution o t (Executes a) a) (deed_by s r)
   becomes_now =
       let is : execution o t (Executes a) a ≡ Executes a ∷ deed_marks o ((Executes a ∷ []) ∷ t) a (deed_by s r) =
-      ap (λ ms. Executes a ∷ ms) (deeds_are o ((Executes a ∷ []) ∷ t) a ∙ ap (deed_marks o ((Executes a ∷ []) ∷ t) a) (deed_is o s t (Executes a) (Immediate r) a begun (λ one. found))) in
+      ap (λ d. Executes a ∷ deed_marks o ((Executes a ∷ []) ∷ t) a d) (deed_is o s t (Executes a) (Immediate r) a begun (λ one. found)) in
       subst (λ item. Becomes item (deed_by s r)) (sym is) (becomes_done (deed_by s r) (fits_deed s r) (never_waits (facts_by s r) r))
 
   -- it waits
@@ -369,7 +369,7 @@ module _ (o : Setting) (s : Core) (index : ℕ) (t : Trace) (r : Request) (h : S
       )
 
   -- a function that isn't refused, and may wait
-  becomes_by_number : may_wait r ≡ true → deed_by s r ≡ function_deed (facts_by s r) r → Becomes (waiting_item o t a) (waiting_deed (facts_by s r) r)
+  becomes_by_number : may_wait r ≡ true → deed_by s r ≡ function_deed (facts_by s r) r → Becomes (waiting_item o t a) (waits_by s r)
   becomes_by_number may executed = by_tests (nat_lt (e + room_of s.window) n) (nat_lt e n) (nat_le 4 (waiting_in s.waiting (connection_of r))) refl refl refl
     where
       e : ℕ
@@ -390,7 +390,7 @@ module _ (o : Setting) (s : Core) (index : ℕ) (t : Trace) (r : Request) (h : S
       many : waiting_on (connection_of r) t ≡ waiting_in s.waiting (connection_of r)
       many = rw h.agrees.waiting.list (count_by-map (λ (b : Arrival). connection_of b.request == connection_of r) (arrival_waiting o.first) s.waiting)
 
-      by_tests : (b c d : Bool) → nat_lt (e + room_of s.window) n ≡ b → nat_lt e n ≡ c → nat_le 4 (waiting_in s.waiting (connection_of r)) ≡ d → Becomes (waiting_item o t a) (waiting_deed (facts_by s r) r)
+      by_tests : (b c d : Bool) → nat_lt (e + room_of s.window) n ≡ b → nat_lt e n ≡ c → nat_le 4 (waiting_in s.waiting (connection_of r)) ≡ d → Becomes (waiting_item o t a) (waits_by s r)
       by_tests true c d f g k = rw (far, f) (becomes_done (Reply (Respond 255)) tt (λ e. cc))
       by_tests false false d f g k = rw (far, near, f, g) (subst (Becomes (execution o t (Executes a) a)) executed becomes_now)
       by_tests false true true f g k = rw (far, near, many, f, g, k) (becomes_done (Reply (Reject 6)) tt (λ e. cc))
@@ -399,17 +399,18 @@ module _ (o : Setting) (s : Core) (index : ℕ) (t : Trace) (r : Request) (h : S
   pub immediate-item : Agrees o (immediate_as s r (arrival_by s r)) (immediate_item o t (arrival_of o index t r) ∷ t) × (immediate_effects s r (arrival_by s r) ≡ effects_of_item o t (immediate_item o t (arrival_of o index t r)))
   immediate-item = by_function (opcode r == 0x02 && may_wait r) refl
     where
-      same : refusal_of_function o r ≡ option_map (reply_of r) (refusal (facts_by s r) r)
-      same = refusal_is (facts_by s r) o.level o.units r h.agrees.level (rw h.agrees.sets.units)
+      same : refusal o.level (unit_named o.units r) r ≡ refusal_by s r
+      same = ap (λ level. refusal level (unit_named o.units r) r) (sym h.agrees.level) ∙ ap (λ units. refusal s.level (unit_named units r) r) (sym h.agrees.sets.units)
 
-      by_refusal : (opcode r == 0x02 && may_wait r) ≡ true → (y : Option Answer) → refusal (facts_by s r) r ≡ y → Becomes (immediate_item o t a) (arrival_by s r)
-      by_refusal is (Some y) refused =
-          let executed : deed_by s r ≡ Reply y = rw ((and_parts (opcode r == 0x02) (may_wait r) is).0, refused) in
-          rw (is, same, refused) (subst (Becomes (execution o t (Executes a) a)) executed becomes_now)
-      by_refusal is None none =
-          let parts = and_parts (opcode r == 0x02) (may_wait r) is in
-          rw (is, same, none) (becomes_by_number parts.1 (rw (parts.0, none)))
+      Chosen : Option Answer → Option Answer → Type 0
+      Chosen x y = Becomes (elim (option_map (reply_of r) x) [ Some reply ↦ execution o t (Executes a) a | None ↦ waiting_item o t a ]) (elim y [ Some z ↦ Reply z | None ↦ waits_by s r ])
+
+      by_refusal : (opcode r == 0x02) ≡ true → may_wait r ≡ true → (y : Option Answer) → refusal_by s r ≡ y → Chosen y y
+      by_refusal is may (Some y) refused = let executed : deed_by s r ≡ Reply y = rw (is, refused) in subst (Becomes (execution o t (Executes a) a)) executed becomes_now
+      by_refusal is may None none = becomes_by_number may (rw (is, none))
 
       by_function : (v : Bool) → (opcode r == 0x02 && may_wait r) ≡ v → Becomes (immediate_item o t a) (arrival_by s r)
       by_function false is = rw is becomes_now
-      by_function true is = by_refusal is (refusal (facts_by s r) r) refl
+      by_function true is =
+          let parts = and_parts (opcode r == 0x02) (may_wait r) is in
+          rw is (subst (λ x. Chosen x (refusal_by s r)) (sym same) (by_refusal parts.0 parts.1 (refusal_by s r) refl))

@@ -1,20 +1,16 @@
--- What a request does that executes, in one table: the first case that fits, by what is found (RFC 7143, RFC 7144, SAM-5). Its
--- marks are those of Execution, Management and Logout (`deeds_are`). A session decides by it.
-use Rattle.std.specs.Prelude.{ℕ, ◌+◌, ◌==◌, ◌&&◌, not, Bool, true, false, nat_lt, nat_le, List, [], ◌∷◌, ◌++◌, Option, Some, None, option_map, is_some, if◌then◌else◌}
+-- What a request does that executes: the first case of its table that fits, by what is found (RFC 7143, RFC 7144, SAM-5).
+use Rattle.std.specs.Prelude.{ℕ, ◌==◌, ◌&&◌, Bool, true, false, nat_lt, nat_le, List, [], ◌∷◌, ◌++◌, Option, Some, None, option_map, is_some, if◌then◌else◌}
 use Rattle.std.specs.List.{list_any}
-use Rattle.iscsi_wire.specs.declared.reply.Reply.{Reply}
-use Rattle.iscsi_wire.specs.declared.reply.Reply.TheVariants.{Scsi, Task, Nop, Logout, Reject as RejectReply}
 use Rattle.iscsi_wire.specs.declared.request.Request.{Request}
 use Rattle.iscsi_wire.specs.Serial.{wire, lift}
-use Rattle.iscsi_wire.specs.Fields.{connection_of, header_of, is_immediate, opcode, attr_code, function, itt, rtt, cid, ref_cmd_sn}
-use Rattle.iscsi_history.specs.declared.deed.Answer.{Answer}
+use Rattle.iscsi_wire.specs.Fields.{is_immediate, opcode, attr_code, function, itt, rtt, cid, ref_cmd_sn}
 use Rattle.iscsi_history.specs.declared.deed.Answer.TheVariants.{Reject, Pong, NoUnit, Full, Respond, LogOut}
 use Rattle.iscsi_history.specs.declared.deed.Deed.{Deed}
 use Rattle.iscsi_history.specs.declared.deed.Deed.TheVariants.{Nothing, Wait, Reply as Replies, Enter, Void, Empty, Abort, AbortEarlier, AbortAll, CloseConn, CloseSession}
 use Rattle.iscsi_history.specs.rules.Settings.{Setting}
 use Rattle.iscsi_history.specs.rules.Trace.{Arrival, Command, Mark, Voids, Empties, Leaves, Enters, Trace, is_received, live_in}
-use Rattle.iscsi_history.specs.rules.Execution.{exp_of, max_of, NO_TAG, no_unit, unit_named, is_tag_live, is_crowded, is_full, reply_on, next_command}
-use Rattle.iscsi_history.specs.rules.Management.{is_supported, may_wait, MOST_WAITING, waiting_on, answer, live_with_tag, held_command, is_before, abort_all}
+use Rattle.iscsi_history.specs.rules.Execution.{exp_of, max_of, NO_TAG, unit_named, is_tag_live, is_crowded, is_full, reply_of, reply_on, next_command}
+use Rattle.iscsi_history.specs.rules.Management.{refusal, answer, live_with_tag, held_command, is_before, abort_all}
 use Rattle.iscsi_history.specs.rules.Logout.{is_open, close_conn, end_session}
 
 -- what is found as a request executes
@@ -29,13 +25,11 @@ pub record Facts : Type 0 where
   pub held : Option ℕ  -- the CmdSN of the held command to the unit that has that tag, below its own number
   pub is_missing : Bool  -- it is immediate, and the number to which it refers is in the window, below its own
   pub is_open : Bool  -- the connection that a Logout Request names is open
-  pub is_far : Bool  -- its number is above MaxCmdSN + 1
-  pub is_ahead : Bool  -- its number is above ExpCmdSN
-  pub is_awaited : Bool  -- as many functions of its connection wait as may
 
 -- ---- the tables
 
 -- a SCSI Command
+-- rules: command/no-tag, command/attribute, command/tag-in-use, command/no-unit, command/crowded, command/full, command/enters
 abbrev pub command_deed : Facts → Request → Deed
 command_deed f r =
     if itt r == NO_TAG then Replies (Reject 9)
@@ -47,6 +41,7 @@ command_deed f r =
     ]))
 
 -- ABORT TASK
+-- rules: abort-task/live, abort-task/held, abort-task/missing, abort-task/nothing
 abbrev pub abort_deed : Facts → ℕ → Deed
 abort_deed f unit =
     elim f.live [
@@ -59,6 +54,7 @@ abbrev pub query_deed : Bool → Deed
 query_deed there = Replies (Respond (if there then 7 else 0))
 
 -- a function to a unit
+-- rules: reset/all, query-task/live, query-task-set/live
 abbrev pub unit_deed : Facts → Request → ℕ → Deed
 unit_deed f r unit =
     if function r == 1 then abort_deed f unit
@@ -71,15 +67,8 @@ unit_deed f r unit =
 abbrev pub function_deed : Facts → Request → Deed
 function_deed f r = elim f.unit [ Some unit ↦ unit_deed f r unit | None ↦ Nothing ]
 
--- how a function is refused, if it is
-abbrev pub refusal : Facts → Request → Option Answer
-refusal f r =
-    if itt r == NO_TAG then Some (Reject 9)
-    else (if function r == 8 then Some (Respond 4)
-    else (if not (is_supported f.level (function r)) then Some (Respond 5)
-    else elim f.unit [ Some unit ↦ None | None ↦ Some (Respond 2) ]))
-
 -- a Logout Request
+-- rules: logout/no-tag, logout/session, logout/connection, logout/unknown-cid, logout/recovery, logout/other-reason
 abbrev pub logout_deed : Facts → Request → Deed
 logout_deed f r =
     if itt r == NO_TAG then Replies (Reject 9)
@@ -88,32 +77,20 @@ logout_deed f r =
     else (if function r == 2 then Replies (LogOut 2)
     else Replies (Reject 9))))
 
--- a NOP-Out
+-- a NOP-Out with a tag is answered
+-- rules: nop-out/no-tag, nop-out/answered
 abbrev pub nop_deed : Request → Deed
 nop_deed r = if itt r == NO_TAG then Nothing else Replies Pong
 
--- a request at its turn, or at its arrival where it doesn't wait
+-- a request at its turn, or at its arrival where it doesn't wait. A Text Request is rejected, as there is no negotiation
+-- rule: text/rejected
 abbrev pub deed_of : Facts → Request → Deed
 deed_of f r =
-    if opcode r == 0x02 then elim (refusal f r) [ Some x ↦ Replies x | None ↦ function_deed f r ]
+    if opcode r == 0x02 then elim (refusal f.level f.unit r) [ Some x ↦ Replies x | None ↦ function_deed f r ]
     else (if opcode r == 0x06 then logout_deed f r
     else (if opcode r == 0x00 then nop_deed r
     else (if opcode r == 0x04 then Replies (Reject 5)
     else command_deed f r)))
-
--- a function that may wait, and isn't refused, at its arrival
-abbrev pub waiting_deed : Facts → Request → Deed
-waiting_deed f r =
-    if f.is_far then Replies (Respond 255)
-    else (if not f.is_ahead then function_deed f r
-    else (if f.is_awaited then Replies (Reject 6)
-    else Wait))
-
--- an immediate request at its arrival
-abbrev pub arrival_deed : Facts → Request → Deed
-arrival_deed f r =
-    if opcode r == 0x02 && may_wait r then elim (refusal f r) [ Some x ↦ Replies x | None ↦ waiting_deed f r ]
-    else deed_of f r
 
 -- ---- what is found, over the whole history
 
@@ -133,21 +110,9 @@ facts_of o t a = record {
   held = of_unit (unit_named o.units a.request) None (λ unit. option_map (λ (h : Arrival). wire h.number) (held_command o t (rtt a.request) unit a.number));
   is_missing = let n = lift (exp_of o t) (ref_cmd_sn a.request) in is_immediate a.request && nat_le (exp_of o t) n && nat_le n (max_of o t) && nat_lt n a.number;
   is_open = is_open o t (cid a.request);
-  is_far = nat_lt (max_of o t + 1) a.number;
-  is_ahead = nat_lt (exp_of o t) a.number;
-  is_awaited = nat_le MOST_WAITING (waiting_on (connection_of a.request) t);
 }
 
 -- ---- what is done
-
--- the reply that an answer stands for
-abbrev pub reply_of : Request → Answer → Reply
-reply_of r (Reject reason) = RejectReply reason (header_of r)
-reply_of r Pong = Nop (itt r)
-reply_of r NoUnit = Scsi (itt r) 0x02 (Some no_unit)
-reply_of r Full = Scsi (itt r) 0x28 None
-reply_of r (Respond response) = Task (itt r) response
-reply_of r (LogOut response) = Logout (itt r) response
 
 abbrev pub if_found : {A : Type 0} → (A → Mark) → Option A → List Mark
 if_found mark None = []
@@ -166,3 +131,13 @@ deed_marks o t a (AbortEarlier unit) = abort_all t a unit (is_before a)
 deed_marks o t a (AbortAll unit) = abort_all t a unit (λ c. true)
 deed_marks o t a (CloseConn closing) = close_conn o t a closing
 deed_marks o t a CloseSession = end_session o t a
+
+-- ---- what executes
+
+-- what a request does that executes
+abbrev pub marks_after : Setting → Trace → Arrival → List Mark
+marks_after o t a = deed_marks o t a (deed_of (facts_of o t a) a.request)
+
+-- a function that isn't refused
+abbrev pub function_marks : Setting → Trace → Arrival → List Mark
+function_marks o t a = deed_marks o t a (function_deed (facts_of o t a) a.request)

@@ -1,9 +1,9 @@
 -- What a request does that executes: what a session finds, what it keeps afterwards, and the effects. For private contracts alone.
-use Rattle.std.specs.Prelude.{◌≡◌, ℕ, ℤ, ◌+◌, ◌<◌, ◌==◌, ◌&&◌, Bool, true, false, nat_lt, nat_le, List, [], ◌∷◌, ◌++◌, length, find, count_by, is_some, Option, Some, None, option_map}
+use Rattle.std.specs.Prelude.{◌≡◌, ℕ, ℤ, ◌+◌, ◌<◌, ◌==◌, ◌&&◌, not, Bool, true, false, nat_lt, nat_le, List, [], ◌∷◌, ◌++◌, length, find, count_by, is_some, Option, Some, None, option_map, if◌then◌else◌}
 use Rattle.std.specs.List.{list_any}
 use Rattle.iscsi_wire.specs.declared.request.Request.{Request}
 use Rattle.iscsi_wire.specs.Serial.{lift}
-use Rattle.iscsi_wire.specs.Fields.{connection_of, is_immediate, itt, rtt, cid, cmd_sn, ref_cmd_sn}
+use Rattle.iscsi_wire.specs.Fields.{connection_of, is_immediate, opcode, itt, rtt, cid, cmd_sn, ref_cmd_sn}
 use Rattle.iscsi_window.specs.declared.answer.Place.{Place}
 use Rattle.iscsi_window.specs.declared.answer.Place.TheVariants.{Inside, Outside}
 use Rattle.iscsi_window.specs.Windows.{HasRoom, number_expected, room_of, place_in, find_held, number_shown, voided, emptied}
@@ -12,13 +12,14 @@ use Rattle.iscsi_tasks.specs.Sets.{is_covered}
 use Rattle.iscsi_commands.specs.declared.live.Live.{Live}
 use Rattle.iscsi_history.specs.declared.effect.Effect.{Effect}
 use Rattle.iscsi_history.specs.declared.effect.Effect.TheVariants.{Empty as EmptyEffect}
-use Rattle.iscsi_history.specs.declared.deed.Answer.TheVariants.{Respond}
+use Rattle.iscsi_history.specs.declared.deed.Answer.{Answer}
+use Rattle.iscsi_history.specs.declared.deed.Answer.TheVariants.{Reject, Respond}
 use Rattle.iscsi_history.specs.declared.deed.Deed.{Deed}
 use Rattle.iscsi_history.specs.declared.deed.Deed.TheVariants.{Nothing, Wait, Reply, Enter, Void, Empty, Abort, AbortEarlier, AbortAll, CloseConn, CloseSession}
 use Rattle.iscsi_history.specs.rules.Settings.{is_known}
-use Rattle.iscsi_history.specs.rules.Execution.{unit_named}
-use Rattle.iscsi_history.specs.rules.Management.{MOST_WAITING, may_wait}
-use Rattle.iscsi_history.specs.rules.Deeds.{Facts, of_unit, function_deed, refusal, deed_of, arrival_deed, reply_of}
+use Rattle.iscsi_history.specs.rules.Execution.{unit_named, reply_of}
+use Rattle.iscsi_history.specs.rules.Management.{MOST_WAITING, may_wait, refusal}
+use Rattle.iscsi_history.specs.rules.Deeds.{Facts, of_unit, function_deed, deed_of}
 use Rattle.iscsi_session.specs.private.Standing.{Core, is_held}
 use Rattle.iscsi_session.specs.private.Steps.{set_at, is_set_full, is_tag_kept, is_crowded_by, with_command, entry_effects, with_reply, reply_effects, waiting_in}
 use Rattle.iscsi_session.specs.private.Functions.{aborted, abort_effects, covers_ticket, void_effects}
@@ -56,21 +57,32 @@ facts_by s r = record {
   held = of_unit (unit_named (length s.sets) r) None (held_by s r);
   is_missing = missing_by s r;
   is_open = is_among_open (cid r) s.open_conns;
-  is_far = nat_lt (number_expected s.window + room_of s.window) (lift (number_expected s.window) (cmd_sn r));
-  is_ahead = nat_lt (number_expected s.window) (lift (number_expected s.window) (cmd_sn r));
-  is_awaited = nat_le MOST_WAITING (waiting_in s.waiting (connection_of r));
 }
 
--- what it does, at its turn or at its arrival
+-- what it does, at its turn, or at its arrival where it doesn't wait
 abbrev pub deed_by : Core → Request → Deed
 deed_by s r = deed_of (facts_by s r) r
 
-abbrev pub arrival_by : Core → Request → Deed
-arrival_by s r = arrival_deed (facts_by s r) r
+-- how a function is refused, if it is, and what it does, refused or not
+abbrev pub refusal_by : Core → Request → Option Answer
+refusal_by s r = refusal s.level (unit_named (length s.sets) r) r
 
--- what a function does, refused or not
 abbrev pub managed_by : Core → Request → Deed
-managed_by s r = elim (refusal (facts_by s r) r) [ Some x ↦ Reply x | None ↦ function_deed (facts_by s r) r ]
+managed_by s r = elim (refusal_by s r) [ Some x ↦ Reply x | None ↦ function_deed (facts_by s r) r ]
+
+-- a function that may wait, and isn't refused, at its arrival
+abbrev pub waits_by : Core → Request → Deed
+waits_by s r =
+    if nat_lt (number_expected s.window + room_of s.window) (lift (number_expected s.window) (cmd_sn r)) then Reply (Respond 255)
+    else (if not (nat_lt (number_expected s.window) (lift (number_expected s.window) (cmd_sn r))) then function_deed (facts_by s r) r
+    else (if nat_le MOST_WAITING (waiting_in s.waiting (connection_of r)) then Reply (Reject 6)
+    else Wait))
+
+-- an immediate request at its arrival
+abbrev pub arrival_by : Core → Request → Deed
+arrival_by s r =
+    if opcode r == 0x02 && may_wait r then elim (refusal_by s r) [ Some x ↦ Reply x | None ↦ waits_by s r ]
+    else deed_by s r
 
 -- ---- when it does that
 

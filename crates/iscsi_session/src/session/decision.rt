@@ -5,10 +5,10 @@ ghost use Rattle.iscsi_wire.specs.Fields.{connection_of, is_immediate, function 
 ghost use Rattle.iscsi_history.specs.rules.Settings.{is_known as known_in};
 ghost use Rattle.iscsi_history.specs.rules.Execution.{unit_named as unit_of_lun};
 ghost use Rattle.iscsi_history.specs.rules.Management.{may_wait as may_wait_named, is_supported as supported_at};
-ghost use Rattle.iscsi_history.specs.rules.Deeds.{command_deed, abort_deed, query_deed, unit_deed, function_deed, refusal as refusal_by, logout_deed, nop_deed, waiting_deed};
+ghost use Rattle.iscsi_history.specs.rules.Deeds.{command_deed, abort_deed, query_deed, unit_deed, function_deed, logout_deed, nop_deed};
 ghost use Rattle.iscsi_session.specs.private.Codes.{reason_code, response_code, logout_response_code};
 ghost use Rattle.iscsi_session.specs.private.Steps.{is_tag_kept, is_crowded_by};
-ghost use Rattle.iscsi_session.specs.private.Deeds.{tagged_in, missing_by, facts_by, deed_by, managed_by, arrival_by};
+ghost use Rattle.iscsi_session.specs.private.Deeds.{tagged_in, missing_by, facts_by, deed_by, refusal_by, managed_by, waits_by, arrival_by};
 
 use crate::closing::{LogoutReason, LogoutResponse};
 use crate::function::Function;
@@ -117,7 +117,7 @@ impl Session {
     ///
     /// Rules: `function/too-far`, `function/too-many`, `function/waits`, `function/executes`.
     fn decide_waiting(&self, request: &Request) -> Deed
-        ensures { result ≡ waiting_deed (facts_by self.now request.now) request.now }
+        ensures { result ≡ waits_by self.now request.now }
     {
         let ahead = distance(self.window.exp(), request.cmd_sn());
         let room = self.window.size() - self.window.unfinished();
@@ -147,7 +147,7 @@ impl Session {
     ///
     /// Rules: `function/no-tag`, `function/reassign`, `function/unsupported`, `function/no-unit`.
     fn refusal_of_function(&self, request: &Request) -> Option<Answer>
-        ensures { result ≡ refusal_by (facts_by self.now request.now) request.now }
+        ensures { result ≡ refusal_by self.now request.now }
     {
         if request.itt() == NO_TAG {
             return Some(Answer::Reject(Reason::InvalidField as u8));
