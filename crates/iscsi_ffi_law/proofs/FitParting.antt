@@ -4,11 +4,15 @@ use Rattle.std.specs.List.{list_any}
 use Rattle.std.proofs.lemmas.List.Folds.{list_any-append}
 use Rattle.iscsi_wire.specs.Fields.{cid, request_of}
 use Rattle.iscsi_history.specs.declared.event.Event.TheVariants.{Arrive}
+use Rattle.iscsi_history.specs.declared.deed.Answer.TheVariants.{LogOut}
+use Rattle.iscsi_history.specs.declared.deed.Deed.{Deed}
+use Rattle.iscsi_history.specs.declared.deed.Deed.TheVariants.{Reply as Replies, CloseConn}
+use Rattle.iscsi_history.specs.rules.Deeds.{deed_marks, marks_after}
 use Rattle.iscsi_history.specs.rules.Agenda.{arrival_of, arrival_open, items_of, with_turns}
 use Rattle.iscsi_history.specs.rules.Execution.{exp_of, ignored}
 use Rattle.iscsi_history.specs.declared.effect.Why.TheVariants.{Closed}
 use Rattle.iscsi_history.specs.rules.Items.{agenda, execution}
-use Rattle.iscsi_history.specs.rules.Logout.{close_conn, is_last_open, is_open, logout_marks, parting as parted, taken_out}
+use Rattle.iscsi_history.specs.rules.Logout.{close_conn, is_last_open, is_open, parting as parted, taken_out}
 use Rattle.iscsi_history.specs.rules.Run.{after_event}
 use Rattle.iscsi_history.specs.rules.Settings.{Setting, is_known}
 use Rattle.iscsi_history.specs.rules.Trace.{Arrival, ClosesConn, ClosesSession, Executes, Mark, Trace, after_items, closes_conn, closes_session, has, is_closed, is_ended}
@@ -32,6 +36,10 @@ closed_on c (item ∷ items) t h = closed_on c items (item ∷ t) (closed_more c
 
 -- ---- the Logout
 
+-- what it does, by whether the connection is open
+abbrev pub deed_if : Bool → ℕ → Deed
+deed_if open_still conn = cond open_still (CloseConn conn) (Replies (LogOut 1))
+
 -- it closes
 closes_it : (o : Setting) (t : Trace) (a : Arrival) (c : ℕ) → list_any (closes_conn c) (close_conn o t a c) ≡ true
 closes_it o t a c =
@@ -52,12 +60,12 @@ module _ (o : Setting) (now : ℕ) (t : Trace) (conn : ℕ) (known : is_known co
       both : (n : ℕ) → 256 * (256 * 0 + n / 256) + n % 256 ≡ n
       both n = omega arith
 
-  marks_are : (k : ℕ) → is_open o begun k ≡ true → list_any (closes_conn k) (cond (is_open o begun k) (close_conn o begun a k) (parted a 1)) ≡ true
-  marks_are k there = ap (λ v. list_any (closes_conn k) (cond v (close_conn o begun a k) (parted a 1))) there ∙ closes_it o begun a k
+  marks_are : (k : ℕ) → is_open o begun k ≡ true → list_any (closes_conn k) (deed_marks o begun a (deed_if (is_open o begun k) k)) ≡ true
+  marks_are k there = ap (λ v. list_any (closes_conn k) (deed_marks o begun a (deed_if v k))) there ∙ closes_it o begun a k
 
-  closes_marks : list_any (closes_conn conn) (logout_marks o begun a) ≡ true
+  closes_marks : list_any (closes_conn conn) (marks_after o begun a) ≡ true
   closes_marks =
-      subst (λ k. list_any (closes_conn conn) (cond (is_open o begun k) (close_conn o begun a k) (parted a 1)) ≡ true) (sym names_it)
+      subst (λ k. list_any (closes_conn conn) (deed_marks o begun a (deed_if (is_open o begun k) k)) ≡ true) (sym names_it)
       (marks_are conn (and_both (is_known conn o.conns) (not (is_closed conn begun)) known (ap not unclosed)))
 
   pub items_are : items_of o now t (Arrive conn (parting conn)) ≡ with_turns o t (execution o t (Executes a) a)

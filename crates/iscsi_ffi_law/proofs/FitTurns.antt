@@ -12,11 +12,12 @@ use Rattle.iscsi_history.specs.declared.event.Event.{Event}
 use Rattle.iscsi_history.specs.declared.event.Event.TheVariants.{Arrive, Done}
 use Rattle.iscsi_history.specs.declared.kind.Kind.{Kind}
 use Rattle.iscsi_history.specs.declared.kind.Kind.TheVariants.{PassedOver, Unknown, Executes as ExecutesKind}
+use Rattle.iscsi_history.specs.rules.Deeds.{marks_after}
 use Rattle.iscsi_history.specs.rules.Settings.{Setting}
 use Rattle.iscsi_history.specs.rules.Trace.{Admits, Arrival, Command, Delivers, Executes, Ignores, Leaves, Mark, Trace, Waits, after_items, held, is_closed, is_received, number_received, received, waiting}
 use Rattle.iscsi_history.specs.rules.Execution.{completion, exp_of, ignored, max_of, rejected, reply_on, sense_of_status}
 use Rattle.iscsi_history.specs.rules.Management.{MOST_WAITING, may_wait, refusal_of_function, waiting_on}
-use Rattle.iscsi_history.specs.rules.Items.{agenda, at_number, execution, function_item, functions, functions_at, immediate_item, is_waiting, item_of, marks_after, turn_at, waiting_item}
+use Rattle.iscsi_history.specs.rules.Items.{agenda, at_number, execution, function_item, functions, functions_at, immediate_item, is_waiting, item_of, turn_at, waiting_item}
 use Rattle.iscsi_history.specs.rules.Agenda.{arrival, arrival_as, arrival_of, arrival_open, command_of, kind_of, numbered, with_turns}
 use Rattle.iscsi_history.specs.rules.Run.{after_event}
 use Rattle.iscsi_history.proofs.AbortRuns.{exp_item}

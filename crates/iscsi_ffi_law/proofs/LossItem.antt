@@ -1,5 +1,5 @@
 -- The event by which the session hears that a connection was lost has one item, of the Logout that closes it.
-use Rattle.std.proofs.Common.{◌≡◌, ℕ, ◌+◌, ◌-◌, ◌≤◌, ◌==◌, not, cond, Bool, true, false, List, [], ◌∷◌, ◌++◌, map, filter, filter_map, count_by, Some, None, refl, ap, sym, subst, ◌∙◌, arith, append_assoc}
+use Rattle.std.proofs.Common.{◌≡◌, ℕ, ◌+◌, ◌-◌, ◌≤◌, ◌==◌, not, Bool, true, false, List, [], ◌∷◌, ◌++◌, map, filter, filter_map, count_by, Some, None, refl, ap, sym, subst, ◌∙◌, arith, append_assoc}
 use Rattle.iscsi_wire.specs.Fields.{cmd_sn, connection_of, itt, request_of}
 use Rattle.iscsi_wire.specs.Serial.{number_of_first, wire}
 use Rattle.iscsi_wire.specs.declared.reply.Reply.{Reply}
@@ -7,8 +7,9 @@ use Rattle.iscsi_wire.specs.declared.reply.Reply.TheVariants.{Logout}
 use Rattle.iscsi_history.specs.declared.event.Event.TheVariants.{Arrive}
 use Rattle.iscsi_history.specs.rules.Agenda.{arrival_of, items_of}
 use Rattle.iscsi_history.specs.rules.Execution.{exp_of}
+use Rattle.iscsi_history.specs.rules.Deeds.{deed_marks, marks_after}
 use Rattle.iscsi_history.specs.rules.Items.{agenda, execution, functions}
-use Rattle.iscsi_history.specs.rules.Logout.{all_held, close_conn, is_last_open, is_open, live_of_units, logout_marks, parting as parted}
+use Rattle.iscsi_history.specs.rules.Logout.{all_held, is_last_open, is_open, live_of_units, parting as parted}
 use Rattle.iscsi_history.specs.rules.Settings.{Setting, is_known}
 use Rattle.iscsi_history.specs.rules.Trace.{Arrival, Command, Empties, Executes, Leaves, Mark, Trace, held, is_closed, live, waiting}
 use Rattle.iscsi_history.proofs.BoolLemmas.{and_both}
@@ -22,7 +23,7 @@ use Rattle.iscsi_outbox_law.specs.Pairs.{EachOf, InOrder}
 use Rattle.iscsi_ffi_law.proofs.FitArrivals.{AllAre}
 use Rattle.iscsi_ffi_law.proofs.FitEmptied.{emptied_fit}
 use Rattle.iscsi_ffi_law.proofs.FitMarks.{fewer_each}
-use Rattle.iscsi_ffi_law.proofs.FitParting.{items_are, names_it}
+use Rattle.iscsi_ffi_law.proofs.FitParting.{deed_if, items_are, names_it}
 use Rattle.iscsi_ffi_law.proofs.FitPrompt.{none_at}
 use Rattle.iscsi_ffi_law.proofs.FitReceived.{IsWired}
 use Rattle.iscsi_ffi_law.proofs.FitTurns.{none_received}
@@ -51,10 +52,10 @@ module _ (o : Setting) (now : ℕ) (t : Trace) (conn : ℕ) (known : is_known co
   abbrev pub the_item : List Mark
   the_item = parted_item AtArrival a cs bs (Logout (itt a.request) 0) (Some conn) ends
 
-  marks_are : logout_marks o begun a ≡ parted_marks a cs bs (Logout (itt a.request) 0) (Some conn) ends
+  marks_are : marks_after o begun a ≡ parted_marks a cs bs (Logout (itt a.request) 0) (Some conn) ends
   marks_are =
-      ap (λ k. cond (is_open o begun k) (close_conn o begun a k) (parted a 1)) (names_it o now t conn known unclosed)
-      ∙ ap (λ v. cond v (close_conn o begun a conn) (parted a 1)) (and_both (is_known conn o.conns) (not (is_closed conn begun)) known (ap not unclosed))
+      ap (λ k. deed_marks o begun a (deed_if (is_open o begun k) k)) (names_it o now t conn known unclosed)
+      ∙ ap (λ v. deed_marks o begun a (deed_if v conn)) (and_both (is_known conn o.conns) (not (is_closed conn begun)) known (ap not unclosed))
       ∙ append_assoc (map Leaves cs ++ map Empties bs) (parted a 0) (close_marks (Some conn) ends)
       ∙ append_assoc (map Leaves cs) (map Empties bs) (parted a 0 ++ close_marks (Some conn) ends)
 
@@ -86,7 +87,7 @@ module _ (o : Setting) (now : ℕ) (t : Trace) (conn : ℕ) (known : is_known co
   abbrev reply : Reply
   reply = Logout (itt a.request) 0
 
-  does : Does o t AtArrival a (logout_marks o begun a)
+  does : Does o t AtArrival a (marks_after o begun a)
   does = does_after o t AtArrival a
 
   seen : marks_done a does.deeds ≡ parted_marks a cs bs reply (Some conn) ends

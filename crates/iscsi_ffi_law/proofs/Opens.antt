@@ -1,30 +1,31 @@
 -- What a request does: it closes nothing and takes out no held request, or one of them and is answered then, or it is a Logout that closes.
-use Rattle.std.proofs.Common.{◌≡◌, ℕ, ◌==◌, ◌&&◌, cond, Bool, true, false, List, [], ◌∷◌, ◌++◌, filter, filter_map, map, Option, Some, None, refl, ap, ◌∙◌, nat_le, nat_lt, suc, zero, ◌+◌, ◌-◌, ◌≤◌, arith, append_assoc, ne_eqb, subst, not}
+use Rattle.std.proofs.Common.{◌≡◌, ℕ, ◌==◌, cond, Bool, true, false, List, [], ◌∷◌, ◌++◌, filter, filter_map, map, Option, Some, None, refl, ap, sym, ◌∙◌, suc, zero, ◌+◌, ◌-◌, ◌≤◌, arith, append_assoc, ne_eqb, subst, not}
 use Rattle.iscsi_ffi_law.proofs.Parting.{close_marks, parted_marks}
 use Rattle.iscsi_ffi_rules.specs.rules.Happening.{leaving}
 use Rattle.iscsi_outbox_law.proofs.PairLemmas.{each-append, each-filter, each-weaken}
 use Rattle.iscsi_outbox_law.specs.Pairs.{EachOf, InOrder}
 use Rattle.iscsi_history.proofs.HeldLemmas.{held-number}
-use Rattle.std.specs.List.{list_all, list_any, range_with_len}
+use Rattle.std.specs.List.{list_all, range_with_len}
 use Rattle.std.proofs.lemmas.Bool.{cond_both}
 use Rattle.std.proofs.lemmas.List.{append-nil}
 use Rattle.std.proofs.lemmas.List.Elements.{filter_map-append}
 use Rattle.iscsi_wire.specs.declared.reply.Reply.{Reply}
-use Rattle.iscsi_wire.specs.declared.reply.Reply.TheVariants.{Reject, Task, Logout}
-use Rattle.iscsi_wire.specs.Fields.{cid, connection_of, function, header_of, is_immediate, itt, opcode, ref_cmd_sn, rtt}
+use Rattle.iscsi_wire.specs.declared.reply.Reply.TheVariants.{Task, Logout}
+use Rattle.iscsi_wire.specs.Fields.{cid, connection_of, itt, ref_cmd_sn, rtt}
 use Rattle.iscsi_wire.specs.Serial.{lift, number_of_first}
-use Rattle.iscsi_history.specs.declared.verdict.Verdict.{Verdict}
-use Rattle.iscsi_history.specs.declared.verdict.Verdict.TheVariants.{Answer, Enter, Nothing}
-use Rattle.iscsi_history.specs.rules.Execution.{NO_TAG, exp_of, marks_of, max_of, reply_on, unit_named, verdict_of}
-use Rattle.iscsi_history.specs.rules.Items.{marks_after}
-use Rattle.iscsi_history.specs.rules.Logout.{close_conn, end_session, is_last_open, is_open, logout_marks, parting, taken_out, all_held, live_of_units}
-use Rattle.iscsi_history.specs.rules.Management.{abort_all, abort_missing, abort_task, answer, function_marks, function_to, held_command, is_before, live_with_tag, management_marks, query, refusal_of_function}
+use Rattle.iscsi_history.specs.declared.deed.Deed.{Deed}
+use Rattle.iscsi_history.specs.declared.deed.Deed.TheVariants.{Void, Empty, Abort, AbortEarlier, AbortAll, CloseConn, CloseSession}
+use Rattle.iscsi_history.specs.rules.Execution.{exp_of, reply_on}
+use Rattle.iscsi_history.specs.rules.Deeds.{facts_of, if_found, deed_marks, marks_after, function_marks}
+use Rattle.iscsi_history.specs.rules.Logout.{close_conn, end_session, is_last_open, parting, taken_out, all_held, live_of_units}
+use Rattle.iscsi_history.specs.rules.Management.{abort_all, answer, held_command, is_before, live_with_tag}
 use Rattle.iscsi_history.specs.rules.Settings.{Setting, is_known}
 use Rattle.iscsi_history.specs.rules.Trace.{Arrival, ClosesConn, ClosesSession, Command, Empties, Enters, Leaves, Mark, Sends, Trace, Voids, held, held_among, is_closed, is_received, live_in}
 use Rattle.iscsi_history.proofs.AbortMarks.{none_viewed}
 use Rattle.iscsi_history.proofs.Forms.{Deeds, if_some, marks_done}
 use Rattle.iscsi_history.proofs.NumberingLemmas.{passed, unseen}
 use Rattle.iscsi_history.proofs.BoolLemmas.{and_parts}
+use Rattle.iscsi_history.proofs.DeedTable.{Befits, befits_function, befits_deed}
 use Rattle.iscsi_ffi_law.specs.Arrived.{emptying}
 
 -- nothing is closed by it, and no held request is taken out
@@ -116,55 +117,6 @@ module _ (o : Setting) (t : Trace) (a : Arrival) where
   opens_all : (unit : ℕ) (covers : Command → Bool) → Opens o a (abort_all t a unit covers)
   opens_all unit covers = IsBare (bare_leaving (filter covers (live_in unit t)) (connection_of a.request) (Task (itt a.request) 0))
 
-  opens_missing : (n : ℕ) → Opens o a (abort_missing o t a n)
-  opens_missing n = by_tests (is_immediate a.request && nat_le (exp_of o t) n && nat_le n (max_of o t) && nat_lt n a.number) (is_received t n)
-    where
-      by_tests : (v w : Bool) → Opens o a (cond v (cond w [] (Voids n ∷ []) ++ answer a 0) (answer a 1))
-      by_tests true true = IsBare refl
-      by_tests true false = IsBare refl
-      by_tests false w = IsBare refl
-
-  opens_task : (unit : ℕ) → Opens o a (abort_task o t a unit)
-  opens_task unit = by_live (live_with_tag t (rtt a.request) unit)
-    where
-      by_held : (y : Option Arrival) → Opens o a (elim y [ Some h ↦ Empties h ∷ answer a 0 | None ↦ abort_missing o t a (lift (exp_of o t) (ref_cmd_sn a.request)) ])
-      by_held (Some h) = IsEmptying h (connection_of a.request) (Task (itt a.request) 0) refl
-      by_held None = by_tests (lift (exp_of o t) (ref_cmd_sn a.request)) (is_immediate a.request && nat_le (exp_of o t) (lift (exp_of o t) (ref_cmd_sn a.request)) && nat_le (lift (exp_of o t) (ref_cmd_sn a.request)) (max_of o t) && nat_lt (lift (exp_of o t) (ref_cmd_sn a.request)) a.number)
-          (is_received t (lift (exp_of o t) (ref_cmd_sn a.request)))
-        where
-          by_tests : (n : ℕ) (v w : Bool) → Opens o a (cond v (cond w [] (Voids n ∷ []) ++ answer a 0) (answer a 1))
-          by_tests n true true = IsBare refl
-          by_tests n true false = IsBare refl
-          by_tests n false w = IsBare refl
-
-      by_live : (x : Option Command) → Opens o a (elim x [ Some c ↦ Leaves c ∷ answer a 0 | None ↦ elim (held_command o t (rtt a.request) unit a.number) [ Some h ↦ Empties h ∷ answer a 0 | None ↦ abort_missing o t a (lift (exp_of o t) (ref_cmd_sn a.request)) ] ])
-      by_live (Some c) = IsBare refl
-      by_live None = by_held (held_command o t (rtt a.request) unit a.number)
-
-  opens_to : (unit : ℕ) → Opens o a (function_to o t a unit)
-  opens_to unit = by_tests (function a.request == 1) (function a.request == 5) (function a.request == 9) (function a.request == 10)
-    where
-      by_tests : (b c d e : Bool) → Opens o a (cond b (abort_task o t a unit) (cond c (abort_all t a unit (λ x. true)) (cond d (query a (list_any (λ x. itt x.arrival.request == rtt a.request) (live_in unit t))) (cond e (query a (list_any (λ x. true) (live_in unit t))) (abort_all t a unit (is_before a))))))
-      by_tests true c d e = opens_task unit
-      by_tests false true d e = opens_all unit (λ x. true)
-      by_tests false false true e = IsBare refl
-      by_tests false false false true = IsBare refl
-      by_tests false false false false = opens_all unit (is_before a)
-
-  pub opens_function : Opens o a (function_marks o t a)
-  opens_function = by_unit (unit_named o.units a.request)
-    where
-      by_unit : (x : Option ℕ) → Opens o a (elim x [ Some unit ↦ function_to o t a unit | None ↦ [] ])
-      by_unit (Some unit) = opens_to unit
-      by_unit None = IsBare refl
-
-  opens_management : Opens o a (management_marks o t a)
-  opens_management = by_refusal (refusal_of_function o a.request)
-    where
-      by_refusal : (x : Option Reply) → Opens o a (elim x [ Some reply ↦ reply_on a reply | None ↦ function_marks o t a ])
-      by_refusal (Some reply) = IsBare refl
-      by_refusal None = opens_function
-
   -- ---- Logout
 
   -- these are taken out, it is answered, and then something is closed
@@ -183,31 +135,35 @@ module _ (o : Setting) (t : Trace) (a : Arrival) where
   opens_close : (closing : ℕ) → is_known closing o.conns ≡ true → Opens o a (close_conn o t a closing)
   opens_close closing known = parts_by (λ conn. conn == closing) (Some closing) (is_last_open o t closing) (λ conn some. subst (λ c. is_known c o.conns ≡ true) (let its : closing ≡ conn = cc in its) known)
 
-  opens_logout : Opens o a (logout_marks o t a)
-  opens_logout = by_tests (itt a.request == NO_TAG) (function a.request == 0) (function a.request == 1) (is_open o t (cid a.request)) (function a.request == 2) refl
-    where
-      by_tests : (d e f g i : Bool) → is_open o t (cid a.request) ≡ g → Opens o a (cond d (reply_on a (Reject 9 (header_of a.request))) (cond e (end_session o t a) (cond f (cond g (close_conn o t a (cid a.request)) (parting a 1)) (cond i (parting a 2) (reply_on a (Reject 9 (header_of a.request)))))))
-      by_tests true e f g i is = IsBare refl
-      by_tests false true f g i is = opens_end
-      by_tests false false true true i is = opens_close (cid a.request) (and_parts (is_known (cid a.request) o.conns) (not (is_closed (cid a.request) t)) is).0
-      by_tests false false true false i is = IsBare refl
-      by_tests false false false g true is = IsBare refl
-      by_tests false false false g false is = IsBare refl
-
   -- ---- any request
 
-  opens_verdict : (v : Verdict) → Opens o a (marks_of t a v)
-  opens_verdict Nothing = IsBare refl
-  opens_verdict (Answer reply) = IsBare refl
-  opens_verdict (Enter unit) = IsBare refl
+  opens_deed : (d : Deed) → Befits (facts_of o t a) a.request d → Opens o a (deed_marks o t a d)
+  opens_deed Void b = by_known (is_received t (lift (exp_of o t) (ref_cmd_sn a.request)))
+    where
+      by_known : (w : Bool) → Opens o a (cond w [] (Voids (lift (exp_of o t) (ref_cmd_sn a.request)) ∷ []) ++ answer a 0)
+      by_known true = IsBare refl
+      by_known false = IsBare refl
+  opens_deed (Empty unit sn) b = by_held (held_command o t (rtt a.request) unit a.number)
+    where
+      by_held : (y : Option Arrival) → Opens o a (if_found Empties y ++ answer a 0)
+      by_held (Some h) = IsEmptying h (connection_of a.request) (Task (itt a.request) 0) refl
+      by_held None = IsBare refl
+  opens_deed (Abort unit ticket) b = by_live (live_with_tag t (rtt a.request) unit)
+    where
+      by_live : (x : Option Command) → Opens o a (if_found Leaves x ++ answer a 0)
+      by_live (Some c) = IsBare refl
+      by_live None = IsBare refl
+  opens_deed (AbortEarlier unit) b = opens_all unit (is_before a)
+  opens_deed (AbortAll unit) b = opens_all unit (λ x. true)
+  opens_deed (CloseConn closing) b = opens_close closing (subst (λ c. is_known c o.conns ≡ true) (sym b.0) (and_parts (is_known (cid a.request) o.conns) (not (is_closed (cid a.request) t)) b.1).0)
+  opens_deed CloseSession b = opens_end
+  opens_deed _ b = IsBare refl
+
+  pub opens_function : Opens o a (function_marks o t a)
+  opens_function = opens_deed _ (befits_function (facts_of o t a) a.request)
 
   pub opens_after : Opens o a (marks_after o t a)
-  opens_after = by_opcode (opcode a.request == 0x02) (opcode a.request == 0x06)
-    where
-      by_opcode : (d e : Bool) → Opens o a (cond d (management_marks o t a) (cond e (logout_marks o t a) (marks_of t a (verdict_of o t a.request))))
-      by_opcode true e = opens_management
-      by_opcode false true = opens_logout
-      by_opcode false false = opens_verdict (verdict_of o t a.request)
+  opens_after = opens_deed _ (befits_deed (facts_of o t a) a.request)
 
 pub opens_reply : (o : Setting) (a : Arrival) (reply : Reply) → Opens o a (reply_on a reply)
 opens_reply o a reply = IsBare refl

@@ -16,7 +16,8 @@ use Rattle.iscsi_history.proofs.ListLemmas.{any_filter}
 use Rattle.iscsi_history.proofs.TraceLemmas.{unadmitted, filter-same, filter-true}
 use Rattle.iscsi_history.proofs.AbortLemmas.{Fits}
 use Rattle.iscsi_history.proofs.Forms.{Start, AtTurn, AtArrival, AfterWaiting, start_mark, Deeds, marks_done, Form, Ignored, Rejected, Received, Postponed, Completed, Executed, marks_of_form, begun, is_completed_by, Sweeps, IsFormed}
-use Rattle.iscsi_history.proofs.FormItems.{live-begun, unset}
+use Rattle.iscsi_history.proofs.FormItems.{live-begun}
+use Rattle.iscsi_history.proofs.DeedTable.{unset}
 use Rattle.iscsi_history.proofs.FormRuns.{StandsAt, Stands, AnyArrival}
 use Rattle.iscsi_history.proofs.DeedLemmas.{begun_any, none_done}
 use Rattle.iscsi_history.proofs.TouchLemmas.{leaves_form, leaving_live}

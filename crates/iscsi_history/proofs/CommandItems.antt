@@ -1,13 +1,12 @@
 -- Items by which commands enter and leave, and the commands with a ticket.
-use Rattle.std.proofs.Common.{List, ap, count_by, not, ◌∷◌, ◌≡◌, [], refl, ◌&&◌, ◌==◌, Bool, filter, length, nat_le, option_map, ℕ, ◌++◌, ◌∙◌, ◌+◌, false, ◌||◌, cond, sym, true, None, Some, eq-eqb, ◌<◌, arith, nat_lt, map, subst}
+use Rattle.std.proofs.Common.{List, ap, count_by, not, ◌∷◌, ◌≡◌, [], refl, ◌&&◌, ◌==◌, Bool, filter, length, ℕ, ◌++◌, ◌∙◌, ◌+◌, false, ◌||◌, cond, sym, true, None, Some, eq-eqb, ◌<◌, arith, nat_lt, map, subst}
 use Rattle.std.specs.List.{list_any, filter_map, list_all, range_with_len, flat_map}
 use Rattle.std.proofs.lemmas.List.{append-nil}
 use Rattle.std.proofs.lemmas.Bool.{eqb-true, false≢true}
 use Rattle.iscsi_wire.specs.Fields.{is_immediate, connection_of, itt}
-use Rattle.iscsi_wire.specs.declared.request.Request.{Request}
 use Rattle.iscsi_wire.specs.declared.reply.Reply.TheVariants.{Scsi}
 use Rattle.iscsi_history.specs.rules.Trace.{Command, Mark, Trace, Admits, Arrival, entered, enters, leaves_ticket, live, live_in, is_among, are_apart, first_of, Leaves, waiting_through, sent_on}
-use Rattle.iscsi_history.specs.rules.Execution.{unfinished, request_verdict, unit_named, verdict_of, reply_on, sense_of_status}
+use Rattle.iscsi_history.specs.rules.Execution.{unfinished, reply_on, sense_of_status}
 use Rattle.iscsi_history.specs.rules.Settings.{Setting}
 use Rattle.iscsi_history.proofs.NewlyLemmas.{Untouched, live-untouched, both_all}
 use Rattle.iscsi_history.proofs.TraceLemmas.{live-leaves, weaker}
@@ -29,11 +28,6 @@ unfinished-untouched item t u = ap (λ (cs : List Command). count_by (λ (c : Co
 
 pub untouched-admits : (a : Arrival) → Untouched (Admits a ∷ [])
 untouched-admits a = record { enters_none = refl; leaves_no = λ k. refl }
-
--- it is the same after an item that nothing enters or leaves by
-pub verdict-untouched : (o : Setting) (t : Trace) (item : List Mark) (r : Request) → Untouched item → verdict_of o (item ∷ t) r ≡ verdict_of o t r
-verdict-untouched o t item r u =
-    ap (λ (cs : List Command). request_verdict r (list_any (λ c. itt c.arrival.request == itt r) cs) (is_immediate r && nat_le 8 (count_by (λ (c : Command). is_immediate c.arrival.request && connection_of c.arrival.request == connection_of r) cs)) (option_map {U = ℕ × Bool} (λ unit. (unit, nat_le o.depth (length (filter (λ (c : Command). c.unit == unit) cs)))) (unit_named o.units r))) (live-untouched item t u)
 
 pub entered-untouched : (item : List Mark) (t : Trace) → Untouched item → entered (item ∷ t) ≡ entered t
 entered-untouched item t u = ap (λ cs. entered t ++ cs) u.enters_none ∙ append-nil (entered t)

@@ -3,10 +3,8 @@ use Rattle.std.proofs.Common.{List, ◌∷◌, refl, [], false, ℕ, ◌≡◌, 
 use Rattle.std.specs.List.{filter_map, list_any, cons_option, range_with_len}
 use Rattle.std.proofs.lemmas.List.{append-nil}
 use Rattle.std.proofs.lemmas.Grind.{flat_map-append}
-use Rattle.iscsi_history.specs.rules.Trace.{Arrival, Executes, Mark, Trace, admits_at, delivers_number, empties_number, number_received, Voids, Empties, admitted, contains, first_of, held, is_delivered, is_emptied, is_received, shown, received, Command, Leaves, held_among, has}
-use Rattle.iscsi_history.specs.declared.verdict.Verdict.TheVariants.{Answer, Enter as EnterUnit, Nothing}
-use Rattle.iscsi_history.specs.declared.verdict.Verdict.{Verdict}
-use Rattle.iscsi_history.specs.rules.Execution.{marks_of}
+use Rattle.iscsi_history.specs.rules.Trace.{Arrival, Executes, Mark, Trace, admits_at, delivers_number, empties_number, number_received, Voids, Empties, admitted, contains, first_of, held, is_delivered, is_emptied, is_received, shown, received, Command, Leaves, Enters, Sends, held_among, has}
+use Rattle.iscsi_wire.specs.declared.reply.Reply.{Reply}
 use Rattle.iscsi_history.specs.promises.Executed.{delivers, request_at}
 use Rattle.iscsi_history.proofs.DeliveryLemmas.{IsQuiet}
 use Rattle.iscsi_history.proofs.ListLemmas.{none_first, range-parts}
@@ -18,10 +16,14 @@ use Rattle.iscsi_history.proofs.TraceLemmas.{received-item}
 pub quiet_executes : (a : Arrival) (ms : List Mark) → IsQuiet ms → IsQuiet (Executes a ∷ ms)
 quiet_executes a ms q = record { receives = q.receives; admits = q.admits; delivers_none = q.delivers_none; delivers_no = q.delivers_no; empties_no = q.empties_no }
 
-pub quiet-marks : (t : Trace) (a : Arrival) (v : Verdict) → IsQuiet (marks_of t a v)
-quiet-marks t a Nothing = record { receives = refl; admits = λ n. refl; delivers_none = refl; delivers_no = λ n. refl; empties_no = λ n. refl }
-quiet-marks t a (Answer reply) = record { receives = refl; admits = λ n. refl; delivers_none = refl; delivers_no = λ n. refl; empties_no = λ n. refl }
-quiet-marks t a (EnterUnit unit) = record { receives = refl; admits = λ n. refl; delivers_none = refl; delivers_no = λ n. refl; empties_no = λ n. refl }
+pub quiet_none : IsQuiet []
+quiet_none = record { receives = refl; admits = λ n. refl; delivers_none = refl; delivers_no = λ n. refl; empties_no = λ n. refl }
+
+pub quiet_sends : (conn : ℕ) (reply : Reply) → IsQuiet (Sends conn reply ∷ [])
+quiet_sends conn reply = record { receives = refl; admits = λ n. refl; delivers_none = refl; delivers_no = λ n. refl; empties_no = λ n. refl }
+
+pub quiet_enters : (c : Command) → IsQuiet (Enters c ∷ [])
+quiet_enters c = record { receives = refl; admits = λ n. refl; delivers_none = refl; delivers_no = λ n. refl; empties_no = λ n. refl }
 
 -- ---- the items
 

@@ -1,5 +1,5 @@
 -- Each item has a form: what a request does that executes.
-use Rattle.std.proofs.Common.{◌≡◌, ℕ, zero, suc, ◌+◌, ◌<◌, ◌≤◌, ◌==◌, ◌&&◌, ◌||◌, not, ⊎_elim, cond, Bool, true, false, List, [], ◌∷◌, ◌++◌, length, filter, count_by, Option, Some, None, refl, ap, sym, subst, ◌∙◌, arith, nat_lt, nat_le, append_assoc, eq-eqb}
+use Rattle.std.proofs.Common.{◌≡◌, ℕ, zero, suc, ◌+◌, ◌<◌, ◌≤◌, ◌==◌, ◌&&◌, ◌||◌, not, ⊎_elim, cond, Bool, true, false, List, [], ◌∷◌, ◌++◌, length, filter, count_by, Option, Some, None, option_map, refl, ap, sym, subst, ◌∙◌, arith, nat_lt, nat_le, append_assoc, eq-eqb}
 use Rattle.std.specs.List.{list_any, list_all, flat_map, range_with_len}
 use Rattle.std.proofs.lemmas.Bool.{false≢true, eqb-true}
 use Rattle.std.proofs.lemmas.Bool.Decides.{nat_tests}
@@ -7,25 +7,27 @@ use Rattle.std.proofs.lemmas.List.{append-nil}
 use Rattle.std.proofs.lemmas.List.Sums.{sum_by-cons, sum_by-append}
 use Rattle.iscsi_wire.specs.declared.reply.Reply.{Reply}
 use Rattle.iscsi_wire.specs.declared.request.Request.{Request}
-use Rattle.iscsi_wire.specs.declared.reply.Reply.TheVariants.{Task, Logout, Reject}
+use Rattle.iscsi_wire.specs.declared.reply.Reply.TheVariants.{Task, Logout}
 use Rattle.iscsi_wire.specs.Serial.{lift}
-use Rattle.iscsi_wire.specs.Fields.{attr_code, connection_of, header_of, is_immediate, opcode, function, itt, rtt, cid, ref_cmd_sn}
-use Rattle.iscsi_history.specs.declared.verdict.Verdict.{Verdict}
-use Rattle.iscsi_history.specs.declared.verdict.Verdict.TheVariants.{Nothing, Answer, Enter}
+use Rattle.iscsi_wire.specs.Fields.{attr_code, connection_of, is_immediate, opcode, function, itt, rtt, ref_cmd_sn}
+use Rattle.iscsi_history.specs.declared.deed.Answer.{Answer}
+use Rattle.iscsi_history.specs.declared.deed.Answer.TheVariants.{Reject, Pong, NoUnit, Full, Respond, LogOut}
+use Rattle.iscsi_history.specs.declared.deed.Deed.{Deed}
+use Rattle.iscsi_history.specs.declared.deed.Deed.TheVariants.{Nothing, Wait, Reply as Replies, Enter, Void, Empty, Abort, AbortEarlier, AbortAll, CloseConn, CloseSession}
 use Rattle.iscsi_history.specs.rules.Settings.{Setting, is_known}
 use Rattle.iscsi_history.specs.rules.Trace.{Arrival, Command, Mark, Delivers, Executes, Voids, Empties, Leaves, Enters, Trace, first_of, received, is_received, held, held_among, entered, live, live_in, is_closed}
-use Rattle.iscsi_history.specs.rules.Execution.{attr_of, exp_of, max_of, NO_TAG, unit_named, is_tag_live, is_crowded, place_named, verdict_of, reply_on, next_command, marks_of}
-use Rattle.iscsi_history.specs.rules.Management.{refusal_of_function, answer, held_requests, held_command, live_with_tag, abort_missing, abort_task, is_before, abort_all, query, function_to, function_marks, management_marks}
-use Rattle.iscsi_history.specs.rules.Logout.{is_open, is_last_open, live_of_units, all_held, parting, end_session, close_conn, logout_marks}
-use Rattle.iscsi_history.specs.rules.Items.{marks_after}
+use Rattle.iscsi_history.specs.rules.Execution.{attr_of, exp_of, max_of, unit_named, reply_on, next_command, reply_of}
+use Rattle.iscsi_history.specs.rules.Management.{refusal_of_function, answer, held_requests, held_command, live_with_tag, is_before, abort_all, refusal}
+use Rattle.iscsi_history.specs.rules.Logout.{is_open, is_last_open, live_of_units, all_held, end_session, close_conn}
+use Rattle.iscsi_history.specs.rules.Deeds.{Facts, function_deed, deed_of, facts_of, if_found, deed_marks, marks_after, function_marks}
 use Rattle.iscsi_history.specs.promises.Aborts.{is_set_abort, is_abort, is_complete}
 use Rattle.iscsi_history.specs.promises.Answers.{Answers}
-use Rattle.iscsi_history.proofs.BoolLemmas.{and_first, and_parts, not_true, or_false}
+use Rattle.iscsi_history.proofs.BoolLemmas.{and_first, and_second, and_parts, not_true, or_false}
 use Rattle.iscsi_history.proofs.ListLemmas.{fewer_counted}
 use Rattle.iscsi_history.proofs.ElementLemmas.{In, in-filter, first-in}
 use Rattle.iscsi_history.proofs.TraceLemmas.{live-quiet}
 use Rattle.iscsi_history.proofs.HeldLemmas.{held-number}
-use Rattle.iscsi_history.proofs.VerdictLemmas.{verdict_below, verdict_answers, refusal_answers, refused_incomplete}
+use Rattle.iscsi_history.proofs.DeedTable.{named_below, Befits, unset, befits_function, befits_deed, refused_otherwise, through_function}
 use Rattle.iscsi_history.proofs.Forms.{Start, AtTurn, AtArrival, AfterWaiting, Deeds, idle, marks_done, begun, Each, is_closing, is_completed_by, Sweeps, IsDone}
 
 -- ---- the mark by which a request executes changes nothing else
@@ -119,10 +121,6 @@ known_last t closing k (c ∷ conns) all known =
       | false ↦ λ is found. known_last t closing k conns parts.1 found
     ] refl known
 
--- a function of this number is no abort of a whole set
-pub unset : (r : Request) (n : ℕ) → (function r == n) ≡ true → (n == 2 || n == 4 || n == 5) ≡ false → is_set_abort r ≡ false
-unset r n is other = ap (λ m. m == 2 || m == 4 || m == 5) (eqb-true (function r) n is) ∙ other
-
 pub record Does (o : Setting) (t : Trace) (start : Start) (a : Arrival) (ms : List Mark) : Type 0 where
   pub deeds : Deeds
   pub is : ms ≡ marks_done a deeds
@@ -139,6 +137,23 @@ pub record DoesAny (o : Setting) (t : Trace) (start : Start) (a : Arrival) (ms :
   pub does : Does o t start a ms
   pub accepted : is_abort a.request ≡ true → is_completed_by a does.deeds ≡ true → refusal_of_function o a.request ≡ None
   pub sweeps : is_abort a.request ≡ true → is_set_abort a.request ≡ true → is_completed_by a does.deeds ≡ true → Sweeps o (begun start a t) a does.deeds
+
+-- it closes something
+abbrev closes : Deed → Bool
+closes (CloseConn closing) = true
+closes CloseSession = true
+closes _ = false
+
+abbrev is_refused : Deed → Bool
+is_refused (Replies x) = true
+is_refused _ = false
+
+-- it does so: it closes nothing else, an abort of a whole set that is completed takes out what that covers, and an answer that completes is Function complete
+record DoesWell (o : Setting) (t : Trace) (start : Start) (a : Arrival) (d : Deed) (ms : List Mark) : Type 0 where
+  does : Does o t start a ms
+  stays : closes d ≡ false → is_closing does.deeds ≡ false
+  sweeps : is_set_abort a.request ≡ true → is_completed_by a does.deeds ≡ true → Sweeps o (begun start a t) a does.deeds
+  accepted : (x : Answer) → d ≡ Replies x → is_completed_by a does.deeds ≡ true → x ≡ Respond 0
 
 module _ (o : Setting) (t : Trace) (start : Start) (a : Arrival) where
   t' : Trace
@@ -196,100 +211,18 @@ module _ (o : Setting) (t : Trace) (start : Start) (a : Arrival) where
     takes_out = λ h. absurd (false≢true h);
   }
 
-  -- ---- functions
-
-  -- one that is no abort of a whole set
-  does_other : (d : Deeds) → IsDone o t start a d → is_closing d ≡ false → is_set_abort a.request ≡ false → DoesFunction o t start a (marks_done a d)
-  does_other d done stays other = record { does = record { deeds = d; is = refl; done = done }; stays = stays; sweeps = λ set h. absurd (false≢true (sym other ∙ set)) }
-
-  does_answer : (response : ℕ) → is_set_abort a.request ≡ false → DoesFunction o t start a (answer a response)
-  does_answer response other = does_other (record idle { reply = Some (Task (itt a.request) response) }) (reply_done (Task (itt a.request) response) refl) refl other
-
-  does_missing : (n : ℕ) → (function a.request == 1) ≡ true → is_set_abort a.request ≡ false → DoesFunction o t start a (abort_missing o t' a n)
+  -- a number is voided, if it wasn't received before
+  void_done : (n : ℕ) → is_received t' n ≡ false → is_immediate a.request ≡ true → (function a.request == 1) ≡ true → IsDone o t start a (record idle { void = Some n; reply = Some (Task (itt a.request) 0) })
   unfolding t'
-  does_missing n one other =
-      elim (is_immediate a.request && nat_le (exp_of o t') n && nat_le n (max_of o t') && nat_lt n a.number) as (λ b. (is_immediate a.request && nat_le (exp_of o t') n && nat_le n (max_of o t') && nat_lt n a.number) ≡ b
-      → DoesFunction o t start a (cond b (cond (is_received t' n) [] (Voids n ∷ []) ++ answer a 0) (answer a 1))) [
-        | true ↦ λ tests. elim (is_received t' n) as (λ b. is_received t' n ≡ b → DoesFunction o t start a (cond b [] (Voids n ∷ []) ++ answer a 0)) [
-          | true ↦ λ is. does_answer 0 other
-          | false ↦ λ is. does_other (record idle { void = Some n; reply = Some (Task (itt a.request) 0) })
-              (record {
-                voids = ap (λ ns. list_any (λ k. k == n) ns) (sym (received-begun start a t)) ∙ is;
-                missing = (and_first (is_immediate a.request) (nat_le (exp_of o t') n) (and_first (is_immediate a.request && nat_le (exp_of o t') n) (nat_le n (max_of o t')) (and_first _ (nat_lt n a.number) tests)), one);
-                leaves = λ p. omega arith;
-                empties = λ b h. absurd h;
-                enters = tt;
-                answers = refl;
-                takes_out = λ h. absurd (false≢true h);
-              }) refl other
-        ] refl
-        | false ↦ λ tests. does_answer 1 other
-      ] refl
-
-  does_task : (unit : ℕ) → (function a.request == 1) ≡ true → is_set_abort a.request ≡ false → DoesFunction o t start a (abort_task o t' a unit)
-  unfolding t'
-  does_task unit one other = by_live (live_with_tag t' (rtt a.request) unit) refl
-    where
-      by_held : (y : Option Arrival) → held_command o t' (rtt a.request) unit a.number ≡ y → DoesFunction o t start a (elim y [ Some h ↦ Empties h ∷ answer a 0 | None ↦ abort_missing o t' a (lift (exp_of o t') (ref_cmd_sn a.request)) ])
-      by_held (Some h) is = does_other _ (empty_done h (in-held_among t' _ h (in-filter _ (held_requests o t') h (first-in _ h is)).0)) refl other
-      by_held None is = does_missing (lift (exp_of o t') (ref_cmd_sn a.request)) one other
-
-      by_live : (x : Option Command) → live_with_tag t' (rtt a.request) unit ≡ x
-          → DoesFunction o t start a (elim x [ Some c ↦ Leaves c ∷ answer a 0 | None ↦ elim (held_command o t' (rtt a.request) unit a.number) [ Some h ↦ Empties h ∷ answer a 0 | None ↦ abort_missing o t' a (lift (exp_of o t') (ref_cmd_sn a.request)) ] ])
-      by_live (Some c) is =
-          does_other _ (leave_done (c ∷ []) (λ p. omega (arith, first_counted p _ c is, fewer_counted p (λ (d : Command). itt d.arrival.request == rtt a.request) (live_in unit t'), fewer_counted p (λ (d : Command). d.unit == unit) (live t')))) refl other
-      by_live None is = by_held (held_command o t' (rtt a.request) unit a.number) refl
-
-  -- it takes out these of the unit's set
-  does_all : (unit : ℕ) → unit_named o.units a.request ≡ Some unit → (covers : Command → Bool) → ((c : Command) → is_before a c ≡ true → covers c ≡ true) → ((function a.request == 5) ≡ true → (c : Command) → covers c ≡ true)
-      → DoesFunction o t start a (abort_all t' a unit covers)
-  unfolding t'
-  does_all unit named covers early whole = record {
-    does = record {
-      deeds = record idle { leaving = filter covers (live_in unit t'); reply = Some (Task (itt a.request) 0) };
-      is = refl;
-      done = leave_done (filter covers (live_in unit t')) (λ p. omega (arith, fewer_counted p covers (live_in unit t'), fewer_counted p (λ (d : Command). d.unit == unit) (live t')));
-    };
-    stays = refl;
-    sweeps = λ set h. record { unit = unit; named = named; covers = covers; early = early; whole = whole; is = refl };
+  void_done n new immediate one = record {
+    voids = ap (λ ns. list_any (λ k. k == n) ns) (sym (received-begun start a t)) ∙ new;
+    missing = (immediate, one);
+    leaves = λ p. omega arith;
+    empties = λ b h. absurd h;
+    enters = tt;
+    answers = refl;
+    takes_out = λ h. absurd (false≢true h);
   }
-
-  does_to : (unit : ℕ) → unit_named o.units a.request ≡ Some unit → DoesFunction o t start a (function_to o t' a unit)
-  unfolding t'
-  does_to unit named = by_tests (function a.request == 1) (function a.request == 5) (function a.request == 9) (function a.request == 10) refl refl refl refl
-    where
-      by_tests : (b c d e : Bool) → (function a.request == 1) ≡ b → (function a.request == 5) ≡ c → (function a.request == 9) ≡ d → (function a.request == 10) ≡ e
-          → DoesFunction o t start a (cond b (abort_task o t' a unit) (cond c (abort_all t' a unit (λ x. true)) (cond d (query a (list_any (λ x. itt x.arrival.request == rtt a.request) (live_in unit t'))) (cond e (query a (list_any (λ x. true) (live_in unit t'))) (abort_all t' a unit (is_before a))))))
-      by_tests true c d e one five nine ten = does_task unit one (unset a.request 1 one refl)
-      by_tests false true d e one five nine ten = does_all unit named (λ x. true) (λ c h. refl) (λ h c. refl)
-      by_tests false false true e one five nine ten = does_answer (cond (list_any (λ x. itt x.arrival.request == rtt a.request) (live_in unit t')) 7 0) (unset a.request 9 nine refl)
-      by_tests false false false true one five nine ten = does_answer (cond (list_any (λ x. true) (live_in unit t')) 7 0) (unset a.request 10 ten refl)
-      by_tests false false false false one five nine ten = does_all unit named (is_before a) (λ c h. h) (λ h c. absurd (false≢true (sym five ∙ h)))
-
-  pub function_does : DoesFunction o t start a (function_marks o (begun start a t) a)
-  unfolding t'
-  function_does =
-      elim (unit_named o.units a.request) as (λ x. unit_named o.units a.request ≡ x → DoesFunction o t start a (elim x [ Some unit ↦ function_to o t' a unit | None ↦ [] ])) [
-        | Some unit ↦ λ named. does_to unit named
-        | None ↦ λ named. record { does = record { deeds = idle; is = refl; done = idle_done }; stays = refl; sweeps = λ set h. absurd (false≢true h) }
-      ] refl
-
-  pub does_function : Does o t start a (function_marks o (begun start a t) a)
-  does_function = function_does.does
-
-  does_management : DoesAny o t start a (management_marks o t' a)
-  unfolding t'
-  does_management = by_refusal (refusal_of_function o a.request) refl
-    where
-      by_refusal : (x : Option Reply) → refusal_of_function o a.request ≡ x → DoesAny o t start a (elim x [ Some reply ↦ reply_on a reply | None ↦ function_marks o t' a ])
-      by_refusal (Some reply) is =
-          let incomplete : is_complete (itt a.request) reply ≡ false = refused_incomplete o a.request reply (itt a.request) is in
-          record {
-            does = record { deeds = record idle { reply = Some reply }; is = refl; done = reply_done reply (refusal_answers o.level o.units a.request reply is) };
-            accepted = λ aborts h. absurd (false≢true (sym incomplete ∙ h));
-            sweeps = λ aborts set h. absurd (false≢true (sym incomplete ∙ h));
-          }
-      by_refusal None is = record { does = function_does.does; accepted = λ aborts h. is; sweeps = λ aborts set h. function_does.sweeps set h }
 
   -- ---- Logout
 
@@ -327,51 +260,158 @@ module _ (o : Setting) (t : Trace) (start : Start) (a : Arrival) where
     };
   }
 
-  does_end : Does o t start a (end_session o t' a)
-  unfolding t'
-  does_end = subst (Does o t start a) (simp append_assoc) (does_part (λ conn. true) None true tt (λ ends conn here. refl))
+  -- it is answered by a Logout Response
+  closes_well : (d : Deed) (ms : List Mark) → closes d ≡ true → is_refused d ≡ false → (does : Does o t start a ms) → is_completed_by a does.deeds ≡ false → DoesWell o t start a d ms
+  closes_well d ms closing not_refused does none = record {
+    does = does;
+    stays = λ h. absurd (false≢true (sym h ∙ closing));
+    sweeps = λ set h. absurd (false≢true (sym none ∙ h));
+    accepted = λ x is. absurd (false≢true (sym not_refused ∙ ap is_refused is));
+  }
 
-  does_close : (closing : ℕ) → Does o t start a (close_conn o t' a closing)
-  unfolding t'
-  does_close closing = subst (Does o t start a) (simp append_assoc) (does_part (λ conn. conn == closing) (Some closing) (is_last_open o t' closing) (eq-eqb closing closing refl) last)
+  does_end : DoesWell o t start a CloseSession (end_session o t' a)
+  unfolding t' does_part
+  does_end = subst (DoesWell o t start a CloseSession) (simp append_assoc) (closes_well CloseSession _ refl refl (does_part (λ conn. true) None true tt (λ ends conn here. refl)) refl)
+
+  does_close : (closing : ℕ) → DoesWell o t start a (CloseConn closing) (close_conn o t' a closing)
+  unfolding t' does_part
+  does_close closing = subst (DoesWell o t start a (CloseConn closing)) (simp append_assoc) (closes_well (CloseConn closing) _ refl refl (does_part (λ conn. conn == closing) (Some closing) (is_last_open o t' closing) (eq-eqb closing closing refl) last) refl)
     where
       last : is_last_open o t' closing ≡ true → (conn : ℕ) → is_open o t' conn ≡ true → (conn == closing) ≡ true
       last ends conn here =
           let parts = and_parts (is_known conn o.conns) (not (is_closed conn t')) here in
           sym (or_false (conn == closing)) ∙ ap (λ x. (conn == closing) || x) (sym (not_true (is_closed conn t') parts.1)) ∙ known_last t' closing conn o.conns ends parts.0
 
-  does_logout : Does o t start a (logout_marks o t' a)
+  -- ---- what a request does
+
+  -- a reply has the request's tag, or its header
+  reply_answers : (x : Answer) → Answers a.request (reply_of a.request x)
+  reply_answers (Reject reason) = refl
+  reply_answers Pong = refl
+  reply_answers NoUnit = refl
+  reply_answers Full = refl
+  reply_answers (Respond response) = refl
+  reply_answers (LogOut response) = refl
+
+  completed_is : (x : Answer) → is_complete (itt a.request) (reply_of a.request x) ≡ true → x ≡ Respond 0
+  completed_is (Respond response) h = ap Respond (eqb-true response 0 (and_second (itt a.request == itt a.request) (response == 0) h))
+  completed_is (Reject reason) h = absurd (false≢true h)
+  completed_is Pong h = absurd (false≢true h)
+  completed_is NoUnit h = absurd (false≢true h)
+  completed_is Full h = absurd (false≢true h)
+  completed_is (LogOut response) h = absurd (false≢true h)
+
+  abbrev DoesDeed : Deed → Type 0
+  DoesDeed d = DoesWell o t start a d (deed_marks o t' a d)
+
+  -- a function that is no abort of a whole set takes this out, or nothing
+  does_single : (d : Deed) (ds : Deeds) → IsDone o t start a ds → is_closing ds ≡ false → (function a.request == 1) ≡ true → is_refused d ≡ false → DoesWell o t start a d (marks_done a ds)
+  does_single d ds done stays one not_refused = record {
+    does = record { deeds = ds; is = refl; done = done };
+    stays = λ h. stays;
+    sweeps = λ set h. absurd (false≢true (sym (unset a.request 1 one refl) ∙ set));
+    accepted = λ x is. absurd (false≢true (sym not_refused ∙ ap is_refused is));
+  }
+
+  does_void : Befits (facts_of o t' a) a.request Void → DoesDeed Void
   unfolding t'
-  does_logout = by_tests (itt a.request == NO_TAG) (function a.request == 0) (function a.request == 1) (is_open o t' (cid a.request)) (function a.request == 2)
+  does_void befits = by_known (is_received t' n) refl
     where
-      by_tests : (d e f g i : Bool) → Does o t start a (cond d (reply_on a (Reject 9 (header_of a.request))) (cond e (end_session o t' a) (cond f (cond g (close_conn o t' a (cid a.request)) (parting a 1)) (cond i (parting a 2) (reply_on a (Reject 9 (header_of a.request)))))))
-      by_tests true e f g i = does_reply (Reject 9 (header_of a.request)) refl
-      by_tests false true f g i = does_end
-      by_tests false false true true i = does_close (cid a.request)
-      by_tests false false true false i = does_reply (Logout (itt a.request) 1) refl
-      by_tests false false false g true = does_reply (Logout (itt a.request) 2) refl
-      by_tests false false false g false = does_reply (Reject 9 (header_of a.request)) refl
+      n : ℕ
+      n = lift (exp_of o t') (ref_cmd_sn a.request)
 
-  -- ---- other requests
+      by_known : (b : Bool) → is_received t' n ≡ b → DoesWell o t start a Void (cond b [] (Voids n ∷ []) ++ answer a 0)
+      by_known true is = does_single Void _ (reply_done (Task (itt a.request) 0) refl) refl befits.0 refl
+      by_known false is = does_single Void _ (void_done n is (and_first (is_immediate a.request) (nat_le (exp_of o t') n) (and_first (is_immediate a.request && nat_le (exp_of o t') n) (nat_le n (max_of o t')) (and_first _ (nat_lt n a.number) befits.1))) befits.0) refl befits.0 refl
 
-  does_verdict : (v : Verdict) → verdict_of o t' a.request ≡ v → Does o t start a (marks_of t' a v)
+  does_empty : (unit sn : ℕ) → (function a.request == 1) ≡ true → DoesDeed (Empty unit sn)
   unfolding t'
-  does_verdict Nothing is = does_nothing
-  does_verdict (Answer reply) is = does_reply reply (verdict_answers a.request (is_tag_live t' (itt a.request)) (is_crowded t' a.request) (place_named o t' a.request) reply is)
-  does_verdict (Enter unit) is = does_enter unit (verdict_below o t' a unit is)
+  does_empty unit sn one = by_held (held_command o t' (rtt a.request) unit a.number) refl
+    where
+      by_held : (y : Option Arrival) → held_command o t' (rtt a.request) unit a.number ≡ y → DoesWell o t start a (Empty unit sn) (if_found Empties y ++ answer a 0)
+      by_held (Some h) is = does_single (Empty unit sn) _ (empty_done h (in-held_among t' _ h (in-filter _ (held_requests o t') h (first-in _ h is)).0)) refl one refl
+      by_held None is = does_single (Empty unit sn) _ (reply_done (Task (itt a.request) 0) refl) refl one refl
+
+  does_abort : (unit ticket : ℕ) → (function a.request == 1) ≡ true → DoesDeed (Abort unit ticket)
+  unfolding t'
+  does_abort unit ticket one = by_live (live_with_tag t' (rtt a.request) unit) refl
+    where
+      by_live : (x : Option Command) → live_with_tag t' (rtt a.request) unit ≡ x → DoesWell o t start a (Abort unit ticket) (if_found Leaves x ++ answer a 0)
+      by_live (Some c) is =
+          does_single (Abort unit ticket) _ (leave_done (c ∷ []) (λ p. omega (arith, first_counted p _ c is, fewer_counted p (λ (d : Command). itt d.arrival.request == rtt a.request) (live_in unit t'), fewer_counted p (λ (d : Command). d.unit == unit) (live t')))) refl one refl
+      by_live None is = does_single (Abort unit ticket) _ (reply_done (Task (itt a.request) 0) refl) refl one refl
+
+  -- it takes out these of the unit's set
+  does_all : (d : Deed) → is_refused d ≡ false → (unit : ℕ) → unit_named o.units a.request ≡ Some unit → (covers : Command → Bool) → ((c : Command) → is_before a c ≡ true → covers c ≡ true) → ((function a.request == 5) ≡ true → (c : Command) → covers c ≡ true)
+      → DoesWell o t start a d (abort_all t' a unit covers)
+  unfolding t'
+  does_all d not_refused unit named covers early whole = record {
+    does = record {
+      deeds = record idle { leaving = filter covers (live_in unit t'); reply = Some (Task (itt a.request) 0) };
+      is = refl;
+      done = leave_done (filter covers (live_in unit t')) (λ p. omega (arith, fewer_counted p covers (live_in unit t'), fewer_counted p (λ (c : Command). c.unit == unit) (live t')));
+    };
+    stays = λ h. refl;
+    sweeps = λ set h. record { unit = unit; named = named; covers = covers; early = early; whole = whole; is = refl };
+    accepted = λ x is. absurd (false≢true (sym not_refused ∙ ap is_refused is));
+  }
+
+  -- it closes something, or a command enters, or nothing happens: no function is completed by that
+  does_other : (d : Deed) (ms : List Mark) (does : Does o t start a ms) → (closes d ≡ false → is_closing does.deeds ≡ false) → is_completed_by a does.deeds ≡ false → is_refused d ≡ false → DoesWell o t start a d ms
+  does_other d ms does stays none not_refused = record {
+    does = does;
+    stays = stays;
+    sweeps = λ set h. absurd (false≢true (sym none ∙ h));
+    accepted = λ x is. absurd (false≢true (sym not_refused ∙ ap is_refused is));
+  }
+
+  does_deed : (d : Deed) → Befits (facts_of o t' a) a.request d → DoesDeed d
+  unfolding t' does_nothing does_reply does_enter
+  does_deed Nothing befits = does_other Nothing [] does_nothing (λ h. refl) refl refl
+  does_deed Wait befits = does_other Wait [] does_nothing (λ h. refl) refl refl
+  does_deed (Replies x) befits = record {
+    does = does_reply (reply_of a.request x) (reply_answers x);
+    stays = λ h. refl;
+    sweeps = λ set h. absurd (befits set (completed_is x h));
+    accepted = λ y is h. let same : x ≡ y = cc in sym same ∙ completed_is x h;
+  }
+  does_deed (Enter unit) befits = does_other (Enter unit) _ (does_enter unit (named_below o.units a.request unit befits.named)) (λ h. refl) refl refl
+  does_deed Void befits = does_void befits
+  does_deed (Empty unit sn) befits = does_empty unit sn befits.0
+  does_deed (Abort unit ticket) befits = does_abort unit ticket befits.0
+  does_deed (AbortEarlier unit) befits = does_all (AbortEarlier unit) refl unit befits.0 (is_before a) (λ c h. h) (λ h c. absurd (false≢true (sym befits.1 ∙ h)))
+  does_deed (AbortAll unit) befits = does_all (AbortAll unit) refl unit befits (λ x. true) (λ c h. refl) (λ h c. refl)
+  does_deed (CloseConn closing) befits = does_close closing
+  does_deed CloseSession befits = does_end
+
+  never_closes : (f : Facts) (r : Request) → closes (function_deed f r) ≡ false
+  never_closes f r = through_function (λ d. closes d ≡ false) f r refl (λ x. refl) refl (λ u n. refl) (λ u n. refl) (λ u. refl) (λ u. refl)
+
+  pub function_does : DoesFunction o t start a (function_marks o (begun start a t) a)
+  unfolding t'
+  function_does =
+      let f : Facts = facts_of o t' a in
+      let x : DoesDeed (function_deed f a.request) = does_deed (function_deed f a.request) (befits_function f a.request) in
+      record { does = x.does; stays = x.stays (never_closes f a.request); sweeps = x.sweeps }
+
+  pub does_function : Does o t start a (function_marks o (begun start a t) a)
+  does_function = function_does.does
 
   -- what any request does that executes
   pub any_does : DoesAny o t start a (marks_after o (begun start a t) a)
   unfolding t'
-  any_does = by_opcode (opcode a.request == 0x02) (opcode a.request == 0x06) refl
+  any_does =
+      let f : Facts = facts_of o t' a in
+      let x : DoesDeed (deed_of f a.request) = does_deed (deed_of f a.request) (befits_deed f a.request) in
+      record { does = x.does; accepted = λ aborts h. unrefused x aborts h (refusal f.level f.unit a.request) refl; sweeps = λ aborts set h. x.sweeps set h }
     where
-      no_function : (ms : List Mark) → Does o t start a ms → (opcode a.request == 0x02) ≡ false → DoesAny o t start a ms
-      no_function ms d other = record { does = d; accepted = λ aborts h. absurd (false≢true (sym other ∙ and_first (opcode a.request == 0x02) (function a.request == 1 || is_set_abort a.request) aborts)); sweeps = λ aborts set h. absurd (false≢true (sym other ∙ and_first (opcode a.request == 0x02) (function a.request == 1 || is_set_abort a.request) aborts)) }
-
-      by_opcode : (d e : Bool) → (opcode a.request == 0x02) ≡ d → DoesAny o t start a (cond d (management_marks o t' a) (cond e (logout_marks o t' a) (marks_of t' a (verdict_of o t' a.request))))
-      by_opcode true e is = does_management
-      by_opcode false true is = no_function _ does_logout is
-      by_opcode false false is = no_function _ (does_verdict (verdict_of o t' a.request) refl) is
+      -- a function that is completed isn't refused
+      unrefused : (x : DoesDeed (deed_of (facts_of o t' a) a.request)) → is_abort a.request ≡ true → is_completed_by a x.does.deeds ≡ true → (y : Option Answer) → refusal o.level (unit_named o.units a.request) a.request ≡ y → refusal_of_function o a.request ≡ None
+      unrefused x aborts h None is = ap (option_map (reply_of a.request)) is
+      unrefused x aborts h (Some y) is =
+          let one : (opcode a.request == 0x02) ≡ true = and_first (opcode a.request == 0x02) (function a.request == 1 || is_set_abort a.request) aborts in
+          let refused : deed_of (facts_of o t' a) a.request ≡ Replies y = rw (one, is) in
+          absurd (refused_otherwise (facts_of o t' a) a.request y is (x.accepted y refused h))
 
   pub does_after : Does o t start a (marks_after o (begun start a t) a)
   does_after = any_does.does

@@ -17,7 +17,7 @@ pub mod CloseItems
 pub mod CloseRuns
 pub mod CloseTheorem
 pub mod MomentLemmas
-pub mod VerdictLemmas
+pub mod DeedTable
 pub mod Forms
 pub mod DeedLemmas
 pub mod FormItems

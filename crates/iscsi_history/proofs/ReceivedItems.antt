@@ -118,10 +118,6 @@ functions_receive_none o (a ∷ as') t may =
 
 -- ---- who waits
 
--- ABORT TASK doesn't wait
-pub one_waits_not : (r : Request) → function r ≡ 1 → may_wait r ≡ false
-one_waits_not r is = ap (λ f. is_immediate r && (f == 2 || f == 4 || f == 5)) is ∙ and_false (is_immediate r)
-
 -- a function that may wait is immediate, and no ABORT TASK
 pub may_immediate : (r : Request) → may_wait r ≡ true → is_immediate r ≡ true
 may_immediate r may = (and_parts (is_immediate r) (function r == 2 || function r == 4 || function r == 5) may).0

@@ -2,8 +2,8 @@
 use Rattle.std.proofs.Common.{List, ◌≡◌, ◌++◌, [], ◌∷◌, Bool, filter, refl, ℕ, cond, false, true, ◌==◌, not, ◌||◌, ap, sym, subst, ◌∙◌, eq-eqb}
 use Rattle.std.specs.List.{list_any}
 use Rattle.std.proofs.lemmas.Bool.{eqb-true, false≢true}
+use Rattle.iscsi_history.specs.rules.Deeds.{function_marks}
 use Rattle.iscsi_history.specs.rules.Trace.{Arrival, Mark, waiting_through, Trace, Executes, waiting, after_items}
-use Rattle.iscsi_history.specs.rules.Management.{function_marks}
 use Rattle.iscsi_history.specs.rules.Settings.{Setting}
 use Rattle.iscsi_history.specs.rules.Items.{function_item, is_waiting, functions, functions_at}
 use Rattle.iscsi_history.proofs.BoolLemmas.{or_second, or_first}

@@ -4,6 +4,7 @@ pub mod Trace
 pub mod Execution
 pub mod Management
 pub mod Logout
+pub mod Deeds
 pub mod Items
 pub mod Agenda
 pub mod Run

@@ -2,14 +2,14 @@
 //! rules as definitions over the whole history of a session (RFC 7143, SAM-5), and the laws that follow from them.
 #![tactic(auto)]
 
+mod deed;
 mod effect;
 mod entry;
 mod event;
 mod kind;
-mod verdict;
 
+pub use deed::{Answer, Deed};
 pub use effect::{Effect, Numbers, Why};
 pub use entry::{Effects, Entry, Log};
 pub use event::Event;
 pub use kind::Kind;
-pub use verdict::Verdict;

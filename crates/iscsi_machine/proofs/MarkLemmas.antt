@@ -2,25 +2,28 @@
 use Rattle.std.proofs.Common.{◌≡◌, ℕ, ◌+◌, ◌-◌, ◌<◌, ◌≤◌, ◌==◌, ◌&&◌, ◌||◌, not, cond, Bool, true, false, List, [], ◌∷◌, ◌++◌, length, map, filter, count_by, Option, Some, None, option_map, refl, ap, sym, ◌∙◌, arith, nat_lt, nat_le}
 use Rattle.std.specs.List.{list_any, list_all, flat_map, range_with_len}
 use Rattle.std.proofs.lemmas.Bool.Decides.{nat_tests}
-use Rattle.iscsi_wire.specs.declared.request.Request.{Request}
-use Rattle.iscsi_wire.specs.declared.reply.Reply.{Reply}
-use Rattle.iscsi_wire.specs.declared.reply.Reply.TheVariants.{Task, Reject}
-use Rattle.iscsi_wire.specs.Serial.{lift, number_of_first}
-use Rattle.iscsi_wire.specs.Fields.{connection_of, header_of, is_immediate, opcode, function, attr_code, itt, rtt, cid, ref_cmd_sn}
-use Rattle.iscsi_history.specs.declared.verdict.Verdict.{Verdict}
-use Rattle.iscsi_history.specs.declared.verdict.Verdict.TheVariants.{Nothing, Answer, Enter}
+use Rattle.iscsi_wire.specs.Serial.{wire, lift, number_of_first}
+use Rattle.iscsi_wire.specs.Fields.{connection_of, is_immediate, opcode, attr_code, itt, rtt, cid, ref_cmd_sn}
+use Rattle.iscsi_history.specs.declared.deed.Answer.TheVariants.{Reject, Respond}
+use Rattle.iscsi_history.specs.declared.deed.Deed.{Deed}
+use Rattle.iscsi_history.specs.declared.deed.Deed.TheVariants.{Nothing, Wait as ToWait, Reply as Replies, Enter as EnterUnit, Void as VoidNumber, Empty as EmptyNumber, Abort, AbortEarlier, AbortAll, CloseConn as Closes, CloseSession as Ends}
 use Rattle.iscsi_history.specs.rules.Settings.{Setting, is_known}
-use Rattle.iscsi_history.specs.rules.Trace.{Arrival, Command, Mark, Executes, Voids, Empties, Waits, Leaves, Enters, ClosesConn, ClosesSession, Trace, first_of, contains, is_received, live_in, is_ended, is_closed}
+use Rattle.iscsi_history.specs.rules.Trace.{Arrival, Command, Mark, Executes, Voids, Empties, Waits, Leaves, Enters, ClosesConn, ClosesSession, Trace, first_of, contains, live, live_in, is_ended, is_closed}
 use Rattle.iscsi_history.specs.rules.Execution as Rules
 use Rattle.iscsi_history.specs.rules.Management as Functions
 use Rattle.iscsi_history.specs.rules.Logout as Logouts
+use Rattle.iscsi_history.specs.rules.Deeds as Deeds
+use Rattle.iscsi_history.specs.rules.Deeds.{Facts}
 use Rattle.iscsi_history.specs.rules.Items as Items
+use Rattle.iscsi_history.proofs.BoolLemmas.{and_first, and_second}
+use Rattle.iscsi_history.proofs.DeedTable.{Befits, befits_function, befits_deed}
 use Rattle.iscsi_history.proofs.Missing.{expected_low}
 use Rattle.iscsi_machine.specs.Machine as Machine
 use Rattle.iscsi_machine.specs.Machine.{Member, State, after_mark}
 use Rattle.iscsi_machine.proofs.Ascending.{filter-same_in, filter-all_in, held_range, is_between}
 use Rattle.iscsi_machine.proofs.Agreement.{Agrees, Allowed, more, mark_agrees}
 use Rattle.iscsi_machine.proofs.ItemLemmas.{commands_same}
+use Rattle.iscsi_machine.proofs.Tables as Tables
 
 module _ (o : Setting) (now : ℕ) (w : Command → Bool) (s : State) (t : Trace) (a : Agrees o now w s t) where
   -- ---- what the rules ask of the history
@@ -66,74 +69,6 @@ module _ (o : Setting) (now : ℕ) (w : Command → Bool) (s : State) (t : Trace
           let second : nat_lt h.number (number_of_first o.first + (Rules.exp_of o t + o.window - number_of_first o.first)) ≡ true = grind (arith, nat_tests) in
           ap (λ b. b && nat_lt h.number (number_of_first o.first + (Rules.exp_of o t + o.window - number_of_first o.first))) first ∙ second
 
-  -- ---- a NOP-Out, a Text Request or a SCSI Command
-
-  verdict_same : (r : Request) → Machine.verdict_of o s r ≡ Rules.verdict_of o t r
-  verdict_same r =
-      ap (λ cs. Rules.request_verdict r (list_any (λ (c : Command). itt c.arrival.request == itt r) cs)
-      (is_immediate r && nat_le Rules.MOST_IMMEDIATE (count_by (λ (c : Command). is_immediate c.arrival.request && connection_of c.arrival.request == connection_of r) cs))
-      (option_map (λ unit. (unit, nat_le o.depth (length (filter (λ (c : Command). c.unit == unit) cs)))) (Rules.unit_named o.units r)))
-      (commands_same o now w s t a)
-
-  marks_of_same : (b : Arrival) (v : Verdict) → Machine.marks_of s b v ≡ Rules.marks_of t b v
-  marks_of_same b Nothing = refl
-  marks_of_same b (Answer reply) = refl
-  marks_of_same b (Enter unit) = ap (λ n. Enters (record { ticket = n + 1; unit = unit; attr = Rules.attr_of (attr_code b.request); arrival = b }) ∷ []) a.commands.count
-
-  -- ---- task management
-
-  missing_same : (b : Arrival) (n : ℕ) → Machine.abort_missing o s b n ≡ Functions.abort_missing o t b n
-  missing_same b n =
-      ap (λ e. cond (is_immediate b.request && nat_le e n && nat_le n (Machine.max_of o s) && nat_lt n b.number) (cond (contains s.above n) [] (Voids n ∷ []) ++ Functions.answer b 0) (Functions.answer b 1)) a.numbers.exp
-      ∙ ap (λ m. cond (is_immediate b.request && nat_le (Rules.exp_of o t) n && nat_le n m && nat_lt n b.number) (cond (contains s.above n) [] (Voids n ∷ []) ++ Functions.answer b 0) (Functions.answer b 1)) max_same
-      ∙ by_tests (nat_le (Rules.exp_of o t) n) refl (is_immediate b.request) (nat_le n (Rules.max_of o t)) (nat_lt n b.number)
-    where
-      by_tests : (v : Bool) → nat_le (Rules.exp_of o t) n ≡ v → (u x y : Bool)
-          → cond (u && v && x && y) (cond (contains s.above n) [] (Voids n ∷ []) ++ Functions.answer b 0) (Functions.answer b 1)
-          ≡ cond (u && v && x && y) (cond (is_received t n) [] (Voids n ∷ []) ++ Functions.answer b 0) (Functions.answer b 1)
-      by_tests true is u x y =
-          let low : Rules.exp_of o t ≤ n = grind (arith, nat_tests) in
-          ap (λ z. cond (u && true && x && y) (cond z [] (Voids n ∷ []) ++ Functions.answer b 0) (Functions.answer b 1)) (a.numbers.above n (omega (arith, low, a.numbers.exp)))
-      by_tests false is true x y = refl
-      by_tests false is false x y = refl
-
-  abort_task_same : (b : Arrival) (unit : ℕ) → Machine.abort_task o s b unit ≡ Functions.abort_task o t b unit
-  abort_task_same b unit =
-      ap (λ cs. chosen (first_of (filter (λ (c : Command). itt c.arrival.request == rtt b.request) cs)) (Machine.held_command o s (rtt b.request) unit b.number) (Machine.abort_missing o s b (lift s.exp (ref_cmd_sn b.request)))) (live_in_same unit)
-      ∙ ap (λ hs. chosen (Functions.live_with_tag t (rtt b.request) unit)
-      (first_of (filter (λ (h : Arrival). nat_lt h.number b.number && opcode h.request == 0x01 && itt h.request == rtt b.request && Functions.is_to o unit h.request) hs)) (Machine.abort_missing o s b (lift s.exp (ref_cmd_sn b.request)))) held_requests_same
-      ∙ ap (chosen (Functions.live_with_tag t (rtt b.request) unit) (Functions.held_command o t (rtt b.request) unit b.number))
-      (missing_same b (lift s.exp (ref_cmd_sn b.request)) ∙ ap (λ e. Functions.abort_missing o t b (lift e (ref_cmd_sn b.request))) a.numbers.exp)
-    where
-      chosen : Option Command → Option Arrival → List Mark → List Mark
-      chosen x y ms = elim x [ Some c ↦ Leaves c ∷ Functions.answer b 0 | None ↦ elim y [ Some h ↦ Empties h ∷ Functions.answer b 0 | None ↦ ms ] ]
-
-  function_to_same : (b : Arrival) (unit : ℕ) → Machine.function_to o s b unit ≡ Functions.function_to o t b unit
-  function_to_same b unit =
-      ap (λ ms. chosen ms (Machine.live_in unit s)) (abort_task_same b unit) ∙ ap (chosen (Functions.abort_task o t b unit)) (live_in_same unit)
-    where
-      chosen : List Mark → List Command → List Mark
-      chosen ms cs =
-          cond (function b.request == 1) ms
-          (cond (function b.request == 5) (map Leaves (filter (λ c. true) cs) ++ Functions.answer b 0)
-          (cond (function b.request == 9) (Functions.query b (list_any (λ (c : Command). itt c.arrival.request == rtt b.request) cs))
-          (cond (function b.request == 10) (Functions.query b (list_any (λ (c : Command). true) cs))
-          (map Leaves (filter (Functions.is_before b) cs) ++ Functions.answer b 0))))
-
-  pub function_same : (b : Arrival) → Machine.function_marks o s b ≡ Functions.function_marks o t b
-  function_same b = by_unit (Rules.unit_named o.units b.request)
-    where
-      by_unit : (x : Option ℕ) → (let ms : List Mark = elim x [ Some unit ↦ Machine.function_to o s b unit | None ↦ [] ] in ms) ≡ elim x [ Some unit ↦ Functions.function_to o t b unit | None ↦ [] ]
-      by_unit (Some unit) = function_to_same b unit
-      by_unit None = refl
-
-  management_same : (b : Arrival) → Machine.management_marks o s b ≡ Functions.management_marks o t b
-  management_same b = by_refusal (Functions.refusal_of_function o b.request)
-    where
-      by_refusal : (x : Option Reply) → (let ms : List Mark = elim x [ Some reply ↦ Rules.reply_on b reply | None ↦ Machine.function_marks o s b ] in ms) ≡ elim x [ Some reply ↦ Rules.reply_on b reply | None ↦ Functions.function_marks o t b ]
-      by_refusal (Some reply) = refl
-      by_refusal None = function_same b
-
   -- ---- Logout
 
   units_same : (units : List ℕ) → flat_map (λ unit. Machine.live_in unit s) units ≡ flat_map (λ unit. live_in unit t) units
@@ -150,42 +85,82 @@ module _ (o : Setting) (now : ℕ) (w : Command → Bool) (s : State) (t : Trace
       ap (λ b. ((c.0 == closing) || b) && list_all (λ d. (d.0 == closing) || Machine.is_closed d.0 s) conns) (closed_same c.0)
       ∙ ap (λ b. ((c.0 == closing) || is_closed c.0 t) && b) (last_same closing conns)
 
-  abbrev mine_ending : Arrival → List Mark
-  mine_ending b = Machine.taken_out o s (λ conn. true) ++ Logouts.parting b 0 ++ ClosesSession ∷ []
+  -- ---- what a request does that executes
 
-  abbrev mine_closing : Arrival → ℕ → List Mark
-  mine_closing b closing =
-      Machine.taken_out o s (λ conn. conn == closing) ++ Logouts.parting b 0 ++ ClosesConn closing ∷ cond (list_all (λ c. (c.0 == closing) || Machine.is_closed c.0 s) o.conns) (ClosesSession ∷ []) []
+  facts_same : (b : Arrival) → Tables.facts_of o s b ≡ Deeds.facts_of o t b
+  facts_same b = alike is_used is_crowded is_full has_commands tagged held is_missing is_open
+    where
+      made : (used crowded full commands : Bool) (live held : Option ℕ) (missing is_open : Bool) → Facts
+      made used crowded full commands live held missing is_open =
+          record { level = o.level; unit = Rules.unit_named o.units b.request; is_used = used; is_crowded = crowded; is_full = full; has_commands = commands; live = live; held = held; is_missing = missing; is_open = is_open }
 
-  ending_same : (b : Arrival) → mine_ending b ≡ Logouts.end_session o t b
-  ending_same b = ap (λ ms. ms ++ Logouts.parting b 0 ++ ClosesSession ∷ []) (taken_out_same (λ conn. true))
+      alike : {u u' c c' f f' h h' m m' p p' : Bool} {l l' k k' : Option ℕ} → u ≡ u' → c ≡ c' → f ≡ f' → h ≡ h' → l ≡ l' → k ≡ k' → m ≡ m' → p ≡ p' → made u c f h l k m p ≡ made u' c' f' h' l' k' m' p'
+      alike used crowded full commands live held missing open_is = cc
 
-  closing_same : (b : Arrival) (closing : ℕ) → mine_closing b closing ≡ Logouts.close_conn o t b closing
-  closing_same b closing =
+      unit : Option ℕ
+      unit = Rules.unit_named o.units b.request
+
+      n : ℕ → ℕ
+      n e = lift e (ref_cmd_sn b.request)
+
+      cs_same : Machine.commands s ≡ live t
+      cs_same = commands_same o now w s t a
+
+      is_used : list_any (λ (c : Command). itt c.arrival.request == itt b.request) (Machine.commands s) ≡ Rules.is_tag_live t (itt b.request)
+      is_used = ap (list_any (λ (c : Command). itt c.arrival.request == itt b.request)) cs_same
+
+      is_crowded : (is_immediate b.request && nat_le Rules.MOST_IMMEDIATE (Tables.live_immediate (connection_of b.request) s)) ≡ Rules.is_crowded t b.request
+      is_crowded = ap (λ cs. is_immediate b.request && nat_le Rules.MOST_IMMEDIATE (count_by (λ (c : Command). is_immediate c.arrival.request && connection_of c.arrival.request == connection_of b.request) cs)) cs_same
+
+      is_full : Deeds.of_unit unit false (λ u. nat_le o.depth (length (Machine.live_in u s))) ≡ Deeds.of_unit unit false (λ u. Rules.is_full o t u)
+      is_full = ap (λ cs. Deeds.of_unit unit false (λ u. nat_le o.depth (length (filter (λ (c : Command). c.unit == u) cs)))) cs_same
+
+      has_commands : Deeds.of_unit unit false (λ u. list_any (λ (c : Command). true) (Machine.live_in u s)) ≡ Deeds.of_unit unit false (λ u. list_any (λ (c : Command). true) (live_in u t))
+      has_commands = ap (λ cs. Deeds.of_unit unit false (λ u. list_any (λ (c : Command). true) (filter (λ (c : Command). c.unit == u) cs))) cs_same
+
+      tagged : Deeds.of_unit unit None (λ u. option_map (λ (c : Command). c.ticket) (Tables.live_with_tag s (rtt b.request) u)) ≡ Deeds.of_unit unit None (λ u. option_map (λ (c : Command). c.ticket) (Functions.live_with_tag t (rtt b.request) u))
+      tagged = ap (λ cs. Deeds.of_unit unit None (λ u. option_map (λ (c : Command). c.ticket) (first_of (filter (λ (c : Command). itt c.arrival.request == rtt b.request) (filter (λ (c : Command). c.unit == u) cs))))) cs_same
+
+      held : Deeds.of_unit unit None (λ u. option_map (λ (h : Arrival). wire h.number) (Machine.held_command o s (rtt b.request) u b.number)) ≡ Deeds.of_unit unit None (λ u. option_map (λ (h : Arrival). wire h.number) (Functions.held_command o t (rtt b.request) u b.number))
+      held = ap (λ hs. Deeds.of_unit unit None (λ u. option_map (λ (h : Arrival). wire h.number) (first_of (filter (λ (h : Arrival). nat_lt h.number b.number && opcode h.request == 0x01 && itt h.request == rtt b.request && Functions.is_to o u h.request) hs)))) held_requests_same
+
+      is_missing : (is_immediate b.request && nat_le s.exp (n s.exp) && nat_le (n s.exp) (Machine.max_of o s) && nat_lt (n s.exp) b.number) ≡ (Deeds.facts_of o t b).is_missing
+      is_missing =
+          ap (λ m. is_immediate b.request && nat_le s.exp (n s.exp) && nat_le (n s.exp) m && nat_lt (n s.exp) b.number) max_same
+          ∙ ap (λ e. is_immediate b.request && nat_le e (n e) && nat_le (n e) (Rules.max_of o t) && nat_lt (n e) b.number) a.numbers.exp
+
+      is_open : (is_known (cid b.request) o.conns && not (Machine.is_closed (cid b.request) s)) ≡ Logouts.is_open o t (cid b.request)
+      is_open = ap (λ v. is_known (cid b.request) o.conns && not v) (closed_same (cid b.request))
+
+  -- a number that is voided isn't below ExpCmdSN
+  marks_same : (b : Arrival) (d : Deed) → Befits (Deeds.facts_of o t b) b.request d → Tables.deed_marks o s b d ≡ Deeds.deed_marks o t b d
+  marks_same b Nothing fits = refl
+  marks_same b ToWait fits = refl
+  marks_same b (Replies x) fits = refl
+  marks_same b (EnterUnit unit) fits = ap (λ n. Enters (record { ticket = n + 1; unit = unit; attr = Rules.attr_of (attr_code b.request); arrival = b }) ∷ []) a.commands.count
+  marks_same b VoidNumber fits =
+      let n : ℕ = lift (Rules.exp_of o t) (ref_cmd_sn b.request) in
+      let window = and_first (is_immediate b.request && nat_le (Rules.exp_of o t) n && nat_le n (Rules.max_of o t)) (nat_lt n b.number) fits.1 in
+      let above = and_first (is_immediate b.request && nat_le (Rules.exp_of o t) n) (nat_le n (Rules.max_of o t)) window in
+      let test = and_second (is_immediate b.request) (nat_le (Rules.exp_of o t) n) above in
+      let low : Rules.exp_of o t ≤ n = grind (arith, nat_tests) in
+      ap (λ e. let k : ℕ = lift e (ref_cmd_sn b.request) in cond (contains s.above k) [] (Voids k ∷ []) ++ Functions.answer b 0) a.numbers.exp
+      ∙ ap (λ v. cond v [] (Voids n ∷ []) ++ Functions.answer b 0) (a.numbers.above n (omega (arith, low, a.numbers.exp)))
+  marks_same b (EmptyNumber unit sn) fits =
+      ap (λ hs. Deeds.if_found Empties (first_of (filter (λ (h : Arrival). nat_lt h.number b.number && opcode h.request == 0x01 && itt h.request == rtt b.request && Functions.is_to o unit h.request) hs)) ++ Functions.answer b 0) held_requests_same
+  marks_same b (Abort unit ticket) fits = ap (λ cs. Deeds.if_found Leaves (first_of (filter (λ (c : Command). itt c.arrival.request == rtt b.request) cs)) ++ Functions.answer b 0) (live_in_same unit)
+  marks_same b (AbortEarlier unit) fits = ap (λ cs. map Leaves (filter (Functions.is_before b) cs) ++ Functions.answer b 0) (live_in_same unit)
+  marks_same b (AbortAll unit) fits = ap (λ cs. map Leaves (filter (λ c. true) cs) ++ Functions.answer b 0) (live_in_same unit)
+  marks_same b (Closes closing) fits =
       ap (λ ms. ms ++ Logouts.parting b 0 ++ ClosesConn closing ∷ cond (list_all (λ c. (c.0 == closing) || Machine.is_closed c.0 s) o.conns) (ClosesSession ∷ []) []) (taken_out_same (λ conn. conn == closing))
       ∙ ap (λ v. Logouts.taken_out o t (λ conn. conn == closing) ++ Logouts.parting b 0 ++ ClosesConn closing ∷ cond v (ClosesSession ∷ []) []) (last_same closing o.conns)
+  marks_same b Ends fits = ap (λ ms. ms ++ Logouts.parting b 0 ++ ClosesSession ∷ []) (taken_out_same (λ conn. true))
 
-  logout_same : (b : Arrival) → Machine.logout_marks o s b ≡ Logouts.logout_marks o t b
-  logout_same b =
-      ap (λ ms. chosen ms (Machine.is_closed (cid b.request) s) (mine_closing b (cid b.request))) (ending_same b)
-      ∙ ap (λ v. chosen (Logouts.end_session o t b) v (mine_closing b (cid b.request))) (closed_same (cid b.request))
-      ∙ ap (chosen (Logouts.end_session o t b) (is_closed (cid b.request) t)) (closing_same b (cid b.request))
-    where
-      chosen : List Mark → Bool → List Mark → List Mark
-      chosen ends is_shut closes =
-          cond (itt b.request == Rules.NO_TAG) (Rules.reply_on b (Reject 9 (header_of b.request)))
-          (cond (function b.request == 0) ends
-          (cond (function b.request == 1) (cond (is_known (cid b.request) o.conns && not is_shut) closes (Logouts.parting b 1))
-          (cond (function b.request == 2) (Logouts.parting b 2)
-          (Rules.reply_on b (Reject 9 (header_of b.request))))))
+  pub after_same : (b : Arrival) → Machine.marks_after o s b ≡ Deeds.marks_after o t b
+  after_same b = Tables.says o s b ∙ ap (λ f. Tables.deed_marks o s b (Deeds.deed_of f b.request)) (facts_same b) ∙ marks_same b _ (befits_deed (Deeds.facts_of o t b) b.request)
 
-  -- ---- what executes
-
-  pub after_same : (b : Arrival) → Machine.marks_after o s b ≡ Items.marks_after o t b
-  after_same b =
-      ap (λ ms. cond (opcode b.request == 0x02) ms (cond (opcode b.request == 0x06) (Machine.logout_marks o s b) (Machine.marks_of s b (Machine.verdict_of o s b.request)))) (management_same b)
-      ∙ ap (λ ms. cond (opcode b.request == 0x02) (Functions.management_marks o t b) (cond (opcode b.request == 0x06) ms (Machine.marks_of s b (Machine.verdict_of o s b.request)))) (logout_same b)
-      ∙ ap (λ ms. cond (opcode b.request == 0x02) (Functions.management_marks o t b) (cond (opcode b.request == 0x06) (Logouts.logout_marks o t b) ms)) (ap (Machine.marks_of s b) (verdict_same b.request) ∙ marks_of_same b (Rules.verdict_of o t b.request))
+  pub function_same : (b : Arrival) → Machine.function_marks o s b ≡ Deeds.function_marks o t b
+  function_same b = Tables.says_function o s b ∙ ap (λ f. Tables.deed_marks o s b (Deeds.function_deed f b.request)) (facts_same b) ∙ marks_same b _ (befits_function (Deeds.facts_of o t b) b.request)
 
 module _ (o : Setting) (now : ℕ) (w : Command → Bool) (s : State) (t : Trace) (a : Agrees o now w s t) where
   pub execution_same : (mark : Mark) (b : Arrival) → Allowed o s t mark → Machine.execution o s mark b ≡ Items.execution o t mark b
@@ -203,9 +178,9 @@ module _ (o : Setting) (now : ℕ) (w : Command → Bool) (s : State) (t : Trace
     where
       chosen : ℕ → ℕ → List Mark → List Arrival → List Mark
       chosen last e ms ws =
-          cond (nat_lt (last + 1) b.number) (Executes b ∷ Rules.reply_on b (Task (itt b.request) 255))
+          cond (nat_lt (last + 1) b.number) (Executes b ∷ Rules.reply_on b (Rules.reply_of b.request (Respond 255)))
           (cond (not (nat_lt e b.number)) ms
-          (cond (nat_le Functions.MOST_WAITING (count_by (λ (c : Arrival). connection_of c.request == connection_of b.request) ws)) (Executes b ∷ Rules.reply_on b (Reject 6 (header_of b.request)))
+          (cond (nat_le Functions.MOST_WAITING (count_by (λ (c : Arrival). connection_of c.request == connection_of b.request) ws)) (Executes b ∷ Rules.reply_on b (Rules.reply_of b.request (Reject 6)))
           (Waits b ∷ [])))
 
   pub immediate_same : (b : Arrival) → Machine.immediate_item o s b ≡ Items.immediate_item o t b

@@ -1,9 +1,8 @@
 -- The rules of a session as a state machine (RFC 7143, SAM-5): its state, what each event does, and its run. A transition gives
 -- items, and an item is a list of marks in their order, by which the state goes on. At the end of an item commands become enabled.
-use Rattle.std.specs.Prelude.{ℕ, ◌+◌, ◌-◌, ◌==◌, ◌&&◌, ◌||◌, not, Bool, true, false, nat_lt, nat_le, List, [], ◌∷◌, ◌++◌, length, map, Option, Some, None, option_map, if◌then◌else◌, filter, count_by}
+use Rattle.std.specs.Prelude.{ℕ, ◌+◌, ◌-◌, ◌==◌, ◌&&◌, ◌||◌, not, Bool, true, false, nat_lt, nat_le, List, [], ◌∷◌, ◌++◌, length, map, Option, Some, None, if◌then◌else◌, filter, count_by}
 use Rattle.std.specs.List.{list_any, list_all, flat_map, range_with_len}
-use Rattle.iscsi_wire.specs.declared.request.Request.{Request}
-use Rattle.iscsi_wire.specs.declared.reply.Reply.TheVariants.{Scsi, Task, Reject}
+use Rattle.iscsi_wire.specs.declared.reply.Reply.TheVariants.{Scsi, Task, Nop, Reject}
 use Rattle.iscsi_wire.specs.Serial.{wire, lift, number_of_first}
 use Rattle.iscsi_wire.specs.Fields.{request_of, connection_of, header_of, is_immediate, opcode, function, attr_code, itt, rtt, cid, cmd_sn, ref_cmd_sn}
 use Rattle.iscsi_tasks.specs.Rules.{is_free}
@@ -15,12 +14,10 @@ use Rattle.iscsi_history.specs.declared.event.Event.{Event}
 use Rattle.iscsi_history.specs.declared.event.Event.TheVariants.{Arrive, Done}
 use Rattle.iscsi_history.specs.declared.kind.Kind.{Kind}
 use Rattle.iscsi_history.specs.declared.kind.Kind.TheVariants.{PassedOver, Unknown, Executes as ExecutesKind}
-use Rattle.iscsi_history.specs.declared.verdict.Verdict.{Verdict}
-use Rattle.iscsi_history.specs.declared.verdict.Verdict.TheVariants.{Nothing, Answer, Enter as EnterUnit}
 use Rattle.iscsi_history.specs.rules.Settings.{Setting, is_known}
 use Rattle.iscsi_history.specs.rules.Trace.{Arrival, Command, Mark, Admits, Delivers, Executes, Voids, Empties, Waits, Leaves, Enters, Sends, ClosesConn, ClosesSession, Ignores, first_of, contains, queued_of}
-use Rattle.iscsi_history.specs.rules.Execution.{NO_TAG, MOST_IMMEDIATE, attr_of, unit_named, request_verdict, reply_on, rejected, sense_of_status}
-use Rattle.iscsi_history.specs.rules.Management.{MOST_WAITING, may_wait, refusal_of_function, answer, is_to, is_before, query}
+use Rattle.iscsi_history.specs.rules.Execution.{NO_TAG, MOST_IMMEDIATE, no_unit, attr_of, unit_named, reply_on, rejected, sense_of_status}
+use Rattle.iscsi_history.specs.rules.Management.{MOST_WAITING, may_wait, refusal_of_function, answer, is_to, is_before}
 use Rattle.iscsi_history.specs.rules.Logout.{parting}
 use Rattle.iscsi_history.specs.rules.Agenda.{kind_of}
 use Rattle.iscsi_history.specs.rules.Run.{first_stat_sn}
@@ -136,19 +133,26 @@ does o item d =
 
 -- ---- a NOP-Out, a Text Request or a SCSI Command
 
--- by whether its tag is in use, whether its connection has too many immediate commands, and its unit with whether that is full
-abbrev pub verdict_of : Setting → State → Request → Verdict
-verdict_of o s r =
-    let is_used = list_any (λ c. itt c.arrival.request == itt r) (commands s) in
-    let crowd = count_by (λ c. is_immediate c.arrival.request && connection_of c.arrival.request == connection_of r) (commands s) in
-    let place = option_map (λ unit. (unit, nat_le o.depth (length (live_in unit s)))) (unit_named o.units r) in
-    request_verdict r is_used (is_immediate r && nat_le MOST_IMMEDIATE crowd) place
+abbrev pub reject : Arrival → ℕ → List Mark
+reject a reason = reply_on a (Reject reason (header_of a.request))
 
--- tickets go up by one
-abbrev pub marks_of : State → Arrival → Verdict → List Mark
-marks_of s a Nothing = []
-marks_of s a (Answer reply) = reply_on a reply
-marks_of s a (EnterUnit unit) = Enters (record { ticket = s.entered + 1; unit = unit; attr = attr_of (attr_code a.request); arrival = a }) ∷ []
+-- a SCSI Command to a unit: its connection has too many immediate ones, or the set is full, or it enters. Tickets go up by one
+abbrev pub command_to : Setting → State → Arrival → ℕ → List Mark
+command_to o s a unit =
+    let crowd = count_by (λ c. is_immediate c.arrival.request && connection_of c.arrival.request == connection_of a.request) (commands s) in
+    if is_immediate a.request && nat_le MOST_IMMEDIATE crowd then reject a 6
+    else (if nat_le o.depth (length (live_in unit s)) then reply_on a (Scsi (itt a.request) 0x28 None)
+    else Enters (record { ticket = s.entered + 1; unit = unit; attr = attr_of (attr_code a.request); arrival = a }) ∷ [])
+
+abbrev pub command_marks : Setting → State → Arrival → List Mark
+command_marks o s a =
+    if itt a.request == NO_TAG then reject a 9
+    else (if nat_lt 3 (attr_code a.request) then reject a 9
+    else (if list_any (λ c. itt c.arrival.request == itt a.request) (commands s) then reject a 7
+    else elim (unit_named o.units a.request) [ Some unit ↦ command_to o s a unit | None ↦ reply_on a (Scsi (itt a.request) 0x02 (Some no_unit)) ]))
+
+abbrev pub nop_marks : Arrival → List Mark
+nop_marks a = if itt a.request == NO_TAG then [] else reply_on a (Nop (itt a.request))
 
 -- ---- task management
 
@@ -176,6 +180,9 @@ abort_task o s a unit =
 
 abbrev pub abort_all : State → Arrival → ℕ → (Command → Bool) → List Mark
 abort_all s a unit covers = map Leaves (filter covers (live_in unit s)) ++ answer a 0
+
+abbrev pub query : Arrival → Bool → List Mark
+query a there = answer a (if there then 7 else 0)
 
 -- ABORT TASK, LOGICAL UNIT RESET, QUERY TASK, QUERY TASK SET; ABORT TASK SET and CLEAR TASK SET take out what was before them
 abbrev pub function_to : Setting → State → Arrival → ℕ → List Mark
@@ -206,14 +213,14 @@ abbrev pub logout_marks : Setting → State → Arrival → List Mark
 logout_marks o s a =
     let closing = cid a.request in
     let is_last = list_all (λ c. (c.0 == closing) || is_closed c.0 s) o.conns in
-    if itt a.request == NO_TAG then reply_on a (Reject 9 (header_of a.request))
+    if itt a.request == NO_TAG then reject a 9
     else (if function a.request == 0 then taken_out o s (λ conn. true) ++ parting a 0 ++ ClosesSession ∷ []
     else (if function a.request == 1 then (
     if is_known closing o.conns && not (is_closed closing s)
     then taken_out o s (λ conn. conn == closing) ++ parting a 0 ++ ClosesConn closing ∷ (if is_last then ClosesSession ∷ [] else [])
     else parting a 1)
     else (if function a.request == 2 then parting a 2
-    else reply_on a (Reject 9 (header_of a.request)))))
+    else reject a 9)))
 
 -- ---- what executes
 
@@ -221,7 +228,9 @@ abbrev pub marks_after : Setting → State → Arrival → List Mark
 marks_after o s a =
     if opcode a.request == 0x02 then management_marks o s a
     else (if opcode a.request == 0x06 then logout_marks o s a
-    else marks_of s a (verdict_of o s a.request))
+    else (if opcode a.request == 0x00 then nop_marks a
+    else (if opcode a.request == 0x04 then reject a 5
+    else command_marks o s a)))
 
 -- the item of a request that executes, which begins with this mark
 abbrev pub execution : Setting → State → Mark → Arrival → List Mark
@@ -232,7 +241,7 @@ abbrev pub waiting_item : Setting → State → Arrival → List Mark
 waiting_item o s a =
     if nat_lt (max_of o s + 1) a.number then Executes a ∷ reply_on a (Task (itt a.request) 255)
     else (if not (nat_lt s.exp a.number) then execution o s (Executes a) a
-    else (if nat_le MOST_WAITING (count_by (λ b. connection_of b.request == connection_of a.request) s.waiting) then Executes a ∷ reply_on a (Reject 6 (header_of a.request))
+    else (if nat_le MOST_WAITING (count_by (λ b. connection_of b.request == connection_of a.request) s.waiting) then Executes a ∷ reject a 6
     else Waits a ∷ []))
 
 -- an immediate request at its arrival

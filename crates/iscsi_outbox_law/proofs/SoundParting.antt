@@ -8,23 +8,26 @@ use Rattle.std.proofs.lemmas.List.Folds.{list_any-append}
 use Rattle.iscsi_wire.specs.declared.reply.Reply.{Reply}
 use Rattle.iscsi_wire.specs.declared.reply.Reply.TheVariants.{Task, Logout, Reject}
 use Rattle.iscsi_wire.specs.Serial.{lift}
-use Rattle.iscsi_wire.specs.Fields.{connection_of, header_of, is_immediate, opcode, function, itt, rtt, cid, ref_cmd_sn, request_of}
+use Rattle.iscsi_wire.specs.Fields.{connection_of, header_of, is_immediate, opcode, itt, rtt, ref_cmd_sn, request_of}
 use Rattle.iscsi_history.specs.declared.effect.Why.TheVariants.{Outside, Duplicate, Closed, Data, Stale}
 use Rattle.iscsi_history.specs.declared.event.Event.{Event}
 use Rattle.iscsi_history.specs.declared.event.Event.TheVariants.{Arrive, Done}
 use Rattle.iscsi_history.specs.declared.kind.Kind.{Kind}
 use Rattle.iscsi_history.specs.declared.kind.Kind.TheVariants.{PassedOver, Unknown, Executes as ExecutesKind}
-use Rattle.iscsi_history.specs.declared.verdict.Verdict.{Verdict}
-use Rattle.iscsi_history.specs.declared.verdict.Verdict.TheVariants.{Nothing, Answer, Enter}
+use Rattle.iscsi_history.specs.declared.deed.Answer.{Answer}
+use Rattle.iscsi_history.specs.declared.deed.Answer.TheVariants.{Reject, Pong, LogOut}
+use Rattle.iscsi_history.specs.declared.deed.Deed.TheVariants.{Reply as Replies, Enter, Void}
 use Rattle.iscsi_history.specs.rules.Settings.{Setting}
 use Rattle.iscsi_history.specs.rules.Trace.{Arrival, Command, Mark, Admits, Delivers, Executes, Voids, Empties, Waits, Leaves, ClosesConn, ClosesSession, Ignores, Trace, after_items, first_of, is_received, held, waiting, live_in, is_closed}
-use Rattle.iscsi_history.specs.rules.Execution.{exp_of, max_of, NO_TAG, unit_named, marks_of, verdict_of, reply_on, ignored, completion}
-use Rattle.iscsi_history.specs.rules.Management.{is_supported, may_wait, refusal_of_function, MOST_WAITING, waiting_on, answer, held_command, live_with_tag, abort_missing, abort_task, is_before, abort_all, query, function_to, function_marks, management_marks}
-use Rattle.iscsi_history.specs.rules.Logout.{is_open, is_last_open, live_of_units, all_held, taken_out, parting, end_session, close_conn, logout_marks}
-use Rattle.iscsi_history.specs.rules.Items.{marks_after, execution, item_of, waiting_item, immediate_item, function_item, is_waiting, functions, functions_at, turn_at, at_number, agenda}
+use Rattle.iscsi_history.specs.rules.Execution.{exp_of, max_of, reply_on, ignored, completion, reply_of}
+use Rattle.iscsi_history.specs.rules.Deeds.{Facts, function_deed, deed_of, facts_of, if_found, deed_marks, marks_after, function_marks}
+use Rattle.iscsi_history.specs.rules.Management.{may_wait, refusal_of_function, MOST_WAITING, waiting_on, answer, held_command, live_with_tag, is_before, abort_all, refusal}
+use Rattle.iscsi_history.specs.rules.Logout.{is_last_open, live_of_units, all_held, taken_out, parting, end_session, close_conn}
+use Rattle.iscsi_history.specs.rules.Items.{execution, item_of, waiting_item, immediate_item, function_item, is_waiting, functions, functions_at, turn_at, at_number, agenda}
 use Rattle.iscsi_history.specs.rules.Agenda.{with_turns, numbered, kind_of, arrival_as, arrival_open, arrival, arrival_of, command_of, items_of}
 use Rattle.iscsi_history.specs.promises.Replies.{executed_in}
 use Rattle.iscsi_history.proofs.AbortMarks.{none_mapped, none_viewed}
+use Rattle.iscsi_history.proofs.DeedTable.{with_answers, through_deed, is_parting, refused_plainly}
 use Rattle.iscsi_outbox_rules.proofs.ClosedItems.{send_of, some_pair}
 use Rattle.iscsi_outbox_law.specs.Pairs.{EachOf}
 use Rattle.iscsi_outbox_law.proofs.PairLemmas.{each-append}
@@ -78,64 +81,10 @@ module _ (a : Arrival) where
 
   -- ---- functions
 
-  of_missing : (o : Setting) (t : Trace) (n : ℕ) → Parts (abort_missing o t a n)
-  of_missing o t n =
-      elim (is_immediate a.request && nat_le (exp_of o t) n && nat_le n (max_of o t) && nat_lt n a.number) as (λ v. Parts (cond v (cond (is_received t n) [] (Voids n ∷ []) ++ answer a 0) (answer a 1))) [
-        | true ↦ elim (is_received t n) as (λ v. Parts (cond v [] (Voids n ∷ []) ++ answer a 0)) [
-          | true ↦ of_answer 0
-          | false ↦ behind (Voids n ∷ []) (answer a 0) refl refl (of_answer 0)
-        ]
-        | false ↦ of_answer 1
-      ]
-
-  of_task : (o : Setting) (t : Trace) (unit : ℕ) → Parts (abort_task o t a unit)
-  of_task o t unit =
-      elim (live_with_tag t (rtt a.request) unit) as (λ x. Parts (elim x [ Some c ↦ Leaves c ∷ answer a 0 | None ↦ elim (held_command o t (rtt a.request) unit a.number) [ Some h ↦ Empties h ∷ answer a 0 | None ↦ abort_missing o t a (lift (exp_of o t) (ref_cmd_sn a.request)) ] ])) [
-        | Some c ↦ behind (Leaves c ∷ []) (answer a 0) refl refl (of_answer 0)
-        | None ↦ elim (held_command o t (rtt a.request) unit a.number) as (λ x. Parts (elim x [ Some h ↦ Empties h ∷ answer a 0 | None ↦ abort_missing o t a (lift (exp_of o t) (ref_cmd_sn a.request)) ])) [
-          | Some h ↦ behind (Empties h ∷ []) (answer a 0) refl refl (of_answer 0)
-          | None ↦ of_missing o t (lift (exp_of o t) (ref_cmd_sn a.request))
-        ]
-      ]
-
   of_all : (t : Trace) (unit : ℕ) (covers : Command → Bool) → Parts (abort_all t a unit covers)
   of_all t unit covers =
       let cs : List Command = filter covers (live_in unit t) in
       behind (map Leaves cs) (answer a 0) (none_viewed send_of Leaves cs (λ c. refl)) (none_mapped closes_any Leaves cs (λ c. refl)) (of_answer 0)
-
-  of_query : (there : Bool) → Parts (query a there)
-  of_query there = of_answer (cond there 7 0)
-
-  of_to : (o : Setting) (t : Trace) (unit : ℕ) → Parts (function_to o t a unit)
-  of_to o t unit = by_tests (function a.request == 1) (function a.request == 5) (function a.request == 9) (function a.request == 10)
-    where
-      by_tests : (b c d e : Bool) → Parts (cond b (abort_task o t a unit) (cond c (abort_all t a unit (λ x. true)) (cond d (query a (list_any (λ x. itt x.arrival.request == rtt a.request) (live_in unit t))) (cond e (query a (list_any (λ x. true) (live_in unit t))) (abort_all t a unit (is_before a))))))
-      by_tests true c d e = of_task o t unit
-      by_tests false true d e = of_all t unit (λ x. true)
-      by_tests false false true e = of_query (list_any (λ x. itt x.arrival.request == rtt a.request) (live_in unit t))
-      by_tests false false false true = of_query (list_any (λ x. true) (live_in unit t))
-      by_tests false false false false = of_all t unit (is_before a)
-
-  of_function : (o : Setting) (t : Trace) → Parts (function_marks o t a)
-  of_function o t = elim (unit_named o.units a.request) as (λ x. Parts (elim x [ Some unit ↦ function_to o t a unit | None ↦ [] ])) [ Some unit ↦ of_to o t unit | None ↦ of_none ]
-
-  of_management : (o : Setting) (t : Trace) → Parts (management_marks o t a)
-  of_management o t = by_refusal (refusal_of_function o a.request) (plain (itt a.request == NO_TAG) (function a.request == 8) (is_supported o.level (function a.request)) (unit_named o.units a.request))
-    where
-      is_plain : Option Reply → Bool
-      is_plain x = elim x [ Some reply ↦ is_logout reply | None ↦ false ]
-
-      plain : (b c d : Bool) (x : Option ℕ)
-          → is_plain (cond b (Some (Reject 9 (header_of a.request))) (cond c (Some (Task (itt a.request) 4)) (cond (not d) (Some (Task (itt a.request) 5)) (elim x as (λ (y : Option ℕ). Option Reply) [ Some u ↦ None | None ↦ Some (Task (itt a.request) 2) ])))) ≡ false
-      plain true c d x = refl
-      plain false true d x = refl
-      plain false false false x = refl
-      plain false false true (Some u) = refl
-      plain false false true None = refl
-
-      by_refusal : (x : Option Reply) → is_plain x ≡ false → Parts (elim x [ Some reply ↦ reply_on a reply | None ↦ function_marks o t a ])
-      by_refusal (Some reply) is = of_reply reply is
-      by_refusal None is = of_function o t
 
   -- ---- Logouts
 
@@ -164,31 +113,45 @@ module _ (a : Arrival) where
       let rest : List Mark = ClosesConn closing ∷ cond (is_last_open o t closing) (ClosesSession ∷ []) [] in
       subst Parts (sym (append_assoc (taken_out o t (λ conn. conn == closing)) (parting a 0) rest)) (of_taken o t (λ conn. conn == closing) (parting a 0 ++ rest) (of_parting rest apart))
 
-  of_logout : (o : Setting) (t : Trace) → (opcode a.request == 0x02) ≡ false → Parts (logout_marks o t a)
-  of_logout o t apart = by_tests (itt a.request == NO_TAG) (function a.request == 0) (function a.request == 1) (is_open o t (cid a.request)) (function a.request == 2)
-    where
-      by_tests : (d e f g i : Bool) → Parts (cond d (reply_on a (Reject 9 (header_of a.request))) (cond e (end_session o t a) (cond f (cond g (close_conn o t a (cid a.request)) (parting a 1)) (cond i (parting a 2) (reply_on a (Reject 9 (header_of a.request)))))))
-      by_tests true e f g i = of_other (reply_on a (Reject 9 (header_of a.request))) apart refl
-      by_tests false true f g i = of_end o t apart
-      by_tests false false true true i = of_close o t (cid a.request) apart
-      by_tests false false true false i = of_other (parting a 1) apart refl
-      by_tests false false false g true = of_other (parting a 2) apart refl
-      by_tests false false false g false = of_other (reply_on a (Reject 9 (header_of a.request))) apart refl
-
   -- ---- any request
 
-  of_verdict : (t : Trace) (v : Verdict) → (opcode a.request == 0x02) ≡ false → Parts (marks_of t a v)
-  of_verdict t Nothing apart = of_none
-  of_verdict t (Answer reply) apart = of_other (reply_on a reply) apart refl
-  of_verdict t (Enter unit) apart = of_other (marks_of t a (Enter unit)) apart refl
+  of_found : {A : Type 0} (f : A → Mark) (x : Option A) → ((y : A) → (filter_map send_of (f y ∷ []) ≡ []) × (closes_any (f y) ≡ false)) → Parts (if_found f x ++ answer a 0)
+  of_found f None h = of_answer 0
+  of_found f (Some y) h = behind (f y ∷ []) (answer a 0) (h y).0 (ap (λ b. b || false) (h y).1) (of_answer 0)
+
+  of_void : (o : Setting) (t : Trace) → Parts (deed_marks o t a Void)
+  of_void o t = by_known (is_received t (lift (exp_of o t) (ref_cmd_sn a.request)))
+    where
+      by_known : (v : Bool) → Parts (cond v [] (Voids (lift (exp_of o t) (ref_cmd_sn a.request)) ∷ []) ++ answer a 0)
+      by_known true = of_answer 0
+      by_known false = behind (Voids (lift (exp_of o t) (ref_cmd_sn a.request)) ∷ []) (answer a 0) refl refl (of_answer 0)
+
+  of_function : (o : Setting) (t : Trace) → Parts (function_marks o t a)
+  of_function o t =
+      with_answers (λ d. Parts (deed_marks o t a d)) (facts_of o t a) a.request of_none (λ n. of_answer n) (of_void o t)
+      (λ unit sn. of_found Empties (held_command o t (rtt a.request) unit a.number) (λ h. (refl, refl))) (λ unit ticket. of_found Leaves (live_with_tag t (rtt a.request) unit) (λ c. (refl, refl)))
+      (λ unit. of_all t unit (is_before a)) (λ unit. of_all t unit (λ x. true))
 
   of_after : (o : Setting) (t : Trace) → Parts (marks_after o t a)
-  of_after o t = by_opcode (opcode a.request == 0x02) (opcode a.request == 0x06) refl
+  of_after o t = by_opcode (opcode a.request == 0x02) refl
     where
-      by_opcode : (d e : Bool) → (opcode a.request == 0x02) ≡ d → Parts (cond d (management_marks o t a) (cond e (logout_marks o t a) (marks_of t a (verdict_of o t a.request))))
-      by_opcode true e is = of_management o t
-      by_opcode false true is = of_logout o t is
-      by_opcode false false is = of_verdict t (verdict_of o t a.request) is
+      f : Facts
+      f = facts_of o t a
+
+      by_refusal : (x : Option Answer) → refusal f.level f.unit a.request ≡ x → Parts (deed_marks o t a (elim x [ Some y ↦ Replies y | None ↦ function_deed f a.request ]))
+      by_refusal None is = of_function o t
+      by_refusal (Some y) is = of_reply (reply_of a.request y) (plain y (refused_plainly f a.request y is))
+        where
+          plain : (y : Answer) → is_parting y ≡ false → is_logout (reply_of a.request y) ≡ false
+          plain (LogOut response) h = absurd (false≢true (sym h))
+          plain (Reject reason) h = refl
+          plain Pong h = refl
+          plain _ h = refl
+
+      by_opcode : (v : Bool) → (opcode a.request == 0x02) ≡ v → Parts (deed_marks o t a (deed_of f a.request))
+      by_opcode true is = rw is (by_refusal (refusal f.level f.unit a.request) refl)
+      by_opcode false is =
+          through_deed (λ d. Parts (deed_marks o t a d)) f a.request (of_function o t) of_none (λ x. of_other (reply_on a (reply_of a.request x)) is refl) (λ unit. of_other (deed_marks o t a (Enter unit)) is refl) (λ closing. of_close o t closing is) (of_end o t is)
 
   -- ---- items
 

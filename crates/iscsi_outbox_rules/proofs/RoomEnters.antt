@@ -10,12 +10,12 @@ use Rattle.iscsi_history.specs.declared.event.Event.{Event}
 use Rattle.iscsi_history.specs.declared.event.Event.TheVariants.{Arrive, Done}
 use Rattle.iscsi_history.specs.declared.kind.Kind.{Kind}
 use Rattle.iscsi_history.specs.declared.kind.Kind.TheVariants.{PassedOver, Unknown, Executes as ExecutesKind}
+use Rattle.iscsi_history.specs.rules.Deeds.{marks_after}
 use Rattle.iscsi_history.specs.rules.Settings.{Setting}
 use Rattle.iscsi_history.specs.rules.Trace.{Arrival, Command, Mark, Admits, Executes, Waits, Ignores, Trace, after_items, is_received, held, waiting, live, was_free, is_closed}
-use Rattle.iscsi_history.specs.rules.Execution.{exp_of, max_of, marks_of, verdict_of, rejected, ignored, completion, reply_on}
-use Rattle.iscsi_history.specs.rules.Management.{management_marks, may_wait, refusal_of_function, MOST_WAITING, waiting_on}
-use Rattle.iscsi_history.specs.rules.Logout.{logout_marks}
-use Rattle.iscsi_history.specs.rules.Items.{marks_after, execution, waiting_item, immediate_item, function_item, item_of, is_waiting, functions, functions_at, turn_at, at_number, agenda}
+use Rattle.iscsi_history.specs.rules.Execution.{exp_of, max_of, rejected, ignored, completion, reply_on}
+use Rattle.iscsi_history.specs.rules.Management.{may_wait, refusal_of_function, MOST_WAITING, waiting_on}
+use Rattle.iscsi_history.specs.rules.Items.{execution, waiting_item, immediate_item, function_item, item_of, is_waiting, functions, functions_at, turn_at, at_number, agenda}
 use Rattle.iscsi_history.specs.rules.Agenda.{with_turns, numbered, kind_of, arrival_as, arrival_open, arrival, arrival_of, command_of, items_of}
 use Rattle.iscsi_history.proofs.CountLemmas.{count-cons}
 use Rattle.iscsi_history.proofs.ElementLemmas.{in-filter, first-in}
@@ -29,7 +29,7 @@ use Rattle.iscsi_history.specs.rules.Trace.{enters}
 use Rattle.iscsi_history.proofs.ListLemmas.{fewer_counted, count_by-push}
 use Rattle.iscsi_history.proofs.TouchLemmas.{enters_form}
 use Rattle.iscsi_outbox_rules.proofs.RoomSteps.{shrinks_done}
-use Rattle.iscsi_outbox_rules.proofs.RoomSends.{mark_reply, done_replies, answers, logout_answers}
+use Rattle.iscsi_outbox_rules.proofs.RoomSends.{mark_reply, done_replies, answers, parting_answers}
 use Rattle.iscsi_history.proofs.NumberingLemmas.{to_list}
 use Rattle.std.proofs.lemmas.List.{length-map}
 
@@ -234,7 +234,7 @@ module _ (o : Setting) where
       ]
     where
       logout : 1 ≤ answers (marks_after o ((Executes a ∷ []) ∷ t) a)
-      logout = subst (λ n. 1 ≤ answers (cond (n == 0x02) (management_marks o ((Executes a ∷ []) ∷ t) a) (cond (n == 0x06) (logout_marks o ((Executes a ∷ []) ∷ t) a) (marks_of ((Executes a ∷ []) ∷ t) a (verdict_of o ((Executes a ∷ []) ∷ t) a.request))))) (sym is) (logout_answers o ((Executes a ∷ []) ∷ t) a)
+      logout = parting_answers o ((Executes a ∷ []) ∷ t) a is
 
       answered_form : (d : Deeds) → 1 ≤ length (to_list d.reply) → IsFormed o a.event t (Executed AtArrival a d) → pending ((Executes a ∷ marks_done a d) ∷ t) + enters_in (Executes a ∷ marks_done a d) ≤ pending t + 0
       answered_form d some x =

@@ -15,12 +15,15 @@ use Rattle.iscsi_history.specs.declared.event.Event.{Event}
 use Rattle.iscsi_history.specs.declared.event.Event.TheVariants.{Arrive, Done}
 use Rattle.iscsi_history.specs.declared.kind.Kind.{Kind}
 use Rattle.iscsi_history.specs.declared.kind.Kind.TheVariants.{PassedOver, Unknown, Executes as ExecutesKind}
+use Rattle.iscsi_history.specs.declared.deed.Answer.TheVariants.{Reject as RejectBy, LogOut}
+use Rattle.iscsi_history.specs.declared.deed.Deed.TheVariants.{Reply as Replies, CloseConn, CloseSession}
+use Rattle.iscsi_history.specs.rules.Deeds.{logout_deed, facts_of, deed_marks, marks_after}
 use Rattle.iscsi_history.specs.rules.Settings.{Setting}
 use Rattle.iscsi_history.specs.rules.Trace.{Arrival, Command, Mark, Admits, Delivers, Executes, Voids, Empties, Waits, Leaves, Enters, Sends, ClosesConn, ClosesSession, Ignores, Trace, after_items, first_of, is_received, held, waiting, live, was_free, is_closed}
-use Rattle.iscsi_history.specs.rules.Execution.{exp_of, max_of, NO_TAG, marks_of, verdict_of, rejected, ignored, completion, reply_on}
-use Rattle.iscsi_history.specs.rules.Management.{management_marks, may_wait, refusal_of_function, MOST_WAITING, waiting_on}
-use Rattle.iscsi_history.specs.rules.Logout.{is_open, is_last_open, taken_out, parting, end_session, close_conn, logout_marks}
-use Rattle.iscsi_history.specs.rules.Items.{marks_after, execution, waiting_item, immediate_item, function_item, item_of, is_waiting, functions, functions_at, turn_at, at_number, agenda}
+use Rattle.iscsi_history.specs.rules.Execution.{exp_of, max_of, NO_TAG, rejected, ignored, completion, reply_on}
+use Rattle.iscsi_history.specs.rules.Management.{may_wait, refusal_of_function, MOST_WAITING, waiting_on}
+use Rattle.iscsi_history.specs.rules.Logout.{is_open, is_last_open, taken_out, parting, end_session, close_conn}
+use Rattle.iscsi_history.specs.rules.Items.{execution, waiting_item, immediate_item, function_item, item_of, is_waiting, functions, functions_at, turn_at, at_number, agenda}
 use Rattle.iscsi_history.specs.rules.Agenda.{with_turns, numbered, kind_of, arrival_as, arrival_open, arrival, arrival_of, command_of, items_of}
 use Rattle.iscsi_history.specs.rules.Run.{effects_of_mark, newly_enabled, effects_of_item}
 use Rattle.iscsi_history.proofs.CountLemmas.{one, count-cons}
@@ -75,7 +78,7 @@ answers ms = length (filter_map mark_reply ms)
 answers-append : (xs ys : List Mark) → answers (xs ++ ys) ≡ answers xs + answers ys
 answers-append xs ys = ap length (filter_map-append mark_reply xs ys) ∙ length-append (filter_map mark_reply xs) (filter_map mark_reply ys)
 
-pub logout_answers : (o : Setting) (t : Trace) (a : Arrival) → 1 ≤ answers (logout_marks o t a)
+logout_answers : (o : Setting) (t : Trace) (a : Arrival) → 1 ≤ answers (deed_marks o t a (logout_deed (facts_of o t a) a.request))
 logout_answers o t a = by_tests (itt a.request == NO_TAG) (function a.request == 0) (function a.request == 1) (is_open o t (cid a.request)) (function a.request == 2)
   where
     ends : 1 ≤ answers (end_session o t a)
@@ -84,13 +87,19 @@ logout_answers o t a = by_tests (itt a.request == NO_TAG) (function a.request ==
     closes : 1 ≤ answers (close_conn o t a (cid a.request))
     closes = omega (arith, answers-append (taken_out o t (λ conn. conn == cid a.request) ++ parting a 0) (ClosesConn (cid a.request) ∷ cond (is_last_open o t (cid a.request)) (ClosesSession ∷ []) []), answers-append (taken_out o t (λ conn. conn == cid a.request)) (parting a 0))
 
-    by_tests : (d e f g i : Bool) → 1 ≤ answers (cond d (reply_on a (Reject 9 (header_of a.request))) (cond e (end_session o t a) (cond f (cond g (close_conn o t a (cid a.request)) (parting a 1)) (cond i (parting a 2) (reply_on a (Reject 9 (header_of a.request)))))))
+    by_tests : (d e f g i : Bool) → 1 ≤ answers (deed_marks o t a (cond d (Replies (RejectBy 9)) (cond e CloseSession (cond f (cond g (CloseConn (cid a.request)) (Replies (LogOut 1))) (cond i (Replies (LogOut 2)) (Replies (RejectBy 9)))))))
     by_tests true e f g i = omega arith
     by_tests false true f g i = ends
     by_tests false false true true i = closes
     by_tests false false true false i = omega arith
     by_tests false false false g true = omega arith
     by_tests false false false g false = omega arith
+
+pub parting_answers : (o : Setting) (t : Trace) (a : Arrival) → opcode a.request ≡ 0x06 → 1 ≤ answers (marks_after o t a)
+parting_answers o t a is =
+    let other : (opcode a.request == 0x02) ≡ false = ap (λ n. n == 0x02) is in
+    let same : (opcode a.request == 0x06) ≡ true = ap (λ n. n == 0x06) is in
+    rw (other, same) (logout_answers o t a)
 
 module _ (o : Setting) (quiet : ℕ → Bool) where
   -- as RoomReplies counts them
@@ -299,7 +308,7 @@ module _ (o : Setting) (quiet : ℕ → Bool) where
       goes = by_does (does_after o t AtArrival a)
         where
           logout : 1 ≤ answers (marks_after o ((Executes a ∷ []) ∷ t) a)
-          logout = subst (λ n. 1 ≤ answers (cond (n == 0x02) (management_marks o ((Executes a ∷ []) ∷ t) a) (cond (n == 0x06) (logout_marks o ((Executes a ∷ []) ∷ t) a) (marks_of ((Executes a ∷ []) ∷ t) a (verdict_of o ((Executes a ∷ []) ∷ t) a.request))))) (sym is) (logout_answers o ((Executes a ∷ []) ∷ t) a)
+          logout = parting_answers o ((Executes a ∷ []) ∷ t) a is
 
           by_does : Does o t AtArrival a (marks_after o ((Executes a ∷ []) ∷ t) a) → Going 0 t (with_turns o t (execution o t (Executes a) a))
           by_does d =

@@ -11,11 +11,12 @@ use Rattle.iscsi_history.specs.declared.event.Event.{Event}
 use Rattle.iscsi_history.specs.declared.event.Event.TheVariants.{Arrive, Done}
 use Rattle.iscsi_history.specs.declared.kind.Kind.{Kind}
 use Rattle.iscsi_history.specs.declared.kind.Kind.TheVariants.{PassedOver, Unknown, Executes as ExecutesKind}
+use Rattle.iscsi_history.specs.rules.Deeds.{marks_after}
 use Rattle.iscsi_history.specs.rules.Settings.{Setting}
 use Rattle.iscsi_history.specs.rules.Trace.{Arrival, Command, Mark, Admits, Delivers, Executes, Waits, Leaves, Ignores, Trace, after_items, number_received, received, is_received, admits_at, held, waiting, live, was_free, is_closed}
 use Rattle.iscsi_history.specs.rules.Execution.{exp_of, max_of, unfinished, live_immediate, rejected, ignored, completion, reply_on, sense_of_status}
 use Rattle.iscsi_history.specs.rules.Management.{may_wait, refusal_of_function, MOST_WAITING, waiting_on}
-use Rattle.iscsi_history.specs.rules.Items.{marks_after, execution, waiting_item, immediate_item, function_item, item_of, is_waiting, functions, functions_at, turn_at, at_number, agenda}
+use Rattle.iscsi_history.specs.rules.Items.{execution, waiting_item, immediate_item, function_item, item_of, is_waiting, functions, functions_at, turn_at, at_number, agenda}
 use Rattle.iscsi_history.specs.rules.Agenda.{with_turns, numbered, kind_of, arrival_as, arrival_open, arrival, arrival_of, command_of}
 use Rattle.iscsi_history.specs.rules.Run.{after_event}
 use Rattle.iscsi_history.specs.promises.Flow.{HasOneMore}

@@ -25,7 +25,8 @@ use Rattle.iscsi_history.proofs.ReceivedItems.{turn_receives_none, function_rece
 use Rattle.iscsi_history.proofs.FlowItems.{agenda-halves, effects_of-append, same_exp, turns, turns-more}
 use Rattle.iscsi_session.proofs.WaitLemmas.{next_function, no_function}
 use Rattle.iscsi_session.proofs.TurnLemmas.{turned_core, turned_is, turn_effects-are, numbered_held}
-use Rattle.iscsi_session.proofs.FunctionLemmas.{turned-item, waited-item, executed_expected, function_expected}
+use Rattle.iscsi_session.proofs.FunctionLemmas.{turned-item, waited-item}
+use Rattle.iscsi_session.proofs.PaceLemmas.{stays_expected, executed_stays, function_stays}
 use Rattle.iscsi_session.proofs.AgreeLemmas.{settled_expected}
 
 -- ---- what is left
@@ -103,7 +104,7 @@ functions-on o t₀ out₀ whole s out (Some w) is some d =
     subst (λ (y : Option Waiting). Leads o t₀ out₀ whole (function_if s y) (out ++ function_effects s y) (left_functions o (function_if s y))) (sym is)
     (Leads-on o t₀ out₀ whole s (function_if s (Some w)) out (out ++ function_effects s (Some w)) (left_functions o s) (left_functions o (function_if s (Some w))) d (item ∷ []) done.0
     (ap (λ ns. received t ++ ns) (function_receives_none o t a may) ∙ append-nil (received t))
-    (next ∙ ap (λ k. (item ∷ []) ++ functions_at o k (item ∷ t)) (sym (function_expected s (Some w))))
+    (next ∙ ap (λ k. (item ∷ []) ++ functions_at o k (item ∷ t)) (sym (stays_expected 0 s (function_if s (Some w)) (function_stays s (Some w)))))
     (ap (λ es. out ++ es) (done.1 ∙ sym (append-nil (effects_of_item o t item)))))
   where
     found_may : (ws : List Waiting) → list_all (λ v. may_wait v.request) ws ≡ true → find (λ v. v.turn == s.window.turned) ws ≡ Some w → may_wait w.request ≡ true
@@ -146,7 +147,7 @@ turned-request o t₀ out₀ whole s out r d place =
     let turn_is : turn_at o e t ≡ item ∷ [] = ap (λ y. elim y [ Some b ↦ item_of o t b ∷ [] | None ↦ [] ]) x.held_is in
     let done = turned-item o s t r d.agrees place x in
     let s' : Core = with_executed (turned_core s) r.request r.event in
-    let next : number_expected s'.window ≡ e + 1 = executed_expected (turned_core s) r.request r.event ∙ (let z : number_expected (turned_core s).window ≡ e + 1 = omega arith in z) in
+    let next : number_expected s'.window ≡ e + 1 = stays_expected 1 (turned_core s) s' (executed_stays (turned_core s) r.request r.event) ∙ (let z : number_expected (turned_core s).window ≡ e + 1 = omega arith in z) in
     subst (λ (u : Core). Due o t₀ out₀ whole u (out ++ turn_effects s (at_place s.window 0))) (sym (turned_is s r place))
     (subst (λ es. Due o t₀ out₀ whole s' (out ++ es)) (sym (turn_effects-are s r place))
     (Leads-on o t₀ out₀ whole s s' out (out ++ Deliver r.request ∷ executed_effects (turned_core s) r.request r.event) (left_after o t₀ s) (left_before o t₀ s') d (item ∷ []) done.0

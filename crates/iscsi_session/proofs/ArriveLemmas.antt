@@ -21,7 +21,8 @@ use Rattle.iscsi_history.specs.rules.Items.{immediate_item, functions_at, agenda
 use Rattle.iscsi_history.specs.rules.Run.{effects_of, effects_of_item, stat_sn_of}
 use Rattle.iscsi_session.specs.private.Standing.{Core, Agrees, Settled}
 use Rattle.iscsi_session.specs.private.Steps.{with_reply, reply_effects, with_offered}
-use Rattle.iscsi_session.specs.private.Turning.{turned_if, turn_effects, comes_next, next_waiting, deferral_by, immediate_as, immediate_effects}
+use Rattle.iscsi_session.specs.private.Deeds.{arrival_by}
+use Rattle.iscsi_session.specs.private.Turning.{turned_if, turn_effects, comes_next, next_waiting, immediate_as, immediate_effects}
 use Rattle.iscsi_history.specs.rules.Logout.{is_open}
 use Rattle.iscsi_session.specs.private.Closing.{is_among_open}
 use Rattle.iscsi_session.proofs.OpenConns.{open_of-same}
@@ -44,7 +45,7 @@ use Rattle.iscsi_session.proofs.WindowLemmas.{held_now, comes_alone, Delivered, 
 use Rattle.iscsi_session.proofs.StepLemmas.{Offered, offered}
 use Rattle.iscsi_session.proofs.FunctionLemmas.{immediate-item}
 use Rattle.iscsi_session.proofs.AgendaLemmas.{Carried, Carried-turned, DueTurn, whole_of, Due-start, Due-functions, turned-all}
-use Rattle.iscsi_session.proofs.PaceLemmas.{same_expected, stays_expected, immediate_stays}
+use Rattle.iscsi_session.proofs.PaceLemmas.{same_expected, immediate_same}
 
 -- ---- turns
 
@@ -157,16 +158,16 @@ rejected_opcode o s index t r h kind known =
 pub record AtOnce (o : Setting) (s s' : Core) (t : Trace) (a : Arrival) : Type 0 where
   pub agrees : Agrees o s' (immediate_item o t a ∷ t)
   pub items_are : arrival_open o t a ≡ immediate_item o t a ∷ agenda o (number_expected s'.window) (exp_of o (immediate_item o t a ∷ t) - number_expected s'.window) (immediate_item o t a ∷ t)
-  pub effects_are : immediate_effects s a.request (deferral_by s a.request) ≡ effects_of_item o t (immediate_item o t a)
+  pub effects_are : immediate_effects s a.request (arrival_by s a.request) ≡ effects_of_item o t (immediate_item o t a)
 
-pub at_once : (o : Setting) (s s' : Core) (index : ℕ) (t : Trace) (r : Request) → Settled o s t → kind_of r ≡ ExecutesKind → is_immediate r ≡ true → is_known (connection_of r) o.conns ≡ true → s.taken ≡ index + 1 → list_all (λ w. nat_lt (w.event + 1) s.taken) s.waiting ≡ true → s' ≡ immediate_as s r (deferral_by s r)
+pub at_once : (o : Setting) (s s' : Core) (index : ℕ) (t : Trace) (r : Request) → Settled o s t → kind_of r ≡ ExecutesKind → is_immediate r ≡ true → is_known (connection_of r) o.conns ≡ true → s.taken ≡ index + 1 → list_all (λ w. nat_lt (w.event + 1) s.taken) s.waiting ≡ true → s' ≡ immediate_as s r (arrival_by s r)
     → AtOnce o s s' t (arrival_of o index t r)
 at_once o s s' index t r h kind immediate known taken waited is =
     let a : Arrival = arrival_of o index t r in
     let item : List Mark = immediate_item o t a in
     let t₁ : Trace = item ∷ t in
     let done = immediate-item o s index t r h immediate known taken waited in
-    let same : number_expected s'.window ≡ number_expected s.window = ap (λ (v : Core). number_expected v.window) is ∙ stays_expected 1 s (immediate_as s r (deferral_by s r)) (immediate_stays s r (deferral_by s r)) in
+    let same : number_expected s'.window ≡ number_expected s.window = ap (λ (v : Core). number_expected v.window) is ∙ (immediate_same s r).expected in
     let start : exp_of o t ≡ number_expected s'.window = settled_expected o s t h ∙ sym same in
     record {
       agrees = subst (λ (v : Core). Agrees o v t₁) (sym is) done.0;
@@ -179,7 +180,7 @@ pub at_once_settled : (o : Setting) (s s' f : Core) (t : Trace) (a : Arrival) �
     → Settled o f (after_items (arrival_open o t a) t)
 at_once_settled o s s' f t a x taken = subst (λ (items : List (List Mark)). Settled o f (after_items items t)) (sym x.items_are) (taken o (immediate_item o t a ∷ t) x.agrees)
 
-pub at_once_effects : (o : Setting) (s s' : Core) (t : Trace) (a : Arrival) (out out' out'' : List Effect) → AtOnce o s s' t a → out' ≡ out ++ immediate_effects s a.request (deferral_by s a.request)
+pub at_once_effects : (o : Setting) (s s' : Core) (t : Trace) (a : Arrival) (out out' out'' : List Effect) → AtOnce o s s' t a → out' ≡ out ++ immediate_effects s a.request (arrival_by s a.request)
     → ((o : Setting) (t : Trace) → Agrees o s' t → out'' ≡ out' ++ effects_of o t (agenda o (number_expected s'.window) (exp_of o t - number_expected s'.window) t))
     → out'' ≡ out ++ effects_of o t (arrival_open o t a)
 at_once_effects o s s' t a out out' out'' x first given =

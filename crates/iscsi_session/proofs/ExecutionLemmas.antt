@@ -1,29 +1,25 @@
--- A request executes.
-use Rattle.std.proofs.Common.{◌≡◌, ℕ, ◌+◌, ◌<◌, ◌==◌, not, cond, Bool, true, false, List, [], ◌∷◌, length, map, count_by, get_or, Option, Some, None, option_map, refl, ap, sym, ◌∙◌, arith}
+-- A request executes: it is answered, a command enters, or nothing more happens.
+use Rattle.std.proofs.Common.{◌≡◌, ℕ, ◌+◌, ◌<◌, not, cond, Bool, true, false, List, [], ◌∷◌, length, map, count_by, get_or, None, refl, ap, sym, ◌∙◌, arith}
 use Rattle.std.specs.List.{list_all}
 use Rattle.std.proofs.lemmas.Bool.{cond_both, lt-ltb}
 use Rattle.std.proofs.lemmas.List.{append-nil, length-map}
 use Rattle.iscsi_wire.specs.declared.request.Request.{Request}
 use Rattle.iscsi_wire.specs.declared.reply.Reply.{Reply}
-use Rattle.iscsi_wire.specs.Fields.{connection_of, is_immediate, opcode, itt}
+use Rattle.iscsi_wire.specs.Fields.{connection_of, is_immediate}
 use Rattle.iscsi_window.specs.Windows.{Arrived}
-use Rattle.iscsi_tasks.specs.Sets.{Members, opened}
+use Rattle.iscsi_tasks.specs.Sets.{opened}
 use Rattle.iscsi_history.specs.declared.effect.Effect.{Effect}
-use Rattle.iscsi_commands.specs.declared.live.Live.{Live}
-use Rattle.iscsi_history.specs.declared.verdict.Verdict.{Verdict}
-use Rattle.iscsi_history.specs.declared.verdict.Verdict.TheVariants.{Nothing, Answer, Enter as EnterUnit}
 use Rattle.iscsi_history.specs.rules.Settings.{Setting, is_known}
 use Rattle.iscsi_history.specs.rules.Trace.{Arrival, Command, Mark, Enters, Sends, Trace, waiting, waiting_by, enters, leaves_ticket, sent_on, entered, live, live_in}
-use Rattle.iscsi_history.specs.rules.Execution.{unfinished, unit_named, is_crowded, is_full, place_named, verdict_of, next_command, marks_of}
+use Rattle.iscsi_history.specs.rules.Execution.{unfinished, is_crowded, is_full, reply_on, next_command}
 use Rattle.iscsi_history.specs.rules.Management.{may_wait}
-use Rattle.iscsi_history.specs.rules.Items.{execution}
 use Rattle.iscsi_history.specs.rules.Run.{effects_of_mark, effects_of_item}
 use Rattle.iscsi_session.specs.private.Standing.{open_of, Core, kept, is_regular, task_of, member_of, WindowAgrees, RepliesAgree, CommandsAgree, SetsAgree, arrival_waiting, Agrees}
 use Rattle.iscsi_history.specs.promises.Enabling.{EnabledSoFar}
-use Rattle.iscsi_session.specs.private.Steps.{new_live, new_task, number_by, event_by, started, is_immediate_on, is_crowded_by, is_set_full, place_in, verdict_by, count_reply, executed_as, execution_effects}
+use Rattle.iscsi_session.specs.private.Steps.{new_live, new_task, number_by, event_by, started, is_immediate_on, is_crowded_by, is_set_full, count_reply, with_command, entry_effects, with_reply, reply_effects}
 use Rattle.iscsi_history.proofs.BoolLemmas.{and_both}
 use Rattle.iscsi_session.proofs.OpenConns.{open_of-same}
-use Rattle.iscsi_history.proofs.ListLemmas.{list_any-map, count_by-map, count_by-push}
+use Rattle.iscsi_history.proofs.ListLemmas.{count_by-map, count_by-push}
 use Rattle.iscsi_history.proofs.DeliveryLemmas.{IsQuiet}
 use Rattle.iscsi_session.proofs.WindowParts.{Turned, WindowAgrees-started}
 use Rattle.iscsi_session.proofs.ReplyParts.{RepliesAgree-quiet, RepliesAgree-sent}
@@ -31,39 +27,17 @@ use Rattle.iscsi_history.proofs.NewlyLemmas.{never_free, Untouched, newly-untouc
 use Rattle.iscsi_session.proofs.EnablingLemmas.{EnabledSoFar-entered}
 use Rattle.iscsi_session.proofs.CommandParts.{CommandsAgree-untouched, live-entered, CommandsAgree-entered}
 use Rattle.iscsi_session.proofs.SetParts.{SetsAgree-untouched, SetEntry, SetsAgree-entered}
-use Rattle.iscsi_history.proofs.VerdictLemmas.{named_below, entering_by}
 use Rattle.iscsi_history.proofs.ClosingItems.{ClosesNone, closes-more}
 use Rattle.iscsi_history.proofs.EnabledItems.{EnabledSoFar-untouched}
-use Rattle.iscsi_history.proofs.CommandItems.{EntersOne, unfinished-untouched, verdict-untouched}
-use Rattle.iscsi_history.proofs.EmptyingMarks.{quiet-marks}
-
-pub placed : (sets : List Members) (r : Request) (u : ℕ) (full : Bool) → place_in sets r ≡ Some (u, full) → (u < length sets) × (is_set_full (get_or sets u (opened 0)) ≡ full)
-placed sets r u full h = by_unit (unit_named (length sets) r) refl h
-  where
-    by_unit : (x : Option ℕ) → unit_named (length sets) r ≡ x → option_map {U = ℕ × Bool} (λ v. (v, is_set_full (get_or sets v (opened 0)))) x ≡ Some (u, full) → (u < length sets) × (is_set_full (get_or sets u (opened 0)) ≡ full)
-    by_unit None is h = absurd cc
-    by_unit (Some v) is h =
-        let both : ◌≡◌ {A = ℕ × Bool} (v, is_set_full (get_or sets v (opened 0))) (u, full) = cc in
-        let same = ap (λ (p : ℕ × Bool). p.0) both in
-        (rw (← same) (named_below (length sets) r v is), rw (← same) (ap (λ (p : ℕ × Bool). p.1) both))
+use Rattle.iscsi_history.proofs.CommandItems.{EntersOne, unfinished-untouched}
+use Rattle.iscsi_history.proofs.EmptyingMarks.{quiet_none, quiet_sends, quiet_enters}
 
 -- what the session says is what the definitions say
-full_is : (o : Setting) (s : Core) (t : Trace) (u : ℕ) → SetsAgree o s.sets t → u < o.units → is_set_full (get_or s.sets u (opened 0)) ≡ is_full o t u
+pub full_is : (o : Setting) (s : Core) (t : Trace) (u : ℕ) → SetsAgree o s.sets t → u < o.units → is_set_full (get_or s.sets u (opened 0)) ≡ is_full o t u
 full_is o s t u a inside = cc (a.depths u inside, a.lists u inside, length-map (live_in u t) (member_of o t))
 
-place_is : (o : Setting) (s : Core) (t : Trace) (r : Request) → SetsAgree o s.sets t → place_in s.sets r ≡ place_named o t r
-place_is o s t r a = by_unit (unit_named o.units r) refl
-  where
-    by_unit : (x : Option ℕ) → unit_named o.units r ≡ x → place_in s.sets r ≡ place_named o t r
-    by_unit None is = rw (a.units, is)
-    by_unit (Some u) is = rw (a.units, is, full_is o s t u a (named_below o.units r u is))
-
-crowded_is : (s : Core) (t : Trace) (r : Request) → s.live ≡ map kept (live t) → is_crowded_by s r ≡ is_crowded t r
+pub crowded_is : (s : Core) (t : Trace) (r : Request) → s.live ≡ map kept (live t) → is_crowded_by s r ≡ is_crowded t r
 crowded_is s t r lives = cc (count_by-map (is_immediate_on (connection_of r)) kept (live t))
-
-pub verdict_is : (o : Setting) (s : Core) (t : Trace) (r : Request) → CommandsAgree o s.live s.entered t → SetsAgree o s.sets t → verdict_by s r ≡ verdict_of o t r
-verdict_is o s t r commands sets =
-    cc (commands.commands, list_any-map (λ (l : Live). l.itt == itt r) kept (live t), crowded_is s t r commands.commands, place_is o s t r sets)
 
 unfinished-started : (w : Arrived) (r : Request) → (started w r).unfinished ≡ w.unfinished + cond (not (is_immediate r)) 1 0
 unfinished-started w r = grind arith
@@ -93,9 +67,9 @@ pub record Begun (o : Setting) (s : Core) (t : Trace) (m : Mark) (e : Effect) (a
   pub open_is : s.open_conns ≡ open_of o t
   pub shows : effects_of_mark o t m ≡ e ∷ []
 
-pub record Executed (o : Setting) (s : Core) (t : Trace) (m : Mark) (e : Effect) (a : Arrival) (v : Verdict) : Type 0 where
-  pub agrees : Agrees o (executed_as s a.request v) ((m ∷ marks_of ((m ∷ []) ∷ t) a v) ∷ t)
-  pub effects : e ∷ execution_effects s a.request v ≡ effects_of_item o t (m ∷ marks_of ((m ∷ []) ∷ t) a v)
+-- the session that an item leads to, and its effects
+abbrev pub Follows : Setting → Trace → List Mark → Core → List Effect → Type 0
+Follows o t item s es = Agrees o s (item ∷ t) × (es ≡ effects_of_item o t item)
 
 module _ (o : Setting) (s : Core) (t : Trace) (m : Mark) (e : Effect) (a : Arrival) (b : Begun o s t m e a) where
   pub untouched-begun : (ms : List Mark) → Untouched ms → Untouched (m ∷ ms)
@@ -120,32 +94,31 @@ module _ (o : Setting) (s : Core) (t : Trace) (m : Mark) (e : Effect) (a : Arriv
       }
 
   -- nothing more happens
-  pub nothing_more : Executed o s t m e a Nothing
+  pub nothing_more : Follows o t (m ∷ []) s (e ∷ [])
   nothing_more =
-      let none : Untouched [] = record { enters_none = refl; leaves_no = λ k. refl } in
-      record {
-        agrees = begun-untouched [] s.conns (quiet-marks t a Nothing) none (record { session = refl; conns = λ k. refl }) (RepliesAgree-quiet o s.conns t (m ∷ []) (cc b.sends_no) b.replies) refl;
-        effects = cc (b.shows, newly-untouched o t (m ∷ []) (untouched-begun [] none));
-      }
+      let none : Untouched [] = record { enters_none = refl; leaves_no = λ k. refl } in (
+        begun-untouched [] s.conns quiet_none none (record { session = refl; conns = λ k. refl }) (RepliesAgree-quiet o s.conns t (m ∷ []) (cc b.sends_no) b.replies) refl,
+        cc (b.shows, newly-untouched o t (m ∷ []) (untouched-begun [] none)),
+      )
 
   -- a reply goes out
-  pub answered : (reply : Reply) → Executed o s t m e a (Answer reply)
+  pub answered : (reply : Reply) → Follows o t (m ∷ reply_on a reply) (with_reply s (connection_of a.request)) (e ∷ reply_effects s (connection_of a.request) reply)
   answered reply =
       let conn : ℕ = connection_of a.request in
       let sends : List Mark = Sends conn reply ∷ [] in
-      let none : Untouched sends = record { enters_none = refl; leaves_no = λ k. refl } in
-      record {
-        agrees = begun-untouched sends (count_reply conn s.conns) (quiet-marks t a (Answer reply)) none (record { session = refl; conns = λ k. refl }) (RepliesAgree-sent o s.conns t (m ∷ sends) conn (cc b.sends_no) b.known b.replies) refl;
-        effects = cc (b.replies.stat_sns conn b.known, b.shows, newly-untouched o t (m ∷ sends) (untouched-begun sends none));
-      }
+      let none : Untouched sends = record { enters_none = refl; leaves_no = λ k. refl } in (
+        begun-untouched sends (count_reply conn s.conns) (quiet_sends conn reply) none (record { session = refl; conns = λ k. refl }) (RepliesAgree-sent o s.conns t (m ∷ sends) conn (cc b.sends_no) b.known b.replies) refl,
+        cc (b.replies.stat_sns conn b.known, b.shows, newly-untouched o t (m ∷ sends) (untouched-begun sends none)),
+      )
 
   -- a command enters
-  enters_unit : number_by s a.request ≡ a.number → event_by s a.request ≡ cond (is_immediate a.request) a.event 0 → (unit : ℕ) → unit < o.units → Executed o s t m e a (EnterUnit unit)
+  pub enters_unit : number_by s a.request ≡ a.number → event_by s a.request ≡ cond (is_immediate a.request) a.event 0 → (unit : ℕ) → unit < o.units
+      → Follows o t (m ∷ Enters (next_command ((m ∷ []) ∷ t) a unit) ∷ []) (with_command s a.request unit) (e ∷ entry_effects s a.request unit)
   enters_unit number_is event_is unit inside =
       let c : Command = next_command ((m ∷ []) ∷ t) a unit in
       let ms : List Mark = Enters c ∷ [] in
       let item : List Mark = m ∷ ms in
-      let q : IsQuiet ms = quiet-marks ((m ∷ []) ∷ t) a (EnterUnit unit) in
+      let q : IsQuiet ms = quiet_enters c in
       let entered_is : length (entered ((m ∷ []) ∷ t)) ≡ length (entered t) = cc (b.enters_no, append-nil (entered t)) in
       let count : s.entered ≡ length (entered ((m ∷ []) ∷ t)) = b.commands.count_is ∙ sym entered_is in
       let en : EntersOne item t c = record { one = cc b.enters_no; leaves_no = λ k. cc (b.leaves_no k); ticket = omega (arith, entered_is) } in
@@ -154,9 +127,8 @@ module _ (o : Setting) (s : Core) (t : Trace) (m : Mark) (e : Effect) (a : Arriv
       let entry : SetEntry o s.sets t item c (new_task s a.request) = SetsAgree-entered o s.live s.entered s.sets t item c (new_task s a.request) b.commands b.sets en inside task_is in
       let regular : is_regular o c ≡ true = and_both _ _ (lt-ltb unit o.units inside) b.known in
       let numbered : Command → Bool = λ d. not (is_immediate d.arrival.request) in
-      let lives : unfinished (item ∷ t) ≡ unfinished t + cond (numbered c) 1 0 = ap (count_by numbered) (live-entered o s.live s.entered item t c b.commands en) ∙ count_by-push numbered (live t) c in
-      record {
-        agrees = record {
+      let lives : unfinished (item ∷ t) ≡ unfinished t + cond (numbered c) 1 0 = ap (count_by numbered) (live-entered o s.live s.entered item t c b.commands en) ∙ count_by-push numbered (live t) c in (
+        record {
           events = b.events;
           window = cond_both (is_immediate a.request) _ _ (λ v. WindowAgrees o v (item ∷ t)) (λ is. b.window ms q) (λ is. WindowAgrees-started o s.window (item ∷ t) (b.room is ms q));
           replies = RepliesAgree-quiet o s.conns t item (cc b.sends_no) b.replies;
@@ -167,25 +139,6 @@ module _ (o : Setting) (s : Core) (t : Trace) (m : Mark) (e : Effect) (a : Arriv
           level = b.level;
           waiting = record { list = b.waiting; may = b.may; known = b.waiting_known };
           open_conns = b.open_is ∙ sym (open_of-same o item t (closes-more m ms b.closes_no (record { session = refl; conns = λ k. refl })));
-        };
-        effects = cc (entry.effects, count, b.shows);
-      }
-
-  executed-by : number_by s a.request ≡ a.number → event_by s a.request ≡ cond (is_immediate a.request) a.event 0 → (v : Verdict) → verdict_by s a.request ≡ v → Executed o s t m e a v
-  executed-by number_is event_is Nothing is = nothing_more
-  executed-by number_is event_is (Answer reply) is = answered reply
-  executed-by number_is event_is (EnterUnit unit) is =
-      let p = placed s.sets a.request unit false (entering_by a.request _ _ _ unit is).place_is in
-      enters_unit number_is event_is unit (omega (arith, p.0, b.sets.units))
-
-  -- the item of the execution
-  pub executed-item : (opcode a.request == 0x02) ≡ false → (opcode a.request == 0x06) ≡ false → number_by s a.request ≡ a.number → event_by s a.request ≡ cond (is_immediate a.request) a.event 0 → Agrees o (executed_as s a.request (verdict_by s a.request)) (execution o t m a ∷ t) × (e ∷ execution_effects s a.request (verdict_by s a.request) ≡ effects_of_item o t (execution o t m a))
-  executed-item no_function no_logout number_is event_is =
-      let v : Verdict = verdict_by s a.request in
-      let u : Untouched (m ∷ []) = untouched-begun [] (record { enters_none = refl; leaves_no = λ k. refl }) in
-      let same = verdict-untouched o t (m ∷ []) a.request u ∙ sym (verdict_is o s t a.request b.commands b.sets) in
-      let done : Executed o s t m e a v = executed-by number_is event_is v refl in
-      let is : execution o t m a ≡ m ∷ marks_of ((m ∷ []) ∷ t) a v = rw (no_function, no_logout, same) in (
-        rw is done.agrees,
-        done.effects ∙ ap (effects_of_item o t) (sym is),
+        },
+        cc (entry.effects, count, b.shows),
       )

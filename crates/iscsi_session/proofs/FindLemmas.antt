@@ -14,7 +14,7 @@ use Rattle.iscsi_history.specs.rules.Trace.{Arrival, Command, Trace, first_of, h
 use Rattle.iscsi_history.specs.rules.Execution.{exp_of}
 use Rattle.iscsi_history.specs.rules.Management.{is_to, held_command, live_with_tag}
 use Rattle.iscsi_session.specs.private.Standing.{Core, held_of, place_of, kept, WindowAgrees}
-use Rattle.iscsi_session.specs.private.Functions.{tagged_in}
+use Rattle.iscsi_session.specs.private.Deeds.{tagged_in}
 use Rattle.iscsi_history.proofs.HeldLemmas.{held-number, held_received, is_sought, none_below}
 use Rattle.iscsi_history.proofs.PlaceLemmas.{position-cons}
 

@@ -1,15 +1,14 @@
 -- Arrived numbers and the window, from event to event.
-use Rattle.std.proofs.Common.{◌≡◌, ℕ, ◌+◌, ◌-◌, ◌<◌, ⊎_elim, false, length, Option, Some, None, arith}
+use Rattle.std.proofs.Common.{◌≡◌, ℕ, ◌+◌, ◌-◌, ◌<◌, ⊎_elim, false, length, arith}
 use Rattle.std.proofs.lemmas.Bool.{cases_lt}
 use Rattle.iscsi_window.specs.Windows.{number_expected}
 use Rattle.iscsi_history.specs.declared.event.Event.{Event}
-use Rattle.iscsi_commands.specs.declared.live.Live.{Live}
 use Rattle.iscsi_history.specs.rules.Settings.{Setting}
 use Rattle.iscsi_history.specs.rules.Trace.{Trace, received, is_received}
 use Rattle.iscsi_history.specs.rules.Execution.{max_of}
 use Rattle.iscsi_history.specs.rules.Run.{after_event}
 use Rattle.iscsi_session.specs.private.Standing.{Core, Settled}
-use Rattle.iscsi_session.specs.private.Steps.{KeepsPace, find_enabled, after_completion, without_command}
+use Rattle.iscsi_session.specs.private.Steps.{KeepsPace}
 use Rattle.iscsi_history.specs.promises.Flow.{HasOneMore, Flows}
 use Rattle.iscsi_history.proofs.FlowItems.{exp_stays}
 use Rattle.iscsi_session.proofs.WindowParts.{no_place}

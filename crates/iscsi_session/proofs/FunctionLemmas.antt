@@ -1,85 +1,78 @@
--- A request executes: a task management function or another one, at its turn, at its arrival, or once it has waited.
-use Rattle.std.proofs.Common.{◌≡◌, ℕ, ℤ, pos, ◌-ℤ◌, ◌+◌, ◌-◌, ◌<◌, ◌==◌, ◌&&◌, not, cond, Bool, true, false, nat_lt, nat_le, List, [], ◌∷◌, ◌++◌, length, map, set, filter, Option, Some, None, refl, ap, sym, subst, ◌∙◌, arith, length-set}
-use Rattle.std.specs.List.{list_any, list_all, filter_map, flat_map}
+-- A request executes, whatever it does: at its turn, at its arrival, or once it has waited.
+use Rattle.std.proofs.Common.{◌≡◌, ℕ, ℤ, pos, ◌-ℤ◌, ◌+◌, ◌-◌, ◌<◌, ◌≤◌, ◌==◌, ◌&&◌, not, cond, Bool, true, false, nat_lt, nat_le, List, [], ◌∷◌, ◌++◌, length, map, set, filter, Option, Some, None, option_map, refl, ap, sym, subst, ◌∙◌, arith, length-set}
+use Rattle.std.specs.List.{list_all, filter_map, flat_map}
 use Rattle.std.proofs.lemmas.Bool.{false≢true, eqb-true}
 use Rattle.std.proofs.lemmas.Bool.Decides.{nat_tests}
 use Rattle.std.proofs.lemmas.List.{append-nil, map-append}
 use Rattle.std.proofs.lemmas.List.Folds.{list_all-append}
 use Rattle.std.proofs.lemmas.List.Elements.{filter_map-append}
 use Rattle.iscsi_window.specs.declared.held_request.HeldRequest.{HeldRequest}
-use Rattle.iscsi_wire.specs.declared.reply.Reply.{Reply}
-use Rattle.iscsi_wire.specs.declared.reply.Reply.TheVariants.{Task as TaskReply, Reject}
 use Rattle.iscsi_wire.specs.declared.request.Request.{Request}
 use Rattle.iscsi_wire.specs.Serial.{wire, lift, number_of_first}
-use Rattle.iscsi_wire.specs.Fields.{connection_of, header_of, is_immediate, opcode, function, itt, rtt, cmd_sn}
-use Rattle.iscsi_window.specs.Windows.{Arrived, number_expected, room_of, at_place, emptied, voided, with_place}
-use Rattle.iscsi_tasks.specs.declared.cover.Cover.TheVariants.{Below}
+use Rattle.iscsi_wire.specs.Fields.{connection_of, is_immediate, opcode, itt, rtt, cmd_sn, ref_cmd_sn}
+use Rattle.iscsi_window.specs.Windows.{number_expected, number_shown, room_of, at_place, find_held, with_place}
 use Rattle.iscsi_tasks.specs.Sets.{is_covered}
 use Rattle.iscsi_history.specs.declared.effect.Effect.{Effect}
 use Rattle.iscsi_history.specs.declared.effect.Effect.TheVariants.{Deliver, Immediate}
-use Rattle.iscsi_session.specs.declared.response.Response.{Response}
-use Rattle.iscsi_session.specs.declared.response.Response.TheVariants.{Complete, Succeeded}
-use Rattle.iscsi_session.specs.private.Codes.{response_code}
-use Rattle.iscsi_session.specs.declared.outcome.Outcome.{Outcome}
-use Rattle.iscsi_session.specs.declared.outcome.Outcome.TheVariants.{Respond, Abort, AbortAll, Empty as EmptyNumber, Void as VoidNumber}
 use Rattle.iscsi_commands.specs.declared.live.Live.{Live}
 use Rattle.iscsi_session.specs.declared.session.waiting.Waiting.{Waiting}
-use Rattle.iscsi_session.specs.declared.deferral.Deferral.{Deferral}
-use Rattle.iscsi_session.specs.declared.deferral.Deferral.TheVariants.{Now, Later}
-use Rattle.iscsi_history.specs.declared.verdict.Verdict.{Verdict}
-use Rattle.iscsi_history.specs.declared.verdict.Verdict.TheVariants.{Enter as EnterUnit}
 use Rattle.iscsi_history.specs.rules.Settings.{Setting, is_known}
 use Rattle.iscsi_history.specs.rules.Trace.{Arrival, Command, Mark, Executes, Delivers, Voids, Empties, Waits, Leaves, Trace, admits_at, contains, is_received, held, waiting, waiting_by, waiting_through, live, live_in, sent_on}
-use Rattle.iscsi_history.specs.rules.Execution.{exp_of, max_of, unit_named, marks_of}
-use Rattle.iscsi_history.specs.rules.Management.{may_wait, waiting_on, refusal_to, refusal_of_function, answer, is_before, abort_all, query, function_to, function_marks, management_marks}
 use Rattle.iscsi_history.specs.rules.Agenda.{arrival_of}
 use Rattle.iscsi_history.specs.rules.Items.{execution, waiting_item, immediate_item, item_of, function_item}
 use Rattle.iscsi_history.specs.rules.Run.{effects_of_mark, effects_of_item}
-use Rattle.iscsi_session.specs.private.Standing.{Core, kept, task_of, WindowAgrees, arrival_waiting, WaitingAgrees, Agrees, Settled}
-use Rattle.iscsi_session.specs.private.Functions.{outcome_by, abort_by, performed_as, performance_effects, covers_ticket, response_effects}
-use Rattle.iscsi_session.specs.private.Steps.{with_reply, number_by, event_by, executed_as, execution_effects}
-use Rattle.iscsi_session.specs.private.Turning.{position_by, next_position, without_waiting, performed, performed_effects, managed, managed_effects, with_executed, executed_effects, next_waiting, waiting_in, wait_by, function_if, function_effects, deferral_by, immediate_as, immediate_effects}
+use Rattle.iscsi_session.specs.private.Standing.{Core, kept, task_of, WindowAgrees, CommandsAgree, arrival_waiting, WaitingAgrees, Agrees, Settled}
 use Rattle.iscsi_session.proofs.OpenConns.{open_of-same}
-use Rattle.iscsi_session.proofs.LogoutItem.{logout-item}
-use Rattle.iscsi_session.proofs.LoggedOutLemmas.{closed_expected}
-use Rattle.iscsi_history.proofs.BoolLemmas.{and_parts, and_true}
-use Rattle.iscsi_history.proofs.ListLemmas.{count_by-map, list_any-map, list_all-filter, find-passes, any_filter, any_same, find-found, filter-map}
+use Rattle.iscsi_history.proofs.BoolLemmas.{and_parts}
+use Rattle.iscsi_history.proofs.ListLemmas.{count_by-map, list_all-filter, find-passes, find-found, filter-map}
 use Rattle.iscsi_history.proofs.TraceLemmas.{filter-same}
 use Rattle.iscsi_history.proofs.DeliveryLemmas.{IsQuiet, received-quiet, held-quiet}
 use Rattle.iscsi_history.proofs.HeldLemmas.{held-number, admitted_of_held}
 use Rattle.iscsi_session.proofs.WindowParts.{Next, turned_window, WindowAgrees-quiet}
 use Rattle.iscsi_history.proofs.NewlyLemmas.{Untouched, live_in-untouched, newly-untouched}
-use Rattle.iscsi_session.proofs.CommandParts.{CommandsAgree-untouched}
 use Rattle.iscsi_session.proofs.ReplyParts.{RepliesAgree-sent}
 use Rattle.iscsi_session.proofs.SetParts.{SetsAgree-untouched}
 use Rattle.iscsi_session.proofs.AgreeLemmas.{settled_expected, settled_max}
-use Rattle.iscsi_history.proofs.VerdictLemmas.{named_below}
 use Rattle.iscsi_history.proofs.ClosingItems.{ClosesNone, closes-more}
 use Rattle.iscsi_history.proofs.ReceivedItems.{no_abort_task, may_immediate}
 use Rattle.iscsi_history.proofs.EnabledItems.{EnabledSoFar-untouched}
 use Rattle.iscsi_history.proofs.CommandItems.{unfinished-untouched}
 use Rattle.iscsi_history.proofs.NumberLemmas.{position_eq, position_lt, wire-lift}
 use Rattle.iscsi_history.proofs.EmptyingMarks.{quiet_executes}
-use Rattle.iscsi_session.proofs.ExecutionLemmas.{Begun, Executed, nothing_more, answered, executed-item, untouched-begun}
 use Rattle.iscsi_session.proofs.LeavingLemmas.{covered_in, leaving-item}
-use Rattle.iscsi_session.proofs.AbortParts.{numbered_outcome, OutcomeIs, AbortsAs, AbortsAs-arrived, AbortsAs-turned, Agrees-waits}
-use Rattle.iscsi_session.proofs.MissingLemmas.{WindowAgrees-voided, WindowAgrees-emptied, VoidedAt, voided_at, emptied_at}
-use Rattle.iscsi_session.proofs.ManageLemmas.{is_of_number, of_no_number, through_performed, through_executed}
+use Rattle.iscsi_session.proofs.MissingLemmas.{inside_bounds, WindowAgrees-voided, WindowAgrees-emptied, VoidedAt, voided_at, emptied_at}
 use Rattle.iscsi_session.proofs.TurnLemmas.{turned_core, numbered_held, turn-begun, number_next, event_next}
+use Rattle.iscsi_wire.specs.declared.reply.Reply.TheVariants.{Task as TaskReply}
+use Rattle.iscsi_tasks.specs.declared.cover.Cover.TheVariants.{All as AllOfThem, Below}
+use Rattle.iscsi_history.specs.declared.deed.Answer.{Answer}
+use Rattle.iscsi_history.specs.declared.deed.Answer.TheVariants.{Reject, Respond}
+use Rattle.iscsi_history.specs.declared.deed.Deed.{Deed}
+use Rattle.iscsi_history.specs.declared.deed.Deed.TheVariants.{Nothing, Wait, Reply, Enter, Void, Empty, Abort, AbortEarlier, AbortAll, CloseConn, CloseSession}
+use Rattle.iscsi_history.specs.rules.Execution.{exp_of, max_of, reply_of, unit_named}
+use Rattle.iscsi_history.specs.rules.Management.{may_wait, waiting_on, answer, is_before, live_with_tag, held_command, refusal}
+use Rattle.iscsi_history.specs.rules.Deeds.{function_deed, if_found, deed_marks}
+use Rattle.iscsi_session.specs.private.Functions.{covers_ticket, response_effects}
+use Rattle.iscsi_session.specs.private.Steps.{with_reply, number_by, event_by, waiting_in}
+use Rattle.iscsi_session.specs.private.Deeds.{live_by, facts_by, deed_by, refusal_by, waits_by, arrival_by, Fits, carried, carried_effects}
+use Rattle.iscsi_session.specs.private.Turning.{position_by, next_position, without_waiting, waited_by, with_executed, executed_effects, next_waiting, function_if, function_effects, immediate_as, immediate_effects}
+use Rattle.iscsi_history.proofs.ApartLemmas.{apart-filter}
+use Rattle.iscsi_history.proofs.CommandItems.{ticket_alone}
+use Rattle.iscsi_history.proofs.DeedTable.{never_waits}
+use Rattle.iscsi_session.proofs.CommandParts.{CommandsAgree-untouched}
+use Rattle.iscsi_session.proofs.FindLemmas.{tagged_in-is}
+use Rattle.iscsi_session.proofs.LogoutItem.{session_ends, conn_closes}
+use Rattle.iscsi_session.proofs.ExecutionLemmas.{Begun, Follows, nothing_more, answered, enters_unit, untouched-begun}
+use Rattle.iscsi_session.proofs.AbortParts.{Found, numbered_deed, Found-arrived, Found-turned, Agrees-waits}
+use Rattle.iscsi_session.proofs.AlikeLemmas.{commands, deed_is, function_is}
+use Rattle.iscsi_session.proofs.DeedLemmas.{fits_deed, fits_function, is_of_number, missing_parts, is_whole, whole_function}
+use Rattle.iscsi_session.proofs.PaceLemmas.{immediate_is}
 
 -- ---- a command is before a function, by positions
 
 covers_before : (o : Setting) (a : Arrival) (c : Command) → is_covered (Below (pos a.number -ℤ pos (number_of_first o.first)) a.event) (task_of o c) ≡ is_before a c
 covers_before o a c = grind (arith, position_lt, position_eq)
 
--- ---- a function by its outcome
-
--- the session that an item leads to, and its effects
-abbrev pub Follows : Setting → Trace → List Mark → Core → List Effect → Type 0
-Follows o t item s es = Agrees o s (item ∷ t) × (es ≡ effects_of_item o t item)
-
-follows : {o : Setting} {s : Core} {t : Trace} {m : Mark} {e : Effect} {a : Arrival} {v : Verdict} → Executed o s t m e a v → Follows o t (m ∷ marks_of ((m ∷ []) ∷ t) a v) (executed_as s a.request v) (e ∷ execution_effects s a.request v)
-follows x = (x.agrees, x.effects)
+-- ---- a number is voided, or a held request is taken out
 
 -- a mark that leaves all but the window, beside the function's answer
 record IsMute (a : Arrival) (x : Mark) : Type 0 where
@@ -94,41 +87,16 @@ record Windowed (o : Setting) (s : Core) (t : Trace) (m : Mark) : Type 0 where
   window : WindowAgrees o s.window t
   quiet : IsQuiet (m ∷ [])
 
--- the code of a query's response
-asked_code : (there : Bool) → cond there 7 0 ≡ response_code (cond there Succeeded Complete)
-asked_code true = refl
-asked_code false = refl
-
 same_live : (o : Setting) (s : Core) (t : Trace) (m : Mark) (e : Effect) (a : Arrival) → Begun o s t m e a → (unit : ℕ) → live_in unit ((m ∷ []) ∷ t) ≡ live_in unit t
 same_live o s t m e a b unit = live_in-untouched (m ∷ []) t (untouched-begun o s t m e a b [] (search)) unit
 
-module _ (o : Setting) (s : Core) (t : Trace) (m : Mark) (e : Effect) (a : Arrival) (b : Begun o s t m e a) (unit : ℕ) where
+module _ (o : Setting) (s : Core) (t : Trace) (m : Mark) (e : Effect) (a : Arrival) (b : Begun o s t m e a) where
   abbrev t' : Trace
   t' = (m ∷ []) ∷ t
 
-  before_is : (position : ℤ) (event : ℕ) → position ≡ pos a.number -ℤ pos (number_of_first o.first) → event ≡ a.event
-      → abort_all t' a unit (is_before a) ≡ map Leaves (covered_in o t' unit (is_covered (Below position event))) ++ answer a 0
-  before_is position event position_is event_is =
-      rw (position_is, event_is, filter-same (is_before a) (λ c. is_covered (Below (pos a.number -ℤ pos (number_of_first o.first)) a.event) (task_of o c)) (live_in unit t') (λ c. sym (covers_before o a c)))
+  abbrev n : ℕ
+  n = lift (number_expected s.window) (ref_cmd_sn a.request)
 
-  asked : (p : Command → Bool) (q : Live → Bool) → ((c : Command) → q (kept c) ≡ ((c.unit == unit) && p c)) → list_any p (live_in unit t') ≡ list_any q s.live
-  asked p q same =
-      rw (same_live o s t m e a b unit, b.commands.commands, any_filter, list_any-map) (any_same (λ c. (c.unit == unit) && p c) (λ c. q (kept c)) (live t) (λ c. sym (same c)))
-
-  -- the marks of the function
-  outcome_is : (position : ℤ) (event : ℕ) → position ≡ pos a.number -ℤ pos (number_of_first o.first) → event ≡ a.event → ((function a.request == 1) ≡ true → AbortsAs o s.window t' a unit (abort_by s a.request unit))
-      → OutcomeIs o s.window t' a unit (function_to o t' a unit) (outcome_by s a.request position event unit)
-  outcome_is position event position_is event_is aborts = by_code (function a.request == 1) (function a.request == 5) (function a.request == 9) (function a.request == 10) refl refl refl refl
-    where
-      by_code : (one five nine ten : Bool) → (function a.request == 1) ≡ one → (function a.request == 5) ≡ five → (function a.request == 9) ≡ nine → (function a.request == 10) ≡ ten
-          → OutcomeIs o s.window t' a unit (function_to o t' a unit) (outcome_by s a.request position event unit)
-      by_code true five nine ten is f g h = rw is (aborts is)
-      by_code false true nine ten is f g h = rw (is, f)
-      by_code false false true ten is f g h = rw (is, f, g) (ap (query a) (asked (λ c. itt c.arrival.request == rtt a.request) (λ l. l.unit == unit && l.itt == rtt a.request) (λ c. refl)) ∙ ap (answer a) (asked_code _))
-      by_code false false false true is f g h = rw (is, f, g, h) (ap (query a) (asked (λ c. true) (λ l. l.unit == unit) (λ c. sym (and_true (c.unit == unit)))) ∙ ap (answer a) (asked_code _))
-      by_code false false false false is f g h = rw (is, f, g, h) (before_is position event position_is event_is)
-
-module _ (o : Setting) (s : Core) (t : Trace) (m : Mark) (e : Effect) (a : Arrival) (b : Begun o s t m e a) (unit : ℕ) (inside : unit < o.units) where
   quiet_answer : IsQuiet (answer a 0)
   quiet_answer = search
 
@@ -157,89 +125,111 @@ module _ (o : Setting) (s : Core) (t : Trace) (m : Mark) (e : Effect) (a : Arriv
         rw (newly-untouched o t item u, append-nil (flat_map (effects_of_mark o t) item), b.shows, b.replies.stat_sns conn b.known),
       )
 
-  abbrev Performs : Outcome → List Mark → Type 0
-  Performs x fm = Follows o t (m ∷ fm) (performed_as s a.request unit x) (e ∷ performance_effects s a.request unit x)
+  -- ---- what it does
 
-  responds : (response : Response) → Performs (Respond response) (answer a (response_code response))
-  responds response = follows (answered o s t m e a b (TaskReply (itt a.request) (response_code response)))
+  abbrev Does : ℤ → ℕ → Deed → Type 0
+  Does position event d = Follows o t (m ∷ deed_marks o t' a d) (carried s a.request position event d) (e ∷ carried_effects s a.request position event d)
 
-  performs_void : (sn : ℕ) (fm : List Mark) → OutcomeIs o s.window ((m ∷ []) ∷ t) a unit fm (VoidNumber sn) → Windowed o s t m → Performs (VoidNumber sn) fm
-  performs_void sn fm is before = by_known (is_received t n) refl
+  void_number : (position : ℤ) (event : ℕ) → Fits s a.request Void → Found o s t' a → Windowed o s t m → Does position event Void
+  void_number position event fits x before = subst (λ ms. Follows o t (m ∷ ms) (carried s a.request position event Void) (e ∷ carried_effects s a.request position event Void)) (sym marks) (by_known (is_received t n) refl)
     where
-      n : ℕ
-      n = lift (number_expected s.window) sn
+      marks : deed_marks o t' a Void ≡ cond (is_received t' n) [] (Voids n ∷ []) ++ answer a 0
+      marks = ap (λ k. cond (is_received t' (lift k (ref_cmd_sn a.request))) [] (Voids (lift k (ref_cmd_sn a.request)) ∷ []) ++ answer a 0) (x.expected_is (missing_parts s a.request fits).0)
 
-      same : is_received ((m ∷ []) ∷ t) n ≡ is_received t n
+      bounds : (number_expected s.window ≤ n) × (n < number_expected s.window + room_of s.window)
+      bounds = inside_bounds s.window (ref_cmd_sn a.request) (missing_parts s a.request fits).1
+
+      same : is_received t' n ≡ is_received t n
       same = ap (λ ns. contains ns n) (received-quiet (m ∷ []) t before.quiet)
 
-      v : VoidedAt s.window t sn n
-      v = voided_at o s.window t sn n before.window is.low is.high refl
+      v : VoidedAt s.window t (ref_cmd_sn a.request) n
+      v = voided_at o s.window t (ref_cmd_sn a.request) n before.window bounds.0 bounds.1 refl
 
-      by_known : (b : Bool) → is_received t n ≡ b → Performs (VoidNumber sn) fm
-      by_known true there = rw (is.marks, v.known there, v.received_is, same, there) (responds Complete)
-      by_known false gone = rw (is.marks, v.new gone, v.received_is, same, gone, ← wire-lift (number_expected s.window) sn)
-          (windowed (n - number_expected s.window) (Voids n) before (WindowAgrees-voided o s.window t m n (answer a 0) before.window before.quiet quiet_answer is.low is.high gone) (search))
+      by_known : (b : Bool) → is_received t n ≡ b
+          → Follows o t (m ∷ (cond (is_received t' n) [] (Voids n ∷ []) ++ answer a 0)) (carried s a.request position event Void) (e ∷ carried_effects s a.request position event Void)
+      by_known true there = rw (v.known there, v.received_is, same, there) (answered o s t m e a b (TaskReply (itt a.request) 0))
+      by_known false gone = rw (v.new gone, v.received_is, same, gone, ← wire-lift (number_expected s.window) (ref_cmd_sn a.request))
+          (windowed (n - number_expected s.window) (Voids n) before (WindowAgrees-voided o s.window t m n (answer a 0) before.window before.quiet quiet_answer bounds.0 bounds.1 gone) (search))
 
-  performs_empty : (sn : ℕ) (fm : List Mark) → OutcomeIs o s.window ((m ∷ []) ∷ t) a unit fm (EmptyNumber sn) → Windowed o s t m → Performs (EmptyNumber sn) fm
-  performs_empty sn fm is before =
-      let n : ℕ = is.request.number in
-      let held_is : held t n ≡ Some is.request = sym (held-quiet (m ∷ []) t n before.quiet) ∙ is.held_is in
-      rw (is.shown, is.marks, emptied_at o s.window t n is.request before.window is.near held_is is.low is.high)
-      (windowed (n - number_expected s.window) (Empties is.request) before (WindowAgrees-emptied o s.window t m n is.request (answer a 0) before.window before.quiet quiet_answer held_is is.low is.high) (search))
-
-  -- an outcome, where what voids or empties a number has a window that agrees
-  performs : (x : Outcome) (fm : List Mark) → OutcomeIs o s.window ((m ∷ []) ∷ t) a unit fm x → (is_of_number x ≡ true → Windowed o s t m) → Performs x fm
-  performs (Respond response) fm is before = rw is (responds response)
-  performs (Abort ticket) fm is before = rw (is, same_live o s t m e a b unit) (leaving-item o s t m e a b unit inside (covers_ticket ticket))
-  performs (AbortAll cover) fm is before = rw (is, same_live o s t m e a b unit) (leaving-item o s t m e a b unit inside (is_covered cover))
-  performs (EmptyNumber sn) fm is before = performs_empty sn fm is (before refl)
-  performs (VoidNumber sn) fm is before = performs_void sn fm is (before refl)
-
--- ---- a function, whatever its unit
-
--- what is known of a function as it begins to execute
-record Called (o : Setting) (s : Core) (t : Trace) (m : Mark) (a : Arrival) (position : ℤ) (event : ℕ) : Type 0 where
-  position_is : position ≡ pos a.number -ℤ pos (number_of_first o.first)
-  event_is : event ≡ a.event
-  aborts : (unit : ℕ) → unit < o.units → (function a.request == 1) ≡ true → AbortsAs o s.window ((m ∷ []) ∷ t) a unit (abort_by s a.request unit)
-  windowed : (unit : ℕ) → is_of_number (outcome_by s a.request position event unit) ≡ true → Windowed o s t m
-
-module _ (o : Setting) (s : Core) (t : Trace) (m : Mark) (e : Effect) (a : Arrival) (b : Begun o s t m e a) (position : ℤ) (event : ℕ) (k : Called o s t m a position event) where
-  function-executed : Follows o t (m ∷ function_marks o ((m ∷ []) ∷ t) a) (performed s a.request position event) (e ∷ performed_effects s a.request position event)
-  function-executed = by_unit (unit_named o.units a.request) refl
+  empty_number : (position : ℤ) (event unit sn : ℕ) → Fits s a.request (Empty unit sn) → Found o s t' a → Windowed o s t m → Does position event (Empty unit sn)
+  empty_number position event unit sn fits x before = by_found (held_command o t' (rtt a.request) unit a.number) (find_held s.window (rtt a.request) unit (cmd_sn a.request)) refl refl (x.held_same unit (omega (arith, fits.0, b.sets.units)))
     where
-      by_unit : (x : Option ℕ) → unit_named o.units a.request ≡ x → Follows o t (m ∷ function_marks o ((m ∷ []) ∷ t) a) (performed s a.request position event) (e ∷ performed_effects s a.request position event)
-      by_unit (Some unit) is =
-          let inside : unit < o.units = named_below o.units a.request unit is in
-          let same : unit_named (length s.sets) a.request ≡ Some unit = cc (b.sets.units, is) in
-          rw (same, is, performed, performed_effects, function_marks) (performs o s t m e a b unit inside (outcome_by s a.request position event unit) (function_to o ((m ∷ []) ∷ t) a unit)
-          (outcome_is o s t m e a b unit position event k.position_is k.event_is (k.aborts unit inside)) (k.windowed unit))
-      by_unit None is =
-          let same : unit_named (length s.sets) a.request ≡ None = cc (b.sets.units, is) in
-          rw (same, is, performed, performed_effects, function_marks) (follows (nothing_more o s t m e a b))
+      by_found : (y : Option Arrival) (k : Option ℕ) → held_command o t' (rtt a.request) unit a.number ≡ y → find_held s.window (rtt a.request) unit (cmd_sn a.request) ≡ k
+          → option_map (λ (h : Arrival). h.number) y ≡ option_map (λ i. number_expected s.window + i) k
+          → Follows o t (m ∷ (if_found Empties y ++ answer a 0)) (carried s a.request position event (Empty unit sn)) (e ∷ carried_effects s a.request position event (Empty unit sn))
+      by_found y None is at same = absurd (let none : None ≡ Some sn = sym (ap (option_map (number_shown s.window)) at) ∙ fits.1 in cc)
+      by_found None (Some k) is at same = absurd cc
+      by_found (Some h) (Some k) is at same =
+          let number : h.number ≡ number_expected s.window + k = cc in
+          let shown : wire (number_expected s.window + k) ≡ sn = let z : Some (wire (number_expected s.window + k)) ≡ Some sn = sym (ap (option_map (number_shown s.window)) at) ∙ fits.1 in cc in
+          let inside = x.held_inside unit h is in
+          let held_is : held t h.number ≡ Some h = sym (held-quiet (m ∷ []) t h.number before.quiet) ∙ inside.0 in
+          rw (← shown, ← number, emptied_at o s.window t h.number h before.window inside.3 held_is inside.1 inside.2)
+          (windowed (h.number - number_expected s.window) (Empties h) before (WindowAgrees-emptied o s.window t m h.number h (answer a 0) before.window before.quiet quiet_answer held_is inside.1 inside.2) (search))
 
-  managed-item : Follows o t (m ∷ management_marks o ((m ∷ []) ∷ t) a) (managed s a.request position event) (e ∷ managed_effects s a.request position event)
-  managed-item = by_refusal (refusal_of_function o a.request) refl
+  -- the command of a unit with the tag leaves
+  abort_one : (position : ℤ) (event unit ticket : ℕ) → Fits s a.request (Abort unit ticket) → Does position event (Abort unit ticket)
+  abort_one position event unit ticket fits = by_live (live_with_tag t' (rtt a.request) unit) refl
     where
-      same : refusal_to s.level (length s.sets) a.request ≡ refusal_of_function o a.request
-      same = cc (b.level, b.sets.units)
+      here : CommandsAgree o s.live s.entered t'
+      here = commands o s t m e a b
 
-      by_refusal : (y : Option Reply) → refusal_of_function o a.request ≡ y → Follows o t (m ∷ management_marks o ((m ∷ []) ∷ t) a) (managed s a.request position event) (e ∷ managed_effects s a.request position event)
-      by_refusal (Some reply) is = rw (same, is, managed, managed_effects, management_marks) (follows (answered o s t m e a b reply))
-      by_refusal None is = rw (same, is, managed, managed_effects, management_marks) function-executed
+      lives : live_by s a.request unit ≡ option_map (λ (l : Live). l.ticket) (option_map kept (live_with_tag t' (rtt a.request) unit))
+      lives = ap (option_map (λ (l : Live). l.ticket)) (tagged_in-is s t' (rtt a.request) unit here.commands)
 
--- a request of any kind executes
-executes : (o : Setting) (s : Core) (t : Trace) (m : Mark) (e : Effect) (a : Arrival) (event : ℕ) → Begun o s t m e a → number_by s a.request ≡ a.number → event_by s a.request ≡ cond (is_immediate a.request) a.event 0 → Called o s t m a (position_by s a.request) event
-    → Follows o t (execution o t m a) (with_executed s a.request event) (e ∷ executed_effects s a.request event)
-executes o s t m e a event b number_is event_is k = by_code (opcode a.request == 0x02) (opcode a.request == 0x06) refl refl
-  where
-    by_code : (v w : Bool) → (opcode a.request == 0x02) ≡ v → (opcode a.request == 0x06) ≡ w → Follows o t (execution o t m a) (with_executed s a.request event) (e ∷ executed_effects s a.request event)
-    by_code true w is out = rw is (managed-item o s t m e a b (position_by s a.request) event k)
-    by_code false true is out = rw (is, out) (logout-item o s t m e a b)
-    by_code false false is out = rw (is, out) (rw (is, out) at (executed-item o s t m e a b is out number_is event_is))
+      by_live : (x : Option Command) → live_with_tag t' (rtt a.request) unit ≡ x
+          → Follows o t (m ∷ (if_found Leaves x ++ answer a 0)) (carried s a.request position event (Abort unit ticket)) (e ∷ carried_effects s a.request position event (Abort unit ticket))
+      by_live None is = absurd (let none : None ≡ Some ticket = sym (lives ∙ ap (λ y. option_map (λ (l : Live). l.ticket) (option_map kept y)) is) ∙ fits.1 in cc)
+      by_live (Some c) is =
+          let ticket_is : c.ticket ≡ ticket = let z : Some c.ticket ≡ Some ticket = sym (lives ∙ ap (λ y. option_map (λ (l : Live). l.ticket) (option_map kept y)) is) ∙ fits.1 in cc in
+          let one = (ticket_alone (λ d. itt d.arrival.request == rtt a.request) (live_in unit t') c (apart-filter (λ d. d.unit == unit) (live t') here.apart) is).0 in
+          let gone : covered_in o t unit (covers_ticket ticket) ≡ c ∷ [] = rw (← ticket_is, ← same_live o s t m e a b unit) one in
+          rw gone at (leaving-item o s t m e a b unit (omega (arith, fits.0, b.sets.units)) (covers_ticket ticket))
+
+  -- what is known where a request does this
+  abbrev Meets : Deed → Type 0
+  Meets (Enter unit) = (number_by s a.request ≡ a.number) × (event_by s a.request ≡ cond (is_immediate a.request) a.event 0)
+  Meets Void = Found o s t' a × Windowed o s t m
+  Meets (Empty unit sn) = Found o s t' a × Windowed o s t m
+  Meets _ = Unit {0}
+
+  does : (position : ℤ) (event : ℕ) → position ≡ pos a.number -ℤ pos (number_of_first o.first) → event ≡ a.event → (d : Deed) → Fits s a.request d → Meets d → Does position event d
+  does position event position_is event_is Nothing fits k = nothing_more o s t m e a b
+  does position event position_is event_is Wait fits k = nothing_more o s t m e a b
+  does position event position_is event_is (Reply x) fits k = answered o s t m e a b (reply_of a.request x)
+  does position event position_is event_is (Enter unit) fits k = enters_unit o s t m e a b k.0 k.1 unit (omega (arith, fits.inside, b.sets.units))
+  does position event position_is event_is Void fits k = void_number position event fits k.0 k.1
+  does position event position_is event_is (Empty unit sn) fits k = empty_number position event unit sn fits k.0 k.1
+  does position event position_is event_is (Abort unit ticket) fits k = abort_one position event unit ticket fits
+  does position event position_is event_is (AbortEarlier unit) fits k =
+      let inside : unit < o.units = omega (arith, fits, b.sets.units) in
+      let before : filter (is_before a) (live_in unit t') ≡ covered_in o t unit (is_covered (Below position event)) =
+      rw (position_is, event_is, same_live o s t m e a b unit) (filter-same (is_before a) (λ c. is_covered (Below (pos a.number -ℤ pos (number_of_first o.first)) a.event) (task_of o c)) (live_in unit t) (λ c. sym (covers_before o a c))) in
+      rw before (leaving-item o s t m e a b unit inside (is_covered (Below position event)))
+  does position event position_is event_is (AbortAll unit) fits k =
+      rw (same_live o s t m e a b unit) (leaving-item o s t m e a b unit (omega (arith, fits, b.sets.units)) (is_covered AllOfThem))
+  does position event position_is event_is (CloseConn closing) fits k = conn_closes o s t m e a b closing
+  does position event position_is event_is CloseSession fits k = session_ends o s t m e a b
+
+-- what is known of a request that begins to execute meets what it does
+meets : (o : Setting) (s : Core) (t : Trace) (m : Mark) (e : Effect) (a : Arrival) (b : Begun o s t m e a) → number_by s a.request ≡ a.number → event_by s a.request ≡ cond (is_immediate a.request) a.event 0 → Found o s ((m ∷ []) ∷ t) a → (d : Deed)
+    → (is_of_number d ≡ true → Windowed o s t m) → Meets o s t m e a b d
+meets o s t m e a b number_is event_is x (Enter unit) w = (number_is, event_is)
+meets o s t m e a b number_is event_is x Void w = (x, w refl)
+meets o s t m e a b number_is event_is x (Empty unit sn) w = (x, w refl)
+meets o s t m e a b number_is event_is x _ w = tt
 
 position_of : (o : Setting) (s : Core) (a : Arrival) → s.window.first ≡ o.first → number_by s a.request ≡ a.number → position_by s a.request ≡ pos a.number -ℤ pos (number_of_first o.first)
 position_of o s a first number = rw (number, first)
+
+-- a request of any kind executes
+executes : (o : Setting) (s : Core) (t : Trace) (m : Mark) (e : Effect) (a : Arrival) (event : ℕ) → Begun o s t m e a → number_by s a.request ≡ a.number → event_by s a.request ≡ cond (is_immediate a.request) a.event 0 → event ≡ a.event → Found o s ((m ∷ []) ∷ t) a
+    → (is_of_number (deed_by s a.request) ≡ true → Windowed o s t m) → Follows o t (execution o t m a) (with_executed s a.request event) (e ∷ executed_effects s a.request event)
+executes o s t m e a event b number_is event_is now x w =
+    let d : Deed = deed_by s a.request in
+    let done = does o s t m e a b (position_by s a.request) event (position_of o s a b.first number_is) now d (fits_deed s a.request) (meets o s t m e a b number_is event_is x d w) in
+    let is : execution o t m a ≡ m ∷ deed_marks o ((m ∷ []) ∷ t) a d = ap (λ d. m ∷ deed_marks o ((m ∷ []) ∷ t) a d) (deed_is o s t m e a b (λ one. x)) in
+    subst (λ item. Follows o t item (with_executed s a.request event) (e ∷ executed_effects s a.request event)) (sym is) done
 
 -- ---- at its turn
 
@@ -252,15 +242,9 @@ turned-item o s t r h place x =
     let number : a.number ≡ number_expected s.window = held-number t (number_expected s.window) a x.held_is in
     let shows = h.window.numbers (number_expected s.window) a (admitted_of_held t (number_expected s.window) a x.held_is) ∙ ap wire (sym number) in
     let next : a.number + 1 ≡ number_expected (turned_window s.window) = omega (arith, number) in
+    let never = numbered_deed (turned_core s) a.request a.number (deed_by (turned_core s) a.request) (numbered_held o s t r h x) next shows (fits_deed (turned_core s) a.request) in
     subst (λ (q : HeldRequest). Follows o t (item_of o t a) (with_executed (turned_core s) q.request q.event) (Deliver q.request ∷ executed_effects (turned_core s) q.request q.event)) x.request_is
-    (executes o (turned_core s) t (Delivers a) (Deliver a.request) a a.event b same (event_next o s t r h x) (record {
-      position_is = position_of o (turned_core s) a h.window.first same;
-      event_is = refl;
-      aborts = λ unit inside one. AbortsAs-turned o s t r unit h place x;
-      windowed = λ unit said.
-          let never = of_no_number (turned_core s) a.request (position_by (turned_core s) a.request) a.event unit (λ one. numbered_outcome (turned_core s) a.request unit a.number (numbered_held o s t r h x) next shows) in
-          absurd (false≢true (sym never ∙ said));
-    }))
+    (executes o (turned_core s) t (Delivers a) (Deliver a.request) a a.event b same (event_next o s t r h x) refl (Found-turned o s t r h place x) (λ said. absurd (false≢true (sym never ∙ said))))
 
 -- ---- an immediate request begins to execute
 
@@ -307,13 +291,18 @@ waited-item o s t w h found =
     }) in
     let turn : w.turn ≡ s.window.turned = eqb-true w.turn s.window.turned (find-found turns s.waiting w found) in
     let number : number_expected s.window ≡ a.number = omega (arith, h.window.first, turn) in
-    let no_task : (function w.request == 1) ≡ true → ⊥ = λ one. false≢true (sym (no_abort_task w.request may) ∙ one) in
-    function-executed o s' t (Executes a) (Immediate a.request) a b (next_position s) w.event (record {
-      position_is = rw (number, h.window.first);
-      event_is = refl;
-      aborts = λ unit inside one. absurd (no_task one);
-      windowed = λ unit said. absurd (false≢true (sym (of_no_number s' w.request (next_position s) w.event unit (λ one. absurd (no_task one))) ∙ said));
-    })
+    let t' : Trace = (Executes a ∷ []) ∷ t in
+    let d : Deed = waited_by s w in
+    let done = does o s' t (Executes a) (Immediate a.request) a b (next_position s) w.event (rw (number, h.window.first)) refl d (fits_function s' w.request) (whole_meets o s' t a b d (whole_function (facts_by s' w.request) w.request may)) in
+    let is : function_item o t a ≡ Executes a ∷ deed_marks o t' a d =
+    ap (λ x. Executes a ∷ deed_marks o t' a x) (function_is o s' t (Executes a) (Immediate a.request) a b (λ one. absurd (false≢true (sym (no_abort_task w.request may) ∙ one)))) in
+    subst (λ item. Follows o t item (function_if s (Some w)) (function_effects s (Some w))) (sym is) done
+  where
+    whole_meets : (o : Setting) (s : Core) (t : Trace) (a : Arrival) (b : Begun o s t (Executes a) (Immediate a.request) a) (d : Deed) → is_whole d ≡ true → Meets o s t (Executes a) (Immediate a.request) a b d
+    whole_meets o s t a b (Enter unit) is = absurd (false≢true is)
+    whole_meets o s t a b Void is = absurd (false≢true is)
+    whole_meets o s t a b (Empty unit sn) is = absurd (false≢true is)
+    whole_meets o s t a b _ is = tt
 
 -- ---- at its arrival
 
@@ -332,8 +321,8 @@ module _ (o : Setting) (s : Core) (index : ℕ) (t : Trace) (r : Request) (h : S
   abbrev a : Arrival
   a = arrival_of o index t r
 
-  abbrev Becomes : List Mark → Deferral → Type 0
-  Becomes item p = Follows o t item (immediate_as s r p) (immediate_effects s r p)
+  abbrev Becomes : List Mark → Deed → Type 0
+  Becomes item d = Follows o t item (immediate_as s r d) (immediate_effects s r d)
 
   last : s.taken - 1 ≡ index
   last = omega (arith, taken)
@@ -344,20 +333,27 @@ module _ (o : Setting) (s : Core) (index : ℕ) (t : Trace) (r : Request) (h : S
   begun : Begun o s t (Executes a) (Immediate r) a
   begun = immediate_begun o s t a s.waiting h.agrees immediate known (record { list = waits; may = h.agrees.waiting.may; known = h.agrees.waiting.known })
 
-  -- it executes
-  becomes_now : Becomes (execution o t (Executes a) a) Now
-  becomes_now =
+  found : Found o s ((Executes a ∷ []) ∷ t) a
+  found = Found-arrived o s index t r h waits
+
+  -- it does this at once
+  becomes_done : (d : Deed) → Fits s r d → (d ≡ Wait → ⊥) → Becomes (Executes a ∷ deed_marks o ((Executes a ∷ []) ∷ t) a d) d
+  becomes_done d fits other =
       let now = h.agrees in
       let number : number_by s r ≡ a.number = rw (immediate, settled_expected o s t h) in
-      executes o s t (Executes a) (Immediate r) a (s.taken - 1) begun number (rw (immediate, last)) (record {
-        position_is = position_of o s a now.window.first number;
-        event_is = last;
-        aborts = λ unit inside one. AbortsAs-arrived o s index t r unit h immediate inside waits;
-        windowed = λ unit said. record { window = now.window; quiet = quiet_executes a [] (search) };
-      })
+      let is = immediate_is s r d other in
+      rw (is.0, is.1) (does o s t (Executes a) (Immediate r) a begun (position_by s r) (s.taken - 1) (position_of o s a now.window.first number) last d fits
+      (meets o s t (Executes a) (Immediate r) a begun number (rw (immediate, last)) found d (λ said. record { window = now.window; quiet = quiet_executes a [] (search) })))
+
+  -- it executes
+  becomes_now : Becomes (execution o t (Executes a) a) (deed_by s r)
+  becomes_now =
+      let is : execution o t (Executes a) a ≡ Executes a ∷ deed_marks o ((Executes a ∷ []) ∷ t) a (deed_by s r) =
+      ap (λ d. Executes a ∷ deed_marks o ((Executes a ∷ []) ∷ t) a d) (deed_is o s t (Executes a) (Immediate r) a begun (λ one. found)) in
+      subst (λ item. Becomes item (deed_by s r)) (sym is) (becomes_done (deed_by s r) (fits_deed s r) (never_waits (facts_by s r) r))
 
   -- it waits
-  becomes_waiting : may_wait r ≡ true → nat_lt (number_expected s.window) (lift (number_expected s.window) (cmd_sn r)) ≡ true → Becomes (Waits a ∷ []) Later
+  becomes_waiting : may_wait r ≡ true → nat_lt (number_expected s.window) (lift (number_expected s.window) (cmd_sn r)) ≡ true → Becomes (Waits a ∷ []) Wait
   becomes_waiting may later =
       let now = h.agrees in
       let ahead : number_expected s.window < lift (number_expected s.window) (cmd_sn r) = grind (arith, nat_tests) in
@@ -373,8 +369,8 @@ module _ (o : Setting) (s : Core) (index : ℕ) (t : Trace) (r : Request) (h : S
       )
 
   -- a function that isn't refused, and may wait
-  becomes_by_number : may_wait r ≡ true → Becomes (waiting_item o t a) (wait_by s r)
-  becomes_by_number may = by_tests (nat_lt (e + room_of s.window) n) (nat_lt e n) (nat_le 4 (waiting_in s.waiting (connection_of r))) refl refl refl
+  becomes_by_number : may_wait r ≡ true → deed_by s r ≡ function_deed (facts_by s r) r → Becomes (waiting_item o t a) (waits_by s r)
+  becomes_by_number may executed = by_tests (nat_lt (e + room_of s.window) n) (nat_lt e n) (nat_le 4 (waiting_in s.waiting (connection_of r))) refl refl refl
     where
       e : ℕ
       e = number_expected s.window
@@ -394,61 +390,27 @@ module _ (o : Setting) (s : Core) (index : ℕ) (t : Trace) (r : Request) (h : S
       many : waiting_on (connection_of r) t ≡ waiting_in s.waiting (connection_of r)
       many = rw h.agrees.waiting.list (count_by-map (λ (b : Arrival). connection_of b.request == connection_of r) (arrival_waiting o.first) s.waiting)
 
-      by_tests : (b c d : Bool) → nat_lt (e + room_of s.window) n ≡ b → nat_lt e n ≡ c → nat_le 4 (waiting_in s.waiting (connection_of r)) ≡ d → Becomes (waiting_item o t a) (wait_by s r)
-      by_tests true c d f g k = rw (far, f) (follows (answered o s t (Executes a) (Immediate r) a begun (TaskReply (itt r) 255)))
-      by_tests false false d f g k = rw (far, near, f, g) becomes_now
-      by_tests false true true f g k = rw (far, near, many, f, g, k) (follows (answered o s t (Executes a) (Immediate r) a begun (Reject 6 (header_of r))))
+      by_tests : (b c d : Bool) → nat_lt (e + room_of s.window) n ≡ b → nat_lt e n ≡ c → nat_le 4 (waiting_in s.waiting (connection_of r)) ≡ d → Becomes (waiting_item o t a) (waits_by s r)
+      by_tests true c d f g k = rw (far, f) (becomes_done (Reply (Respond 255)) tt (λ e. cc))
+      by_tests false false d f g k = rw (far, near, f, g) (subst (Becomes (execution o t (Executes a) a)) executed becomes_now)
+      by_tests false true true f g k = rw (far, near, many, f, g, k) (becomes_done (Reply (Reject 6)) tt (λ e. cc))
       by_tests false true false f g k = rw (far, near, many, f, g, k) (becomes_waiting may g)
 
-  pub immediate-item : Agrees o (immediate_as s r (deferral_by s r)) (immediate_item o t (arrival_of o index t r) ∷ t) × (immediate_effects s r (deferral_by s r) ≡ effects_of_item o t (immediate_item o t (arrival_of o index t r)))
+  pub immediate-item : Agrees o (immediate_as s r (arrival_by s r)) (immediate_item o t (arrival_of o index t r) ∷ t) × (immediate_effects s r (arrival_by s r) ≡ effects_of_item o t (immediate_item o t (arrival_of o index t r)))
   immediate-item = by_function (opcode r == 0x02 && may_wait r) refl
     where
-      same : refusal_to s.level (length s.sets) r ≡ refusal_of_function o r
-      same = cc (h.agrees.level, h.agrees.sets.units)
+      same : refusal o.level (unit_named o.units r) r ≡ refusal_by s r
+      same = ap (λ level. refusal level (unit_named o.units r) r) (sym h.agrees.level) ∙ ap (λ units. refusal s.level (unit_named units r) r) (sym h.agrees.sets.units)
 
-      by_refusal : (opcode r == 0x02 && may_wait r) ≡ true → (y : Option Reply) → refusal_of_function o r ≡ y → Becomes (immediate_item o t a) (deferral_by s r)
-      by_refusal is (Some reply) refused = rw (is, same, refused) becomes_now
-      by_refusal is None none = rw (is, same, none) (becomes_by_number (and_parts (opcode r == 0x02) (may_wait r) is).1)
+      Chosen : Option Answer → Option Answer → Type 0
+      Chosen x y = Becomes (elim (option_map (reply_of r) x) [ Some reply ↦ execution o t (Executes a) a | None ↦ waiting_item o t a ]) (elim y [ Some z ↦ Reply z | None ↦ waits_by s r ])
 
-      by_function : (v : Bool) → (opcode r == 0x02 && may_wait r) ≡ v → Becomes (immediate_item o t a) (deferral_by s r)
+      by_refusal : (opcode r == 0x02) ≡ true → may_wait r ≡ true → (y : Option Answer) → refusal_by s r ≡ y → Chosen y y
+      by_refusal is may (Some y) refused = let executed : deed_by s r ≡ Reply y = rw (is, refused) in subst (Becomes (execution o t (Executes a) a)) executed becomes_now
+      by_refusal is may None none = becomes_by_number may (rw (is, none))
+
+      by_function : (v : Bool) → (opcode r == 0x02 && may_wait r) ≡ v → Becomes (immediate_item o t a) (arrival_by s r)
       by_function false is = rw is becomes_now
-      by_function true is = by_refusal is (refusal_of_function o r) refl
-
--- ---- what doesn't change
-
-emptied_expected : (w : Arrived) (sn : ℕ) → number_expected (emptied w sn) ≡ number_expected w
-emptied_expected w sn = grind arith
-
-voided_expected : (w : Arrived) (sn : ℕ) → number_expected (voided w sn) ≡ number_expected w
-voided_expected w sn = grind arith
-
-function_same : (s : Core) (r : Request) (position : ℤ) (event : ℕ) → number_expected (performed s r position event).window ≡ number_expected s.window
-function_same s r position event = through_performed (λ c. number_expected c.window ≡ number_expected s.window) s r position event refl (λ unit. by_outcome unit (outcome_by s r position event unit))
-  where
-    by_outcome : (unit : ℕ) (x : Outcome) → number_expected (performed_as s r unit x).window ≡ number_expected s.window
-    by_outcome unit (EmptyNumber sn) = emptied_expected s.window sn
-    by_outcome unit (VoidNumber sn) = voided_expected s.window sn
-    by_outcome unit _ = refl
-
-pub executed_expected : (s : Core) (r : Request) (event : ℕ) → number_expected (with_executed s r event).window ≡ number_expected s.window
-executed_expected s r event = through_executed (λ c. number_expected c.window ≡ number_expected s.window) s r event refl (function_same s r (position_by s r) event) (closed_expected s r) by_verdict
-  where
-    by_verdict : (v : Verdict) → number_expected (executed_as s r v).window ≡ number_expected s.window
-    by_verdict (EnterUnit unit) = grind arith
-    by_verdict _ = refl
-
-pub function_expected : (s : Core) (x : Option Waiting) → number_expected (function_if s x).window ≡ number_expected s.window
-function_expected s None = refl
-function_expected s (Some w) = function_same (without_waiting s w) w.request (next_position s) w.event
-
--- a function that waited leaves the places of the window as they are
-pub waited_places : (s : Core) (r : Request) (position : ℤ) (event : ℕ) → may_wait r ≡ true → (performed s r position event).window.places ≡ s.window.places
-waited_places s r position event may = through_performed (λ c. c.window.places ≡ s.window.places) s r position event refl (λ unit. by_outcome unit (outcome_by s r position event unit) (never unit))
-  where
-    never : (unit : ℕ) → is_of_number (outcome_by s r position event unit) ≡ false
-    never unit = of_no_number s r position event unit (λ one. absurd (false≢true (sym (no_abort_task r may) ∙ one)))
-
-    by_outcome : (unit : ℕ) (x : Outcome) → is_of_number x ≡ false → (performed_as s r unit x).window.places ≡ s.window.places
-    by_outcome unit (EmptyNumber sn) is = absurd cc
-    by_outcome unit (VoidNumber sn) is = absurd cc
-    by_outcome unit _ is = refl
+      by_function true is =
+          let parts = and_parts (opcode r == 0x02) (may_wait r) is in
+          rw is (subst (λ x. Chosen x (refusal_by s r)) (sym same) (by_refusal parts.0 parts.1 (refusal_by s r) refl))

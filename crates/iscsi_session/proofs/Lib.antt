@@ -33,8 +33,10 @@ pub mod LoggedOutLemmas
 pub mod LogoutUnits
 pub mod EmptyingLemmas
 pub mod LogoutItem
+pub mod AlikeLemmas
 pub mod FunctionLemmas
 pub mod AgendaLemmas
+pub mod DeedLemmas
 pub mod ManageLemmas
 pub mod PaceLemmas
 pub mod OwedLemmas

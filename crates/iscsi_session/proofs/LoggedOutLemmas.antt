@@ -1,18 +1,16 @@
 -- What a Logout leaves as it is.
-use Rattle.std.proofs.Common.{◌≡◌, ℕ, ◌≤◌, not, cond, Bool, List, [], ◌∷◌, length, map, count_by, is_some, length-set, Option, Some, None, refl, ap, ◌∙◌, arith}
+use Rattle.std.proofs.Common.{◌≡◌, ℕ, ◌≤◌, not, cond, Bool, List, [], ◌∷◌, length, map, count_by, is_some, length-set, Option, refl, ap, ◌∙◌, arith}
 use Rattle.std.proofs.lemmas.List.Sums.{sum_by-cons}
 use Rattle.iscsi_window.specs.declared.held_request.HeldRequest.{HeldRequest}
 use Rattle.iscsi_wire.specs.declared.request.Request.{Request}
 use Rattle.iscsi_wire.specs.Fields.{connection_of}
-use Rattle.iscsi_window.specs.Windows.{number_expected, is_asked, with_unfinished}
+use Rattle.iscsi_window.specs.Windows.{is_asked, with_unfinished}
 use Rattle.iscsi_tasks.specs.declared.task.Task.{Task}
-use Rattle.iscsi_session.specs.declared.closing.Closing.{Closing}
-use Rattle.iscsi_session.specs.declared.closing.Closing.TheVariants.{Refused, Session, Conn}
 use Rattle.iscsi_session.specs.declared.session.waiting.Waiting.{Waiting}
 use Rattle.iscsi_session.specs.private.Standing.{Core, is_held}
 use Rattle.iscsi_session.specs.private.Steps.{set_at, is_numbered}
 use Rattle.iscsi_session.specs.private.Functions.{is_gone, set_staying, with_left}
-use Rattle.iscsi_session.specs.private.Closing.{units_of, covers_of, with_all_left, emptied_place, emptying_effects, close_effects, logged_out, closed_as}
+use Rattle.iscsi_session.specs.private.Closing.{units_of, covers_of, with_all_left, emptied_place, emptying_effects, close_effects, logged_out}
 use Rattle.iscsi_history.proofs.ListLemmas.{fewer_counted, filter-shorter, count_by-map}
 
 -- ---- commands of several units leave
@@ -69,16 +67,8 @@ pub record Parts (s s' : Core) : Type 0 where
   pub counted : count_by is_some s'.window.places ≡ count_by is_some s.window.places
   pub waiting : length s'.waiting ≤ length s.waiting
 
-logged_out_parts : (s : Core) (r : Request) (scope : Option ℕ) → Parts s (logged_out s r scope)
+pub logged_out_parts : (s : Core) (r : Request) (scope : Option ℕ) → Parts s (logged_out s r scope)
 logged_out_parts s r scope =
     let k = left_keeps s (units_of s) (covers_of scope) in
     let stays : Waiting → Bool = λ w. not (is_asked scope (connection_of w.request)) in
     rw k.same (grind (arith, k.unfinished, emptied_fewer scope s.window.places, emptied_counted scope s.window.places, filter-shorter stays s.waiting))
-
-pub closed_parts : (s : Core) (r : Request) (x : Closing) → Parts s (closed_as s r x)
-closed_parts s r (Refused reply) = omega arith
-closed_parts s r Session = logged_out_parts s r None
-closed_parts s r (Conn conn) = logged_out_parts s r (Some conn)
-
-pub closed_expected : (s : Core) (r : Request) (x : Closing) → number_expected (closed_as s r x).window ≡ number_expected s.window
-closed_expected s r x = let h = closed_parts s r x in rw (h.first, h.turned)

@@ -4,29 +4,24 @@ use Rattle.std.specs.List.{list_any, list_all, filter_map, flat_map}
 use Rattle.std.proofs.lemmas.List.{length-map}
 use Rattle.std.proofs.lemmas.List.Elements.{filter_map-append}
 use Rattle.std.proofs.Math.ListN.{get_or-map}
-use Rattle.iscsi_wire.specs.declared.reply.Reply.{Reply}
-use Rattle.iscsi_wire.specs.declared.reply.Reply.TheVariants.{Logout, Reject}
-use Rattle.iscsi_wire.specs.declared.request.Request.{Request}
-use Rattle.iscsi_wire.specs.Fields.{connection_of, header_of, itt, function, cid}
+use Rattle.iscsi_wire.specs.declared.reply.Reply.TheVariants.{Logout}
+use Rattle.iscsi_wire.specs.Fields.{connection_of, itt}
 use Rattle.iscsi_window.specs.Windows.{is_asked}
 use Rattle.iscsi_tasks.specs.declared.task.Task.{Task}
 use Rattle.iscsi_tasks.specs.Sets.{opened}
-use Rattle.iscsi_session.specs.declared.closing.Closing.{Closing}
-use Rattle.iscsi_session.specs.declared.closing.Closing.TheVariants.{Refused, Session, Conn}
 use Rattle.iscsi_history.specs.declared.effect.Effect.{Effect}
 use Rattle.iscsi_history.specs.declared.effect.Effect.TheVariants.{Leave, Send, CloseConn, CloseSession}
 use Rattle.iscsi_session.specs.declared.session.waiting.Waiting.{Waiting}
-use Rattle.iscsi_history.specs.declared.verdict.Verdict.TheVariants.{Answer}
 use Rattle.iscsi_history.specs.rules.Settings.{Setting, is_known}
 use Rattle.iscsi_history.specs.rules.Trace.{Arrival, Command, Mark, Leaves, Empties, ClosesConn, ClosesSession, Trace, waiting, waiting_by, waiting_through, sent_on, closes_conn, closes_session, has, is_ended, enters, entered, leaves_ticket, live, live_in, is_among}
-use Rattle.iscsi_history.specs.rules.Execution.{NO_TAG, reply_on, unfinished}
-use Rattle.iscsi_history.specs.rules.Logout.{live_of_units, is_open, is_last_open, taken_out, parting, end_session, close_conn, logout_marks}
+use Rattle.iscsi_history.specs.rules.Execution.{unfinished}
+use Rattle.iscsi_history.specs.rules.Logout.{live_of_units, is_open, is_last_open, taken_out, parting, end_session, close_conn}
 use Rattle.iscsi_history.specs.rules.Management.{may_wait}
 use Rattle.iscsi_history.specs.rules.Run.{effects_of_mark, effects_of_item, newly_enabled, stat_sn_of}
 use Rattle.iscsi_session.specs.private.Standing.{Core, Agrees, WindowAgrees, CommandsAgree, SetsAgree, arrival_waiting, open_of, task_of}
 use Rattle.iscsi_session.specs.private.Steps.{set_at, all_given}
 use Rattle.iscsi_session.specs.private.Functions.{set_staying}
-use Rattle.iscsi_session.specs.private.Closing.{is_among_open, closing_by, units_of, covers_of, all_leaving_effects, left_to, still_open, waiting_then, close_effects, all_enable_effects, logged_out, logout_effects, closed_as, closed_effects}
+use Rattle.iscsi_session.specs.private.Closing.{is_among_open, units_of, covers_of, all_leaving_effects, left_to, still_open, waiting_then, close_effects, all_enable_effects, logged_out, logout_effects}
 use Rattle.iscsi_history.proofs.MomentLemmas.{enables}
 use Rattle.iscsi_session.proofs.ReplyParts.{RepliesAgree-sent}
 use Rattle.iscsi_history.proofs.ListLemmas.{list_all-filter, list_all-same, list_any-map, any_filter, any_flat_map, any_in_range, flat_map_in_range, filter-flat_map, map-flat_map, filter-map, filtered_among}
@@ -40,7 +35,7 @@ use Rattle.iscsi_history.proofs.EnabledItems.{EnabledSoFar-left}
 use Rattle.iscsi_history.proofs.ClosingItems.{closed-same, closing_marks, quiet-closing, untouched-closing, untouched-emptied, emptied_any, emptied_sends, emptied_shown, emptied_waits, is_nil, last_is, left_any, left_sends, left_shown, left_waits, nil_is}
 use Rattle.iscsi_session.proofs.CommandParts.{CommandsAgree-left}
 use Rattle.iscsi_session.proofs.AgreeLemmas.{units_live}
-use Rattle.iscsi_session.proofs.ExecutionLemmas.{Begun, Executed, answered}
+use Rattle.iscsi_session.proofs.ExecutionLemmas.{Begun, Follows}
 use Rattle.iscsi_session.proofs.LeavingLemmas.{WindowAgrees-fewer, numbered_live, gone_tickets, leaving_shown, SetLeft, set_left}
 use Rattle.iscsi_session.proofs.LoggedOutLemmas.{Keeps, left_keeps}
 use Rattle.iscsi_session.proofs.LogoutUnits.{sets_left, gone_in, live_staying, effects_leaving, unfinished_left}
@@ -303,42 +298,20 @@ module _ (o : Setting) (s : Core) (t : Trace) (m : Mark) (e : Effect) (a : Arriv
   shown : e ∷ logout_effects s a.request scope ≡ effects_of_item o t item
   shown = simp (leaving, emptied_from-is o s.window t₁ scope before, b.replies.stat_sns conn b.known, closes_are scope, enabling, b.shows, append_assoc, left_shown, emptied_shown, closing_shown o t₁ a t scope)
 
--- ---- the table
-
--- two choices by the same test
-either : {A B : Type 0} (P : A → B → Type 0) (test : Bool) {x y : A} {x' y' : B} → P x x' → P y y' → P (cond test x y) (cond test x' y')
-either P true p q = p
-either P false p q = q
+-- ---- what a Logout Request does
 
 module _ (o : Setting) (s : Core) (t : Trace) (m : Mark) (e : Effect) (a : Arrival) (b : Begun o s t m e a) where
   abbrev began : Trace
   began = (m ∷ []) ∷ t
 
-  abbrev Closes : Closing → List Mark → Type 0
-  Closes x ms = Agrees o (closed_as s a.request x) ((m ∷ ms) ∷ t) × (e ∷ closed_effects s a.request x ≡ effects_of_item o t (m ∷ ms))
-
-  refused : (r : Reply) → Closes (Refused r) (reply_on a r)
-  refused r = let done : Executed o s t m e a (Answer r) = answered o s t m e a b r in (done.agrees, done.effects)
-
-  session_ends : Closes Session (end_session o began a)
+  pub session_ends : Follows o t (m ∷ end_session o began a) (logged_out s a.request None) (e ∷ logout_effects s a.request None)
   session_ends = rw (append_assoc (taken_out o began (λ conn. true)) (parting a 0) (ClosesSession ∷ [])) (agrees o s t m e a b None, shown o s t m e a b None)
 
-  conn_closes : (closing : ℕ) → Closes (Conn closing) (close_conn o began a closing)
+  pub conn_closes : (closing : ℕ) → Follows o t (m ∷ close_conn o began a closing) (logged_out s a.request (Some closing)) (e ∷ logout_effects s a.request (Some closing))
   conn_closes closing =
       rw (append_assoc (taken_out o began (λ conn. conn == closing)) (parting a 0) (ClosesConn closing ∷ cond (is_last_open o began closing) (ClosesSession ∷ []) []))
       (agrees o s t m e a b (Some closing), shown o s t m e a b (Some closing))
 
   -- the session knows whether the connection is open
-  open_same : (c : ℕ) → is_among_open c s.open_conns ≡ is_open o began c
+  pub open_same : (c : ℕ) → is_among_open c s.open_conns ≡ is_open o began c
   open_same c = rw (b.open_is, filtered_among (is_open o t) c (map (λ (d : ℕ × ℕ). d.0) o.conns), list_any-map (λ d. d == c) (λ (d : ℕ × ℕ). d.0) o.conns, closed-same c (m ∷ []) t b.closes_no) (grind arith)
-
-  pub logout-item : Agrees o (closed_as s a.request (closing_by s a.request)) ((m ∷ logout_marks o ((m ∷ []) ∷ t) a) ∷ t)
-      × (e ∷ closed_effects s a.request (closing_by s a.request) ≡ effects_of_item o t (m ∷ logout_marks o ((m ∷ []) ∷ t) a))
-  logout-item =
-      let r : Request = a.request in
-      let bad = refused (Reject 9 (header_of r)) in
-      rw (open_same (cid r))
-      (either Closes (itt r == NO_TAG) bad
-      (either Closes (function r == 0) session_ends
-      (either Closes (function r == 1) (either Closes (is_open o began (cid r)) (conn_closes (cid r)) (refused (Logout (itt r) 1)))
-      (either Closes (function r == 2) (refused (Logout (itt r) 2)) bad))))

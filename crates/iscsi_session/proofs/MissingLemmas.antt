@@ -7,8 +7,8 @@ use Rattle.std.proofs.lemmas.Bool.Decides.{nat_tests}
 use Rattle.std.proofs.lemmas.List.{append-nil, get_or-set_other}
 use Rattle.iscsi_window.specs.declared.held_request.HeldRequest.{HeldRequest}
 use Rattle.iscsi_wire.specs.Serial.{wire, lift, number_of_first}
-use Rattle.iscsi_window.specs.declared.answer.Place.TheVariants.{Inside}
-use Rattle.iscsi_window.specs.Windows.{Arrived, number_expected, room_of, at_place, with_place, place_in, received_at, is_received_at, voided, emptied}
+use Rattle.iscsi_window.specs.declared.answer.Place.TheVariants.{Inside, Outside}
+use Rattle.iscsi_window.specs.Windows.{Arrived, IsInside, number_expected, room_of, at_place, with_place, place_in, received_at, is_received_at, voided, emptied}
 use Rattle.iscsi_history.specs.rules.Settings.{Setting}
 use Rattle.iscsi_history.specs.rules.Trace.{Arrival, Mark, Voids, Empties, Trace, shown, first_of, contains, is_received, is_emptied, held, admits_at, delivers_number}
 use Rattle.iscsi_history.specs.promises.Executed.{delivers, request_at}
@@ -139,6 +139,15 @@ pub inside_place : (w : Arrived) (n x : ℕ) → number_expected w ≤ n → n <
 inside_place w n x low high is =
     let test : (nat_le (number_expected w) n && nat_lt n (number_expected w + room_of w)) ≡ true = grind (arith, nat_tests) in
     rw (is, test)
+
+-- a number that has a place is in the window
+pub inside_bounds : (w : Arrived) (x : ℕ) → IsInside (place_in w x) → (number_expected w ≤ lift (number_expected w) x) × (lift (number_expected w) x < number_expected w + room_of w)
+inside_bounds w x = by_test (nat_le (number_expected w) (lift (number_expected w) x) && nat_lt (lift (number_expected w) x) (number_expected w + room_of w)) refl
+  where
+    by_test : (b : Bool) → (nat_le (number_expected w) (lift (number_expected w) x) && nat_lt (lift (number_expected w) x) (number_expected w + room_of w)) ≡ b
+        → IsInside (cond b (Inside (lift (number_expected w) x - number_expected w)) Outside) → (number_expected w ≤ lift (number_expected w) x) × (lift (number_expected w) x < number_expected w + room_of w)
+    by_test false is inside = absurd inside
+    by_test true is inside = (grind (arith, nat_tests), grind (arith, nat_tests))
 
 -- a number inside is voided
 pub record VoidedAt (w : Arrived) (t : Trace) (x n : ℕ) : Type 0 where

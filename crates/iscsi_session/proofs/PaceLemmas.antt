@@ -1,40 +1,22 @@
--- What executing a request leaves as it was: the numbers that have turned, and the events. It begins one command at the
--- most, and a function that has waited changes no place of the window.
-use Rattle.std.proofs.Common.{◌≡◌, ℕ, ℤ, ◌+◌, ◌-◌, ◌≤◌, ◌==◌, not, Bool, length, Option, Some, None, refl, ap, sym, subst, arith}
-use Rattle.std.proofs.lemmas.Bool.{cond_both}
-use Rattle.iscsi_wire.specs.declared.request.Request.{Request}
-use Rattle.iscsi_wire.specs.Fields.{connection_of, opcode}
-use Rattle.iscsi_window.specs.declared.answer.Place.{Place}
+-- What a turn leaves as it was, and a function that has waited: the numbers that have turned, and the events. A turn begins one
+-- command at the most.
+use Rattle.std.proofs.Common.{◌≡◌, ℕ, ◌-◌, ◌≤◌, ◌==◌, not, is_some, true, false, count_by, length, ◌∷◌, Option, Some, None, refl, ap, sym, subst, arith}
 use Rattle.iscsi_window.specs.declared.held_request.HeldRequest.{HeldRequest}
-use Rattle.iscsi_window.specs.Windows.{Arrived, number_expected, at_place, place_in, held_at, received_at, emptied_if, advanced_if}
-use Rattle.iscsi_tasks.specs.declared.task.Task.{Task}
-use Rattle.iscsi_tasks.specs.Sets.{is_covered}
-use Rattle.iscsi_session.specs.declared.outcome.Outcome.{Outcome}
-use Rattle.iscsi_session.specs.declared.outcome.Outcome.TheVariants.{Respond, Abort, AbortAll, Empty as EmptyNumber, Void as VoidNumber}
-use Rattle.iscsi_session.specs.declared.deferral.Deferral.{Deferral}
-use Rattle.iscsi_session.specs.declared.deferral.Deferral.TheVariants.{Now, Later, TooFar, TooMany}
+use Rattle.iscsi_wire.specs.declared.request.Request.{Request}
+use Rattle.iscsi_wire.specs.Fields.{is_immediate}
+use Rattle.iscsi_window.specs.Windows.{Arrived, number_expected, at_place, advanced_if}
+use Rattle.iscsi_history.specs.declared.effect.Effect.TheVariants.{Immediate}
+use Rattle.iscsi_history.specs.declared.deed.Deed.{Deed}
+use Rattle.iscsi_history.specs.declared.deed.Deed.TheVariants.{Nothing, Wait, Enter}
+use Rattle.iscsi_history.specs.rules.Deeds.{Facts, function_deed}
+use Rattle.iscsi_history.proofs.DeedTable.{through_function}
 use Rattle.iscsi_session.specs.declared.session.waiting.Waiting.{Waiting}
-use Rattle.iscsi_history.specs.declared.verdict.Verdict.{Verdict}
-use Rattle.iscsi_history.specs.declared.verdict.Verdict.TheVariants.{Nothing, Answer, Enter}
-use Rattle.iscsi_history.specs.rules.Execution.{unit_named}
-use Rattle.iscsi_history.specs.rules.Management.{refusal_to}
 use Rattle.iscsi_session.specs.private.Standing.{Core}
-use Rattle.iscsi_session.specs.private.Steps.{KeepsPace, set_at, is_numbered, verdict_by, executed_as, with_reply}
-use Rattle.iscsi_session.specs.private.Functions.{is_gone, with_left, outcome_by, performed_as}
-use Rattle.iscsi_session.specs.private.Closing.{closing_by, closed_as}
-use Rattle.iscsi_history.proofs.ListLemmas.{fewer_counted}
-use Rattle.iscsi_session.proofs.LoggedOutLemmas.{closed_parts}
-use Rattle.iscsi_session.specs.private.Turning.{performed, managed, position_by, with_executed, with_advanced, turned_if, without_waiting, next_position, function_if, immediate_as}
-
--- no number turns, no event is counted, and so many commands more are unfinished at the most
-pub record Stays (more : ℕ) (s s' : Core) : Type 0 where
-  pub first : s'.window.first ≡ s.window.first
-  pub turned : s'.window.turned ≡ s.window.turned
-  pub unfinished : s'.window.unfinished ≤ s.window.unfinished + more
-  pub taken : s'.taken ≡ s.taken
-
-stays : (more : ℕ) (s : Core) → Stays more s s
-stays more s = omega arith
+use Rattle.iscsi_session.specs.private.Steps.{KeepsPace}
+use Rattle.iscsi_session.specs.private.Deeds.{facts_by, deed_by, arrival_by, Fits}
+use Rattle.iscsi_session.specs.private.Turning.{position_by, with_executed, with_advanced, turned_if, without_waiting, next_position, waited_by, function_if, at_once_by, at_once_effects, immediate_as, immediate_effects}
+use Rattle.iscsi_history.proofs.ListLemmas.{filter-shorter}
+use Rattle.iscsi_session.proofs.DeedLemmas.{fits_deed, fits_function, fits_arrival, begins, begins_one, Stays, carried_stays, carried_counted}
 
 pub same_expected : (w w' : Arrived) → w'.first ≡ w.first → w'.turned ≡ w.turned → number_expected w' ≡ number_expected w
 same_expected w w' first turned = cc
@@ -42,67 +24,62 @@ same_expected w w' first turned = cc
 pub stays_expected : (more : ℕ) (s s' : Core) → Stays more s s' → number_expected s'.window ≡ number_expected s.window
 stays_expected more s s' h = same_expected s.window s'.window h.first h.turned
 
--- ---- a function
-
-left_fewer : (s : Core) (unit : ℕ) (covers : Task → Bool) → (with_left s unit covers).window.unfinished ≤ s.window.unfinished
-left_fewer s unit covers = omega (arith, fewer_counted is_numbered (λ l. not (is_gone covers (set_at s unit) l.ticket)) s.live)
-
-emptied_stays : (s : Core) (conn : ℕ) (p : Place) (x : Option HeldRequest) → Stays 0 s (with_reply (record s { window = emptied_if s.window p x }) conn)
-emptied_stays s conn p x = grind arith
-
-voided_stays : (s : Core) (conn : ℕ) (p : Place) → Stays 0 s (with_reply (record s { window = received_at s.window p None }) conn)
-voided_stays s conn p = grind arith
-
-done_stays : (s : Core) (r : Request) (unit : ℕ) (x : Outcome) → Stays 0 s (performed_as s r unit x)
-done_stays s r unit (Respond response) = omega arith
-done_stays s r unit (Abort ticket) = omega (arith, left_fewer s unit (λ (t : Task). t.ticket == ticket))
-done_stays s r unit (AbortAll cover) = omega (arith, left_fewer s unit (is_covered cover))
-done_stays s r unit (EmptyNumber w) = emptied_stays s (connection_of r) (place_in s.window w) (held_at s.window (place_in s.window w))
-done_stays s r unit (VoidNumber w) = voided_stays s (connection_of r) (place_in s.window w)
-
-performed_stays : (s : Core) (r : Request) (number : ℤ) (event : ℕ) → Stays 0 s (performed s r number event)
-performed_stays s r number event = elim (unit_named (length s.sets) r) as (λ x. Stays 0 s (elim x [ Some unit ↦ performed_as s r unit (outcome_by s r number event unit) | None ↦ s ])) [
-  | Some unit ↦ done_stays s r unit (outcome_by s r number event unit)
-  | None ↦ omega arith
-]
-
-managed_stays : (s : Core) (r : Request) (number : ℤ) (event : ℕ) → Stays 0 s (managed s r number event)
-managed_stays s r number event = elim (refusal_to s.level (length s.sets) r) as (λ x. Stays 0 s (elim x [ Some reply ↦ with_reply s (connection_of r) | None ↦ performed s r number event ])) [
-  | Some reply ↦ omega arith
-  | None ↦ performed_stays s r number event
-]
+one_more : (s s' : Core) (r : Request) (d : Deed) → Stays (begins r d) s s' → Stays 1 s s'
+one_more s s' r d h = omega (arith, h, begins_one r d)
 
 -- ---- a function that has waited
 
+begins_none : (r : Request) (d : Deed) → is_immediate r ≡ true → begins r d ≡ 0
+begins_none r (Enter unit) immediate = rw immediate
+begins_none r Nothing immediate = refl
+begins_none r _ immediate = refl
+
+-- a function begins none
+begins_function : (f : Facts) (r : Request) → begins r (function_deed f r) ≡ 0
+begins_function f r = through_function (λ d. begins r d ≡ 0) f r refl (λ x. refl) refl (λ u n. refl) (λ u n. refl) (λ u. refl) (λ u. refl)
+
 pub function_stays : (s : Core) (x : Option Waiting) → Stays 0 s (function_if s x)
-function_stays s None = stays 0 s
-function_stays s (Some w) = omega (arith, performed_stays (without_waiting s w) w.request (next_position s) w.event)
+function_stays s None = omega arith
+function_stays s (Some w) =
+    let s' : Core = without_waiting s w in
+    let h = carried_stays s' w.request (next_position s) w.event (waited_by s w) (fits_function s' w.request) in
+    omega (arith, h, begins_function (facts_by s' w.request) w.request, fewer_left w)
+  where
+    fewer_left : (w : Waiting) → length (without_waiting s w).waiting ≤ length s.waiting
+    fewer_left w = filter-shorter (λ v. not (v.event == w.event)) s.waiting
 
 pub pace-function : (s : Core) (x : Option Waiting) → KeepsPace s.window (function_if s x).window
 pace-function s x = omega (arith, function_stays s x)
 
 -- ---- a request
 
-entered_stays : (s : Core) (r : Request) (unit : ℕ) → Stays 1 s (executed_as s r (Enter unit))
-entered_stays s r unit = grind arith
-
-answered_stays : (s : Core) (r : Request) (v : Verdict) → Stays 1 s (executed_as s r v)
-answered_stays s r Nothing = omega arith
-answered_stays s r (Answer reply) = omega arith
-answered_stays s r (Enter unit) = entered_stays s r unit
-
 pub executed_stays : (s : Core) (r : Request) (event : ℕ) → Stays 1 s (with_executed s r event)
-executed_stays s r event =
-    let function : Stays 1 s (managed s r (position_by s r) event) = omega (arith, managed_stays s r (position_by s r) event) in
-    let logout : Stays 1 s (closed_as s r (closing_by s r)) = omega (arith, closed_parts s r (closing_by s r)) in
-    let other = answered_stays s r (verdict_by s r) in
-    cond_both (opcode r == 0x02) _ _ (Stays 1 s) (λ is. function) (λ is. cond_both (opcode r == 0x06) _ _ (Stays 1 s) (λ is. logout) (λ is. other))
+executed_stays s r event = one_more s (with_executed s r event) r (deed_by s r) (carried_stays s r (position_by s r) event (deed_by s r) (fits_deed s r))
 
-pub immediate_stays : (s : Core) (r : Request) (p : Deferral) → Stays 1 s (immediate_as s r p)
-immediate_stays s r Now = executed_stays s r (s.taken - 1)
-immediate_stays s r Later = omega arith
-immediate_stays s r TooFar = omega arith
-immediate_stays s r TooMany = omega arith
+pub executed_counted : (s : Core) (r : Request) (event : ℕ) → is_immediate r ≡ false → count_by is_some (with_executed s r event).window.places ≡ count_by is_some s.window.places
+executed_counted s r event numbered = carried_counted s r (position_by s r) event (deed_by s r) (fits_deed s r) numbered
+
+-- an immediate one that doesn't wait begins none of the numbered commands
+pub at_once_stays : (s : Core) (r : Request) (d : Deed) → Fits s r d → is_immediate r ≡ true → Stays 0 s (at_once_by s r d)
+at_once_stays s r d fits immediate = let h = carried_stays s r (position_by s r) (s.taken - 1) d fits in omega (arith, h, begins_none r d immediate)
+
+pub immediate_is : (s : Core) (r : Request) (d : Deed) → (d ≡ Wait → ⊥) → (immediate_as s r d ≡ at_once_by s r d) × (immediate_effects s r d ≡ Immediate r ∷ at_once_effects s r d)
+immediate_is s r Wait other = absurd (other refl)
+immediate_is s r _ other = (refl, refl)
+
+-- the numbers and the events are the same after it
+pub record Same (s s' : Core) : Type 0 where
+  pub expected : number_expected s'.window ≡ number_expected s.window
+  pub taken : s'.taken ≡ s.taken
+
+pub immediate_same : (s : Core) (r : Request) → Same s (immediate_as s r (arrival_by s r))
+immediate_same s r =
+    let d : Deed = arrival_by s r in
+    by_deed d (one_more s (at_once_by s r d) r d (carried_stays s r (position_by s r) (s.taken - 1) d (fits_arrival s r)))
+  where
+    by_deed : (d : Deed) → Stays 1 s (at_once_by s r d) → Same s (immediate_as s r d)
+    by_deed Wait h = record { expected = refl; taken = refl }
+    by_deed _ h = record { expected = stays_expected 1 s _ h; taken = h.taken }
 
 -- ---- a turn
 

@@ -5,4 +5,5 @@ pub mod Invariant
 pub mod Steps
 pub mod Functions
 pub mod Closing
+pub mod Deeds
 pub mod Turning

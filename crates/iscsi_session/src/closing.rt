@@ -1,20 +1,9 @@
-//! What a Logout Request comes to.
+//! What a Logout Request asks for, and how it is answered.
 
 ghost use Rattle.std.specs.Prelude.{◌≡◌};
 ghost use Rattle.iscsi_session.specs.private.Codes.{logout_reason_named};
 
-use iscsi_wire::{Reply, Request};
-
-/// What a Logout Request comes to (RFC 7143 section 11.14).
-#[derive(Clone, Copy)]
-pub enum Closing {
-    /// Nothing is closed, and this reply goes out.
-    Refused(Reply),
-    /// The session is closed.
-    Session,
-    /// The connection with this CID is closed.
-    Conn(u16),
-}
+use iscsi_wire::Request;
 
 /// What a Logout Request asks for (RFC 7143 section 11.14.1).
 #[derive(Clone, Copy)]

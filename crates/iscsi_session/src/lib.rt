@@ -3,13 +3,11 @@
 #![tactic(auto)]
 
 mod closing;
-mod deferral;
 mod fault;
 mod function;
 mod log;
 mod opcode;
 mod options;
-mod outcome;
 mod reason;
 mod report;
 mod response;

@@ -38,8 +38,8 @@ use std::marker::Model;
 
 mod arrival;
 mod completion;
+mod decision;
 mod execution;
-mod function;
 mod leaving;
 mod logout;
 mod management;

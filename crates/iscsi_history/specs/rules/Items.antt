@@ -1,20 +1,13 @@
 -- The items of requests.
 use Rattle.std.specs.Prelude.{ℕ, ◌+◌, zero, suc, ◌==◌, ◌&&◌, not, Bool, nat_lt, nat_le, List, [], ◌∷◌, ◌++◌, Some, None, if◌then◌else◌, filter}
 use Rattle.std.specs.List.{list_any}
-use Rattle.iscsi_wire.specs.declared.reply.Reply.TheVariants.{Task, Reject}
-use Rattle.iscsi_wire.specs.Fields.{connection_of, header_of, opcode, itt}
+use Rattle.iscsi_wire.specs.Fields.{connection_of, opcode}
+use Rattle.iscsi_history.specs.declared.deed.Answer.TheVariants.{Reject, Respond}
 use Rattle.iscsi_history.specs.rules.Settings.{Setting}
 use Rattle.iscsi_history.specs.rules.Trace.{Arrival, Mark, Delivers, Executes, Waits, Trace, after_items, waiting, held}
-use Rattle.iscsi_history.specs.rules.Execution.{exp_of, max_of, marks_of, verdict_of, reply_on}
-use Rattle.iscsi_history.specs.rules.Management.{may_wait, refusal_of_function, MOST_WAITING, waiting_on, function_marks, management_marks}
-use Rattle.iscsi_history.specs.rules.Logout.{logout_marks}
-
--- what a request does that executes
-abbrev pub marks_after : Setting → Trace → Arrival → List Mark
-marks_after o t a =
-    if opcode a.request == 0x02 then management_marks o t a
-    else (if opcode a.request == 0x06 then logout_marks o t a
-    else marks_of t a (verdict_of o t a.request))
+use Rattle.iscsi_history.specs.rules.Execution.{exp_of, max_of, reply_of, reply_on}
+use Rattle.iscsi_history.specs.rules.Management.{may_wait, refusal_of_function, MOST_WAITING, waiting_on}
+use Rattle.iscsi_history.specs.rules.Deeds.{marks_after, function_marks}
 
 -- the item of a request that executes, which begins with this mark
 abbrev pub execution : Setting → Trace → Mark → Arrival → List Mark
@@ -28,9 +21,9 @@ item_of o t a = execution o t (Delivers a) a
 -- rules: function/too-far, function/executes, function/too-many, function/waits
 abbrev pub waiting_item : Setting → Trace → Arrival → List Mark
 waiting_item o t a =
-    if nat_lt (max_of o t + 1) a.number then Executes a ∷ reply_on a (Task (itt a.request) 255)
+    if nat_lt (max_of o t + 1) a.number then Executes a ∷ reply_on a (reply_of a.request (Respond 255))
     else (if not (nat_lt (exp_of o t) a.number) then execution o t (Executes a) a
-    else (if nat_le MOST_WAITING (waiting_on (connection_of a.request) t) then Executes a ∷ reply_on a (Reject 6 (header_of a.request))
+    else (if nat_le MOST_WAITING (waiting_on (connection_of a.request) t) then Executes a ∷ reply_on a (reply_of a.request (Reject 6))
     else Waits a ∷ []))
 
 -- the item of an immediate request at its arrival

@@ -1,12 +1,12 @@
 -- Logout, and the closing of connections and of the session (RFC 7143 sections 11.14 and 11.15).
 use Rattle.std.specs.Prelude.{ℕ, ◌+◌, ◌-◌, ◌==◌, ◌&&◌, ◌||◌, not, Bool, true, List, [], ◌∷◌, ◌++◌, map, if◌then◌else◌, filter}
 use Rattle.std.specs.List.{list_all, flat_map, range_with_len}
-use Rattle.iscsi_wire.specs.declared.reply.Reply.TheVariants.{Logout, Reject}
 use Rattle.iscsi_wire.specs.Serial.{number_of_first}
-use Rattle.iscsi_wire.specs.Fields.{connection_of, header_of, itt, function, cid}
+use Rattle.iscsi_wire.specs.Fields.{connection_of}
+use Rattle.iscsi_history.specs.declared.deed.Answer.TheVariants.{LogOut}
 use Rattle.iscsi_history.specs.rules.Settings.{Setting, is_known}
 use Rattle.iscsi_history.specs.rules.Trace.{Arrival, Command, Mark, Empties, Leaves, ClosesConn, ClosesSession, Trace, held_among, live_in, is_closed}
-use Rattle.iscsi_history.specs.rules.Execution.{exp_of, NO_TAG, reply_on}
+use Rattle.iscsi_history.specs.rules.Execution.{exp_of, reply_of, reply_on}
 
 -- a connection of the session that isn't closed
 abbrev pub is_open : Setting → Trace → ℕ → Bool
@@ -32,7 +32,7 @@ taken_out o t of_these =
     ++ map Empties (filter (λ (a : Arrival). of_these (connection_of a.request)) (all_held o t))
 
 abbrev pub parting : Arrival → ℕ → List Mark
-parting a response = reply_on a (Logout (itt a.request) response)
+parting a response = reply_on a (reply_of a.request (LogOut response))
 
 -- the session is closed
 abbrev pub end_session : Setting → Trace → Arrival → List Mark
@@ -43,13 +43,3 @@ abbrev pub close_conn : Setting → Trace → Arrival → ℕ → List Mark
 close_conn o t a closing =
     taken_out o t (λ conn. conn == closing) ++ parting a 0
     ++ ClosesConn closing ∷ (if is_last_open o t closing then ClosesSession ∷ [] else [])
-
--- a Logout Request at its turn, or at its arrival where it is immediate
--- rules: logout/no-tag, logout/session, logout/connection, logout/unknown-cid, logout/recovery, logout/other-reason
-abbrev pub logout_marks : Setting → Trace → Arrival → List Mark
-logout_marks o t a =
-    if itt a.request == NO_TAG then reply_on a (Reject 9 (header_of a.request))
-    else (if function a.request == 0 then end_session o t a
-    else (if function a.request == 1 then (if is_open o t (cid a.request) then close_conn o t a (cid a.request) else parting a 1)
-    else (if function a.request == 2 then parting a 2
-    else reply_on a (Reject 9 (header_of a.request)))))

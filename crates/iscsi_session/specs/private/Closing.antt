@@ -1,10 +1,10 @@
 -- What a session keeps when a Logout Request executes, and the effects, by what it keeps before. For private contracts alone.
-use Rattle.std.specs.Prelude.{ℕ, ◌+◌, ◌==◌, not, Bool, List, [], ◌∷◌, ◌++◌, length, map, take, filter, Option, Some, None, if◌then◌else◌}
+use Rattle.std.specs.Prelude.{ℕ, ◌+◌, not, Bool, List, [], ◌∷◌, ◌++◌, length, map, take, filter, Option, Some, None, if◌then◌else◌}
 use Rattle.std.specs.List.{list_all, flat_map, range_with_len}
-use Rattle.iscsi_wire.specs.declared.reply.Reply.TheVariants.{Logout, Reject}
+use Rattle.iscsi_wire.specs.declared.reply.Reply.TheVariants.{Logout}
 use Rattle.iscsi_wire.specs.declared.request.Request.{Request}
 use Rattle.iscsi_wire.specs.Serial.{wire}
-use Rattle.iscsi_wire.specs.Fields.{connection_of, header_of, function, itt, cid}
+use Rattle.iscsi_wire.specs.Fields.{connection_of, itt}
 use Rattle.iscsi_window.specs.declared.held_request.HeldRequest.{HeldRequest}
 use Rattle.iscsi_window.specs.Windows.{number_expected, is_asked, holds_from}
 use Rattle.iscsi_tasks.specs.declared.task.Task.{Task}
@@ -13,24 +13,11 @@ use Rattle.iscsi_tasks.specs.declared.cover.Cover.TheVariants.{All as AllOfThem,
 use Rattle.iscsi_tasks.specs.Sets.{is_covered}
 use Rattle.iscsi_history.specs.declared.effect.Effect.{Effect}
 use Rattle.iscsi_history.specs.declared.effect.Effect.TheVariants.{Empty, CloseConn, CloseSession}
-use Rattle.iscsi_session.specs.declared.closing.Closing.{Closing}
-use Rattle.iscsi_session.specs.declared.closing.Closing.TheVariants.{Refused, Session, Conn}
 use Rattle.iscsi_session.specs.declared.session.waiting.Waiting.{Waiting}
-use Rattle.iscsi_history.specs.rules.Execution.{NO_TAG}
 use Rattle.iscsi_session.specs.private.Standing.{Core}
 pub use Rattle.iscsi_connections.specs.Connected.{is_among_open, still_open}
 use Rattle.iscsi_session.specs.private.Steps.{set_at, all_given, enable_effects, with_reply, reply_effects}
 use Rattle.iscsi_session.specs.private.Functions.{with_left, leaving_effects}
-
--- ---- what it comes to
-
-abbrev pub closing_by : Core → Request → Closing
-closing_by s r =
-    if itt r == NO_TAG then Refused (Reject 9 (header_of r))
-    else (if function r == 0 then Session
-    else (if function r == 1 then (if is_among_open (cid r) s.open_conns then Conn (cid r) else Refused (Logout (itt r) 1))
-    else (if function r == 2 then Refused (Logout (itt r) 2)
-    else Refused (Reject 9 (header_of r)))))
 
 -- ---- what is taken out: all, or what is of one connection
 
@@ -121,13 +108,3 @@ logout_effects s r scope =
     ++ reply_effects s (connection_of r) (Logout (itt r) 0)
     ++ close_effects s scope
     ++ all_enable_effects (left_to s scope)
-
-abbrev pub closed_as : Core → Request → Closing → Core
-closed_as s r (Refused reply) = with_reply s (connection_of r)
-closed_as s r Session = logged_out s r None
-closed_as s r (Conn conn) = logged_out s r (Some conn)
-
-abbrev pub closed_effects : Core → Request → Closing → List Effect
-closed_effects s r (Refused reply) = reply_effects s (connection_of r) reply
-closed_effects s r Session = logout_effects s r None
-closed_effects s r (Conn conn) = logout_effects s r (Some conn)

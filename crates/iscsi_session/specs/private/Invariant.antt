@@ -9,8 +9,7 @@ use Rattle.iscsi_session.specs.declared.session.waiting.Waiting.{Waiting}
 use Rattle.iscsi_history.specs.rules.Settings.{is_known}
 use Rattle.iscsi_history.specs.rules.Management.{may_wait}
 use Rattle.iscsi_session.specs.private.Standing.{are_known, is_place_known, Match, are_ascending, are_within}
-use Rattle.iscsi_session.specs.private.Steps.{is_numbered, AreCounted}
-use Rattle.iscsi_session.specs.private.Turning.{waiting_in}
+use Rattle.iscsi_session.specs.private.Steps.{is_numbered, AreCounted, waiting_in}
 
 -- what the invariant speaks of: the fields that callers see as `Core`, those behind them, and the containers' rooms
 pub record Inner : Type 0 where

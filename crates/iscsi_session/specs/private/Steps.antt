@@ -1,5 +1,5 @@
 -- What a session keeps after a part of an event, and the effects, by what it keeps before. For private contracts alone.
-use Rattle.std.specs.Prelude.{◌≡◌, ℕ, pos, ◌-ℤ◌, ◌+◌, ◌-◌, ◌≤◌, ◌==◌, ◌&&◌, ◌||◌, not, count_by, nat_lt, nat_le, Bool, true, List, [], ◌∷◌, ◌++◌, length, map, filter, slice_index_or, slice_set, Option, Some, None, option_map, if◌then◌else◌}
+use Rattle.std.specs.Prelude.{◌≡◌, ℕ, pos, ◌-ℤ◌, ◌+◌, ◌-◌, ◌≤◌, ◌==◌, ◌&&◌, ◌||◌, not, count_by, nat_lt, nat_le, Bool, true, List, [], ◌∷◌, ◌++◌, length, map, filter, slice_index_or, slice_set, Option, Some, None, if◌then◌else◌}
 use Rattle.std.specs.List.{list_any}
 use Rattle.iscsi_wire.specs.declared.request.Request.{Request}
 use Rattle.iscsi_wire.specs.declared.reply.Reply.{Reply}
@@ -19,10 +19,9 @@ use Rattle.iscsi_history.specs.declared.event.Event.TheVariants.{Arrive, Done}
 use Rattle.iscsi_session.specs.declared.fault.SessionFault.{SessionFault}
 use Rattle.iscsi_session.specs.declared.fault.SessionFault.TheVariants.{UnknownConnection, Exhausted}
 use Rattle.iscsi_commands.specs.declared.live.Live.{Live}
-use Rattle.iscsi_history.specs.declared.verdict.Verdict.{Verdict}
-use Rattle.iscsi_history.specs.declared.verdict.Verdict.TheVariants.{Nothing, Answer, Enter as EnterUnit}
+use Rattle.iscsi_session.specs.declared.session.waiting.Waiting.{Waiting}
 use Rattle.iscsi_history.specs.rules.Settings.{is_known}
-use Rattle.iscsi_history.specs.rules.Execution.{sense_of_status, unit_named, attr_of, MOST_IMMEDIATE, request_verdict}
+use Rattle.iscsi_history.specs.rules.Execution.{sense_of_status, attr_of, MOST_IMMEDIATE}
 use Rattle.iscsi_session.specs.private.Standing.{Core, stat_sn_on}
 pub use Rattle.iscsi_connections.specs.Connected.{count_reply, counted_on}
 pub use Rattle.iscsi_commands.specs.Commands.{find_ticket, without_ticket}
@@ -70,16 +69,13 @@ abbrev pub enable_effect : ℕ → Option ℕ → List Effect
 enable_effect unit None = []
 enable_effect unit (Some ticket) = Enable ticket unit ∷ []
 
--- ---- the table of the SCSI Command
+-- ---- what is found of live commands and functions that wait
 
 abbrev pub is_tag_kept : Core → ℕ → Bool
 is_tag_kept s tag = list_any (λ l. l.itt == tag) s.live
 
 abbrev pub is_set_full : Members → Bool
 is_set_full set = nat_le set.depth (length set.list)
-
-abbrev pub place_in : List Members → Request → Option (ℕ × Bool)
-place_in sets r = option_map (λ unit. (unit, is_set_full (slice_index_or sets unit (opened_set 0)))) (unit_named (length sets) r)
 
 -- an immediate command of the connection
 abbrev pub is_immediate_on : ℕ → Live → Bool
@@ -92,8 +88,9 @@ immediate_in live cid = count_by (is_immediate_on cid) live
 abbrev pub is_crowded_by : Core → Request → Bool
 is_crowded_by s r = is_immediate r && nat_le MOST_IMMEDIATE (immediate_in s.live (connection_of r))
 
-abbrev pub verdict_by : Core → Request → Verdict
-verdict_by s r = request_verdict r (is_tag_kept s (itt r)) (is_crowded_by s r) (place_in s.sets r)
+-- how many functions of a connection wait
+abbrev pub waiting_in : List Waiting → ℕ → ℕ
+waiting_in waits cid = count_by (λ w. connection_of w.request == cid) waits
 
 -- ---- counts of immediate commands
 
@@ -150,16 +147,6 @@ with_reply s conn = record s { conns = count_reply conn s.conns }
 
 abbrev pub reply_effects : Core → ℕ → Reply → List Effect
 reply_effects s conn reply = Send conn (stat_sn_on conn s.conns) reply ∷ []
-
-abbrev pub executed_as : Core → Request → Verdict → Core
-executed_as s r Nothing = s
-executed_as s r (Answer reply) = with_reply s (connection_of r)
-executed_as s r (EnterUnit unit) = with_command s r unit
-
-abbrev pub execution_effects : Core → Request → Verdict → List Effect
-execution_effects s r Nothing = []
-execution_effects s r (Answer reply) = reply_effects s (connection_of r) reply
-execution_effects s r (EnterUnit unit) = entry_effects s r unit
 
 -- ---- a completion
 

@@ -1,9 +1,9 @@
 //! The arrival of a request, and the turns that become due by it.
 
-ghost use Rattle.std.specs.Prelude.{false, ◌-◌, ◌*◌, ◌≡◌, ℕ, ◌+◌, ◌≤◌, ◌<◌, true, ◌++◌, length, Some, nat_lt, count_by, is_some, vec_len, vec_capacity};
+ghost use Rattle.std.specs.Prelude.{false, ◌-◌, ◌*◌, ◌≡◌, ℕ, ◌+◌, ◌≤◌, ◌<◌, true, ◌∷◌, ◌++◌, length, Some, nat_lt, count_by, is_some, vec_len, vec_capacity};
 ghost use Rattle.std.specs.List.{list_all};
 ghost use Rattle.iscsi_wire.specs.Fields.{connection_of, is_immediate, opcode};
-ghost use Rattle.iscsi_window.specs.Windows.{at_place, offer_to, number_expected};
+ghost use Rattle.iscsi_window.specs.Windows.{HasRoom, at_place, offer_to, number_expected};
 ghost use Rattle.iscsi_history.specs.rules.Settings.{Setting, is_known as known_in};
 ghost use Rattle.iscsi_history.specs.rules.Trace.{Trace, after_items, received};
 ghost use Rattle.iscsi_history.specs.promises.Flow.{HasOneMore};
@@ -14,7 +14,7 @@ ghost use Rattle.iscsi_history.specs.rules.Run.{effects_of};
 ghost use Rattle.iscsi_session.specs.private.Standing.{Agrees, Settled, is_held};
 ghost use Rattle.iscsi_session.specs.private.Steps.{KeepsPace, with_offered};
 ghost use Rattle.iscsi_session.specs.private.Functions.{owed};
-ghost use Rattle.iscsi_session.specs.private.Turning.{turned_if, turn_effects, comes_next};
+ghost use Rattle.iscsi_session.specs.private.Turning.{with_executed, executed_effects, turned_if, turn_effects, comes_next};
 
 use crate::opcode::kind_of;
 use crate::session::Session;
@@ -248,6 +248,26 @@ impl Session {
         while self.execute_next_waiting(out) {}
     }
 
+    /// Delivers a request that was held, apart from those that are delivered as they come.
+    #[inline(never)]
+    fn deliver_apart(&mut self, request: Request, event: u64, out: &mut Vec<Effect>)
+        requires space { HasRoom self.old.window }
+        requires numbered { is_immediate request ≡ false }
+        requires counted { self.old.entered + count_by is_some self.old.window.places < self.old.taken }
+        requires known { known_in (connection_of request) self.old.conns ≡ true }
+        requires room { vec_len out.old + owed self.old.live self.old.sets + 6 * count_by is_held self.old.window.places
+            + 6 ≤ vec_capacity out.old }
+        ensures session { self.new ≡ with_executed self.old request event }
+        ensures effects { out.new.items ≡ out.old.items ++ Effect.Deliver request
+            ∷ executed_effects self.old request event }
+        ensures spent { vec_len out.new + owed self.new.live self.new.sets + 6 * count_by is_held self.new.window.places
+            ≤ vec_len out.old + owed self.old.live self.old.sets + 6 * count_by is_held self.old.window.places + 6 }
+        ensures waiting { length self.new.waiting ≤ length self.old.waiting }
+        ensures capacity { vec_capacity out.new ≡ vec_capacity out.old }
+    {
+        self.deliver(request, event, out);
+    }
+
     /// Delivers the request of the next number, if that is received, and answers whether it was.
     fn deliver_next(&mut self, out: &mut Vec<Effect>) -> bool
         requires room { vec_len out.old + owed self.old.live self.old.sets + 6 * count_by is_held self.old.window.places
@@ -266,7 +286,7 @@ impl Session {
             return false;
         };
         if let Some(HeldRequest { request, event }) = held {
-            self.deliver(request, event, out);
+            self.deliver_apart(request, event, out);
         }
         true
     }

@@ -1,35 +1,42 @@
-//! The execution of a request, by the first case of its table that fits.
+//! The execution of a request.
 
-ghost use Rattle.std.specs.Prelude.{◌-◌, ◌*◌, ℕ, pos, ◌-ℤ◌, false, ◌≡◌, ◌==◌, ◌&&◌, position, ◌+◌, ◌≤◌, ◌<◌, true, ◌∷◌, ◌++◌, length, count_by, is_some, if◌then◌else◌, vec_len, vec_capacity};
+ghost use Rattle.std.specs.Prelude.{◌-◌, ◌*◌, ℕ, pos, ◌-ℤ◌, false, ◌≡◌, ◌==◌, ◌&&◌, ◌+◌, ◌≤◌, ◌<◌, true, ◌∷◌, ◌++◌, length, count_by, is_some, if◌then◌else◌, vec_len, vec_capacity};
 ghost use Rattle.iscsi_wire.specs.Serial.{number_of_first};
 ghost use Rattle.iscsi_wire.specs.Fields.{connection_of, header_of, is_immediate, itt as tag_of};
 ghost use Rattle.iscsi_window.specs.Windows.{HasRoom};
 ghost use Rattle.iscsi_history.specs.rules.Settings.{is_known as known_in};
-ghost use Rattle.iscsi_history.specs.rules.Execution.{MOST_IMMEDIATE, reject as reject_of, attr_of as attr_named, scsi_verdict, nop_verdict};
+ghost use Rattle.iscsi_history.specs.rules.Execution.{MOST_IMMEDIATE, attr_of as attr_named, reply_of};
 ghost use Rattle.iscsi_session.specs.private.Standing.{is_held};
-ghost use Rattle.iscsi_session.specs.private.Codes.{reason_code};
-ghost use Rattle.iscsi_session.specs.private.Steps.{set_at, is_set_full, is_tag_kept, is_crowded_by, immediate_in, counted_on, place_in, verdict_by, number_by, event_by, started, with_command, entry_effects, with_reply, reply_effects, executed_as, execution_effects};
+ghost use Rattle.iscsi_session.specs.private.Steps.{set_at, is_set_full, is_tag_kept, immediate_in, counted_on, number_by, event_by, started, with_command, entry_effects, with_reply, reply_effects};
 ghost use Rattle.iscsi_session.specs.private.Functions.{owed};
-ghost use Rattle.iscsi_session.specs.private.Turning.{with_executed, executed_effects};
+ghost use Rattle.iscsi_session.specs.private.Deeds.{Fits, IsReady, most_emptied, carried, carried_effects};
+ghost use Rattle.iscsi_session.specs.private.Turning.{position_by, with_executed, executed_effects};
 
-use crate::opcode::Opcode;
 use crate::reason::Reason;
+use crate::session::management::COMPLETE;
+use crate::session::sets::CHECK_CONDITION;
 use crate::session::{Session, sets};
 use iscsi_commands::Live;
 use iscsi_connections::Connections;
-use iscsi_history::{Effect, Verdict};
-use iscsi_tasks::{Attr, Task};
+use iscsi_history::{Answer, Deed, Effect};
+use iscsi_tasks::{Attr, Cover, Task};
 use iscsi_window::EventWindow;
-use iscsi_wire::{Reply, Request, distance};
+use iscsi_wire::{Reply, Request, Sense, distance};
 
-/// The tag that names no task (RFC 7143 section 11.2.1.8).
-pub(crate) const NO_TAG: u32 = 0xffff_ffff;
+/// The status TASK SET FULL.
+const TASK_SET_FULL: u8 = 0x28;
 
-/// The greatest ATTR that names a task attribute (RFC 7143 section 11.3.1).
-const GREATEST_ATTR: u8 = 3;
+/// ILLEGAL REQUEST, LOGICAL UNIT NOT SUPPORTED.
+const NO_UNIT: Sense = Sense {
+    key: 0x05,
+    asc: 0x25,
+    ascq: 0x00,
+};
 
 impl Session {
     /// Executes the request of the number that has turned last, which arrived in this event.
+    // It is inlined where a request is delivered as it comes: what it does is found in registers then.
+    #[inline(always)]
     pub(crate) fn deliver(&mut self, request: Request, event: u64, out: &mut Vec<Effect>)
         requires space { HasRoom self.old.window }
         requires numbered { is_immediate request ≡ false }
@@ -49,27 +56,6 @@ impl Session {
         self.execute(&request, event, out);
     }
 
-    /// Executes an immediate request at its arrival.
-    pub(crate) fn execute_at_once(&mut self, request: Request, out: &mut Vec<Effect>)
-        requires immediate { is_immediate request ≡ true }
-        requires turned { self.old.window.turned + count_by is_some self.old.window.places < self.old.taken }
-        requires counted { self.old.entered + count_by is_some self.old.window.places < self.old.taken }
-        requires known { known_in (connection_of request) self.old.conns ≡ true }
-        requires room { vec_len out.old + owed self.old.live self.old.sets + 6 * count_by is_held self.old.window.places
-            + 6 ≤ vec_capacity out.old }
-        ensures session { self.new ≡ with_executed self.old request (self.old.taken - 1) }
-        ensures effects { out.new.items ≡ out.old.items ++ Effect.Immediate request
-            ∷ executed_effects self.old request (self.old.taken - 1) }
-        ensures spent { vec_len out.new + owed self.new.live self.new.sets + 6 * count_by is_held self.new.window.places
-            ≤ vec_len out.old + owed self.old.live self.old.sets + 6 * count_by is_held self.old.window.places + 6 }
-        ensures waiting { length self.new.waiting ≤ length self.old.waiting }
-        ensures capacity { vec_capacity out.new ≡ vec_capacity out.old }
-    {
-        out.push_reserved(Effect::Immediate { request });
-        let event = self.taken - 1;
-        self.execute(&request, event, out);
-    }
-
     /// Rejects a request for its opcode.
     pub(crate) fn reject_opcode(&mut self, request: &Request, out: &mut Vec<Effect>)
         requires room { vec_len out.old + 1 ≤ vec_capacity out.old }
@@ -79,11 +65,12 @@ impl Session {
         ensures len { vec_len out.new ≡ vec_len out.old + 1 }
         ensures capacity { vec_capacity out.new ≡ vec_capacity out.old }
     {
-        let reply = rejection(request, Reason::NotSupported);
-        self.reply(request.conn(), reply, out);
+        let answer = Answer::Reject(Reason::NotSupported as u8);
+        self.answer(request, answer, out);
     }
 
     /// Executes a request that arrived in this event.
+    #[inline(always)]
     fn execute(&mut self, request: &Request, event: u64, out: &mut Vec<Effect>)
         requires space { is_immediate request.now ≡ false → HasRoom self.old.window }
         requires turned { is_immediate request.now ≡ true →
@@ -99,92 +86,67 @@ impl Session {
         ensures waiting { length self.new.waiting ≤ length self.old.waiting }
         ensures capacity { vec_capacity out.new ≡ vec_capacity out.old }
     {
-        match Opcode::of(request) {
-            Opcode::TaskManagement => {
-                let number = self.position(request);
-                self.manage(request, number, event, out);
-            }
-            Opcode::Logout => self.log_out(request, out),
-            Opcode::NopOut
-            | Opcode::ScsiCommand
-            | Opcode::Text
-            | Opcode::DataOut
-            | Opcode::Snack
-            | Opcode::Unknown => self.answer_or_enter(request, out),
-        }
+        let deed = self.decide(request);
+        let number = self.position(request);
+        self.carry_out(request, number, event, deed, out);
     }
 
-    /// Executes a request by the first case of its table that fits: it is answered, or enters a task set, or neither.
-    fn answer_or_enter(&mut self, request: &Request, out: &mut Vec<Effect>)
-        requires space { is_immediate request.now ≡ false → HasRoom self.old.window }
-        requires counted { self.old.entered + count_by is_some self.old.window.places < self.old.taken }
-        requires known { known_in (connection_of request.now) self.old.conns ≡ true }
-        requires room { vec_len out.old + 2 ≤ vec_capacity out.old }
-        ensures session { self.new ≡ executed_as self.old request.now (verdict_by self.old request.now) }
-        ensures effects { out.new.items ≡ out.old.items
-            ++ execution_effects self.old request.now (verdict_by self.old request.now) }
-        ensures spent { vec_len out.new + owed self.new.live self.new.sets ≤ vec_len out.old
-            + owed self.old.live self.old.sets + 4 }
+    /// Does what a request does that executes, by which alone that changes anything. Its number less the first CmdSN is this
+    /// one, and it arrived in this event.
+    #[inline(always)]
+    pub(crate) fn carry_out(
+        &mut self,
+        request: &Request,
+        number: i64,
+        event: u64,
+        deed: Deed,
+        out: &mut Vec<Effect>,
+    )
+        requires fits { Fits self.old request.now deed }
+        requires ready { IsReady self.old request.now deed }
+        requires number { (unit : ℕ) → deed ≡ Deed.Enter unit → number ≡ position_by self.old request.now }
+        requires room { vec_len out.old + owed self.old.live self.old.sets + most_emptied self.old deed + 4
+            ≤ vec_capacity out.old }
+        ensures session { self.new ≡ carried self.old request.now number event deed }
+        ensures effects { out.new.items ≡ out.old.items ++ carried_effects self.old request.now number event deed }
+        ensures spent { vec_len out.new + owed self.new.live self.new.sets + count_by is_held self.new.window.places
+            ≤ vec_len out.old + owed self.old.live self.old.sets + count_by is_held self.old.window.places + 4 }
         ensures capacity { vec_capacity out.new ≡ vec_capacity out.old }
     {
-        match self.verdict(request) {
-            Verdict::Nothing => {}
-            Verdict::Answer(reply) => self.reply(request.conn(), reply, out),
-            Verdict::Enter(unit) => self.enter(request, unit, out),
+        match deed {
+            Deed::Nothing => {}
+            Deed::Wait => {}
+            Deed::Reply(answer) => self.answer(request, answer, out),
+            Deed::Enter(unit) => self.enter(request, unit, number, out),
+            Deed::Void => {
+                self.void_number(request.ref_cmd_sn(), out);
+                self.answer(request, COMPLETE, out);
+            }
+            Deed::Empty { unit: _unit, sn } => {
+                self.empty_number(sn, out);
+                self.answer(request, COMPLETE, out);
+            }
+            Deed::Abort { unit, ticket } => self.abort_one(request, unit, ticket, out),
+            Deed::AbortEarlier(unit) => {
+                self.abort_covered(request, unit, Cover::Below { pos: number, event }, out)
+            }
+            Deed::AbortAll(unit) => self.abort_covered(request, unit, Cover::All, out),
+            Deed::CloseConn(conn) => self.log_out(request, Some(conn), out),
+            Deed::CloseSession => self.log_out(request, None, out),
         }
     }
 
-    /// What the execution of a request comes to.
-    ///
-    /// Rule: `text/rejected`.
-    fn verdict(&self, request: &Request) -> Verdict
-        requires { known_in (connection_of request.now) self.now.conns ≡ true }
-        ensures { result ≡ verdict_by self.now request.now }
+    /// A request is answered.
+    #[inline(never)]
+    pub(crate) fn answer(&mut self, request: &Request, answer: Answer, out: &mut Vec<Effect>)
+        requires room { vec_len out.old + 1 ≤ vec_capacity out.old }
+        ensures session { self.new ≡ with_reply self.old (connection_of request.now) }
+        ensures effects { out.new.items ≡ out.old.items
+            ++ reply_effects self.old (connection_of request.now) (reply_of request.now answer) }
+        ensures len { vec_len out.new ≡ vec_len out.old + 1 }
+        ensures capacity { vec_capacity out.new ≡ vec_capacity out.old }
     {
-        match Opcode::of(request) {
-            Opcode::NopOut => nop_verdict(request),
-            Opcode::Text => reject(request, Reason::NotSupported),
-            // Of the others SCSI Commands alone come here.
-            Opcode::ScsiCommand
-            | Opcode::TaskManagement
-            | Opcode::DataOut
-            | Opcode::Logout
-            | Opcode::Snack
-            | Opcode::Unknown => self.scsi_verdict(request),
-        }
-    }
-
-    /// What a SCSI Command comes to: the first case of its table that fits (SAM-5 section 8).
-    ///
-    /// Rules: `command/no-tag`, `command/attribute`, `command/tag-in-use`.
-    fn scsi_verdict(&self, request: &Request) -> Verdict
-        requires { known_in (connection_of request.now) self.now.conns ≡ true }
-        ensures { result ≡ scsi_verdict request.now (is_tag_kept self.now (tag_of request.now))
-            (is_crowded_by self.now request.now) (place_in self.now.sets request.now) }
-    {
-        let itt = request.itt();
-        if itt == NO_TAG || request.attr() > GREATEST_ATTR {
-            reject(request, Reason::InvalidField)
-        } else if self.is_tag_live(itt) {
-            reject(request, Reason::TaskInProgress)
-        } else {
-            sets::verdict_in(request, self.is_crowded(request), &self.sets)
-        }
-    }
-
-    /// Whether a live command has this tag.
-    fn is_tag_live(&self, itt: u32) -> bool
-        ensures { result ≡ is_tag_kept self.now itt }
-    {
-        self.live.find_tagged(itt).is_some()
-    }
-
-    /// Whether a request is immediate, and its connection has as many live immediate commands as it may.
-    fn is_crowded(&self, request: &Request) -> bool
-        requires { known_in (connection_of request.now) self.now.conns ≡ true }
-        ensures { result ≡ is_crowded_by self.now request.now }
-    {
-        request.immediate() && self.connections.is_crowded(request.conn())
+        self.reply(request.conn(), reply_to(request, answer), out);
     }
 
     /// A reply goes out on a connection.
@@ -203,8 +165,10 @@ impl Session {
         });
     }
 
-    /// A command enters the set of a unit, which has room for it. No live command has its tag.
-    fn enter(&mut self, request: &Request, unit: u16, out: &mut Vec<Effect>)
+    /// A command enters the set of a unit, which has room for it. No live command has its tag, and its number less the first
+    /// CmdSN is this one.
+    #[inline(never)]
+    fn enter(&mut self, request: &Request, unit: u16, pos: i64, out: &mut Vec<Effect>)
         requires space { is_immediate request.now ≡ false → HasRoom self.old.window }
         requires few { is_immediate request.now ≡ true →
             immediate_in self.old.live (connection_of request.now) < MOST_IMMEDIATE }
@@ -213,13 +177,13 @@ impl Session {
         requires unit { unit < length self.old.sets }
         requires not_full { is_set_full (set_at self.old unit) ≡ false }
         requires unused { is_tag_kept self.old (tag_of request.now) ≡ false }
+        requires number { pos ≡ position_by self.old request.now }
         requires room { vec_len out.old + 2 ≤ vec_capacity out.old }
         ensures session { self.new ≡ with_command self.old request.now unit }
         ensures effects { out.new.items ≡ out.old.items ++ entry_effects self.old request.now unit }
         ensures spent { vec_len out.new ≤ vec_len out.old + 2 }
         ensures capacity { vec_capacity out.new ≡ vec_capacity out.old }
     {
-        let pos = self.position(request);
         let event = self.event(request);
         begin(&mut self.window, &mut self.connections, request);
         self.entered += 1;
@@ -247,7 +211,7 @@ impl Session {
     }
 
     /// The number of a request that executes, less the first CmdSN. A numbered one has turned last.
-    fn position(&self, request: &Request) -> i64
+    pub(crate) fn position(&self, request: &Request) -> i64
         ensures { result ≡ pos (number_by self.now request.now) -ℤ pos (number_of_first self.now.window.first) }
     {
         let turned = self.window.turned() as i64;
@@ -291,34 +255,29 @@ fn begin(window: &mut EventWindow, connections: &mut Connections, request: &Requ
     }
 }
 
-/// What a NOP-Out comes to: a NOP-In, where it has a tag (RFC 7143 section 11.18).
-///
-/// Rules: `nop-out/no-tag`, `nop-out/answered`.
-fn nop_verdict(request: &Request) -> Verdict
-    ensures { result ≡ nop_verdict request.now }
+/// The reply that an answer stands for. A Reject shows the whole header.
+fn reply_to(request: &Request, answer: Answer) -> Reply
+    ensures { result ≡ reply_of request.now answer }
 {
     let itt = request.itt();
-    if itt == NO_TAG {
-        Verdict::Nothing
-    } else {
-        Verdict::Answer(Reply::Nop { itt })
-    }
-}
-
-/// What comes of a request that is rejected.
-pub(crate) fn reject(request: &Request, reason: Reason) -> Verdict
-    ensures { result ≡ reject_of request.now (reason_code reason) }
-{
-    Verdict::Answer(rejection(request, reason))
-}
-
-/// A Reject of the request, which shows its whole header.
-pub(crate) fn rejection(request: &Request, reason: Reason) -> Reply
-    ensures { result ≡ Reply.Reject (reason_code reason) (header_of request.now) }
-{
-    Reply::Reject {
-        reason: reason as u8,
-        header: request.bytes(),
+    match answer {
+        Answer::Reject(reason) => Reply::Reject {
+            reason,
+            header: request.bytes(),
+        },
+        Answer::Pong => Reply::Nop { itt },
+        Answer::NoUnit => Reply::Scsi {
+            itt,
+            status: CHECK_CONDITION,
+            sense: Some(NO_UNIT),
+        },
+        Answer::Full => Reply::Scsi {
+            itt,
+            status: TASK_SET_FULL,
+            sense: None,
+        },
+        Answer::Respond(response) => Reply::Task { itt, response },
+        Answer::LogOut(response) => Reply::Logout { itt, response },
     }
 }
 

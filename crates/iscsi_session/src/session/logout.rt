@@ -1,21 +1,16 @@
 //! Logout, and the closing of connections and of the session (RFC 7143 sections 11.14 and 11.15).
 
 ghost use Rattle.std.specs.Prelude.{ℕ, ◌≡◌, ◌+◌, ◌*◌, ◌≤◌, ◌<◌, [], ◌++◌, length, true, false, map, count_by, if◌then◌else◌, IfSome, vec_len, vec_capacity};
-ghost use Rattle.iscsi_wire.specs.Fields.{connection_of, itt as tag_of, cid as cid_of};
 ghost use Rattle.iscsi_window.specs.Windows.{is_asked};
-ghost use Rattle.iscsi_history.specs.rules.Settings.{is_known as known_in};
 ghost use Rattle.iscsi_session.specs.private.Standing.{is_held};
-ghost use Rattle.iscsi_session.specs.private.Codes.{logout_response_code};
 ghost use Rattle.iscsi_session.specs.private.Functions.{owed};
-ghost use Rattle.iscsi_session.specs.private.Closing.{is_among_open, closing_by, closed_as, closed_effects, logged_out, logout_effects, cover_of as cover_named, covers_of, units_of, with_all_left, all_leaving_effects, with_emptied, is_clear_below, emptying_effects, with_dropped, ended_if, session_closes, with_closed, close_effects, with_all_given, all_enable_effects};
+ghost use Rattle.iscsi_session.specs.private.Closing.{is_among_open, logged_out, logout_effects, cover_of as cover_named, covers_of, units_of, with_all_left, all_leaving_effects, with_emptied, is_clear_below, emptying_effects, with_dropped, ended_if, session_closes, with_closed, close_effects, with_all_given, all_enable_effects};
 
-use crate::closing::{Closing, LogoutReason, LogoutResponse};
-use crate::reason::Reason;
+use crate::closing::LogoutResponse;
 use crate::session::Session;
-use crate::session::execution::{NO_TAG, rejection};
-use iscsi_history::Effect;
+use iscsi_history::{Answer, Effect};
 use iscsi_tasks::Cover;
-use iscsi_wire::{Reply, Request};
+use iscsi_wire::Request;
 use std::alloc::Global;
 
 impl Session {
@@ -26,72 +21,23 @@ impl Session {
         self.connections.is_open(conn)
     }
 
-    /// Executes a Logout Request.
-    pub(crate) fn log_out(&mut self, request: &Request, out: &mut Vec<Effect>)
-        requires room { vec_len out.old + owed self.old.live self.old.sets + 6 * count_by is_held self.old.window.places
-            + 3 ≤ vec_capacity out.old }
-        ensures session { self.new ≡ closed_as self.old request.now (closing_by self.old request.now) }
-        ensures effects { out.new.items ≡ out.old.items
-            ++ closed_effects self.old request.now (closing_by self.old request.now) }
-        ensures spent { vec_len out.new + owed self.new.live self.new.sets + 6 * count_by is_held self.new.window.places
-            ≤ vec_len out.old + owed self.old.live self.old.sets + 6 * count_by is_held self.old.window.places + 3 }
-        ensures capacity { vec_capacity out.new ≡ vec_capacity out.old }
-    {
-        match self.closing(request) {
-            Closing::Refused(reply) => self.reply(request.conn(), reply, out),
-            Closing::Session => self.carry_out_logout(request, None, out),
-            Closing::Conn(conn) => self.carry_out_logout(request, Some(conn), out),
-        }
-    }
-
-    /// What a Logout Request comes to: the first case of its table that fits.
-    ///
-    /// Rules: `logout/no-tag`, `logout/session`, `logout/recovery`, `logout/other-reason`.
-    fn closing(&self, request: &Request) -> Closing
-        ensures { result ≡ closing_by self.now request.now }
-    {
-        if request.itt() == NO_TAG {
-            return Closing::Refused(rejection(request, Reason::InvalidField));
-        }
-        match LogoutReason::of(request) {
-            LogoutReason::CloseSession => Closing::Session,
-            LogoutReason::CloseConn => self.closing_conn(request),
-            LogoutReason::RemoveForRecovery => refused(request, LogoutResponse::NoRecovery),
-            LogoutReason::Unknown => Closing::Refused(rejection(request, Reason::InvalidField)),
-        }
-    }
-
-    /// What a Logout Request of a connection comes to, which is its own or another one.
-    ///
-    /// Rules: `logout/connection`, `logout/unknown-cid`.
-    fn closing_conn(&self, request: &Request) -> Closing
-        ensures { result ≡ (if is_among_open (cid_of request.now) self.now.open_conns then Closing.Conn
-            (cid_of request.now) else Closing.Refused (Reply.Logout (tag_of request.now) 1)) }
-    {
-        if self.is_open(request.cid()) {
-            Closing::Conn(request.cid())
-        } else {
-            refused(request, LogoutResponse::NoConn)
-        }
-    }
-
     /// Carries a Logout out, of a connection or for None of the session: what of it is live leaves, what is held is
     /// discarded, what waits is dropped, and it closes.
-    fn carry_out_logout(&mut self, request: &Request, scope: Option<u16>, out: &mut Vec<Effect>)
-        requires room { vec_len out.old + owed self.old.live self.old.sets + 6 * count_by is_held self.old.window.places
-            + 3 ≤ vec_capacity out.old }
+    #[inline(never)]
+    pub(crate) fn log_out(&mut self, request: &Request, scope: Option<u16>, out: &mut Vec<Effect>)
+        requires room { vec_len out.old + owed self.old.live self.old.sets + count_by is_held self.old.window.places + 3
+            ≤ vec_capacity out.old }
         ensures session { self.new ≡ logged_out self.old request.now scope }
         ensures effects { out.new.items ≡ out.old.items ++ logout_effects self.old request.now scope }
-        ensures spent { vec_len out.new + owed self.new.live self.new.sets + 6 * count_by is_held self.new.window.places
-            ≤ vec_len out.old + owed self.old.live self.old.sets + 6 * count_by is_held self.old.window.places + 3 }
+        ensures spent { vec_len out.new + owed self.new.live self.new.sets + count_by is_held self.new.window.places
+            ≤ vec_len out.old + owed self.old.live self.old.sets + count_by is_held self.old.window.places + 3 }
         ensures capacity { vec_capacity out.new ≡ vec_capacity out.old }
     {
         self.leave_all(scope, out);
         self.empty_all(scope, out);
         self.drop_waiting(scope);
-        let itt = request.itt();
-        let response = LogoutResponse::Closed as u8;
-        self.reply(request.conn(), Reply::Logout { itt, response }, out);
+        let answer = Answer::LogOut(LogoutResponse::Closed as u8);
+        self.answer(request, answer, out);
         self.close(scope, out);
         self.announce_all(out);
     }
@@ -205,15 +151,6 @@ impl Session {
     {
         self.sets.len() as u16
     }
-}
-
-/// A Logout Request that closes nothing.
-fn refused(request: &Request, response: LogoutResponse) -> Closing
-    ensures { result ≡ Closing.Refused (Reply.Logout (tag_of request.now) (logout_response_code response)) }
-{
-    let itt = request.itt();
-    let response = response as u8;
-    Closing::Refused(Reply::Logout { itt, response })
 }
 
 /// Whether a connection is the one that is closed: each is for None.

@@ -2,28 +2,16 @@
 
 ghost use Rattle.std.specs.Prelude.{false, ◌≡◌, ◌+◌, ◌<◌, ◌≤◌, ◌++◌, length, count_by, replicate, slice_index_or, slice_set, Some, IfSome, vec_len, vec_capacity};
 ghost use Rattle.iscsi_tasks.specs.Sets.{opened, IsNewest, entered_to, is_new, next_in, given_by};
-ghost use Rattle.iscsi_history.specs.rules.Execution.{scsi_to, unit_named};
-ghost use Rattle.iscsi_session.specs.private.Steps.{is_set_full, place_in, all_given, enable_effect, enable_effects};
+ghost use Rattle.iscsi_history.specs.rules.Execution.{unit_named};
+ghost use Rattle.iscsi_session.specs.private.Steps.{is_set_full, all_given, enable_effect, enable_effects};
 
-use crate::reason::Reason;
-use crate::session::execution::reject;
-use iscsi_history::{Effect, Verdict};
+use iscsi_history::Effect;
 use iscsi_tasks::{LinkedTaskSet, Task};
-use iscsi_wire::{Reply, Request, Sense, unit_of};
+use iscsi_wire::{Request, unit_of};
 use std::alloc::Global;
 
 /// The status CHECK CONDITION.
 pub(crate) const CHECK_CONDITION: u8 = 0x02;
-
-/// The status TASK SET FULL.
-const TASK_SET_FULL: u8 = 0x28;
-
-/// ILLEGAL REQUEST, LOGICAL UNIT NOT SUPPORTED.
-const NO_UNIT: Sense = Sense {
-    key: 0x05,
-    asc: 0x25,
-    ascq: 0x00,
-};
 
 /// Opens an empty set for each of so many units. None where memory is refused.
 pub(crate) fn open(alloc: Global, units: u32, depth: u32) -> Option<Vec<LinkedTaskSet>>
@@ -35,34 +23,6 @@ pub(crate) fn open(alloc: Global, units: u32, depth: u32) -> Option<Vec<LinkedTa
         sets.push_reserved(LinkedTaskSet::open(alloc, depth).ok()?);
     }
     Some(sets)
-}
-
-/// What a SCSI Command comes to by the unit that it names, the immediate commands of its connection, and that
-/// unit's set.
-///
-/// Rules: `command/no-unit`, `command/crowded`, `command/full`, `command/enters`.
-pub(crate) fn verdict_in(request: &Request, is_crowded: bool, sets: &[LinkedTaskSet]) -> Verdict
-    ensures { result ≡ scsi_to request.now is_crowded (place_in sets.now request.now) }
-{
-    let itt = request.itt();
-    let Some(unit) = unit_named(request, sets.len()) else {
-        return Verdict::Answer(Reply::Scsi {
-            itt,
-            status: CHECK_CONDITION,
-            sense: Some(NO_UNIT),
-        });
-    };
-    if is_crowded {
-        return reject(request, Reason::TooManyImmediate);
-    }
-    if is_full(&sets[usize::from(unit)]) {
-        return Verdict::Answer(Reply::Scsi {
-            itt,
-            status: TASK_SET_FULL,
-            sense: None,
-        });
-    }
-    Verdict::Enter(unit)
 }
 
 /// The unit that a request's LUN names, of so many.
@@ -77,7 +37,9 @@ pub(crate) fn unit_named(request: &Request, units: usize) -> Option<u16>
     }
 }
 
-fn is_full(set: &LinkedTaskSet) -> bool
+/// Whether a task set has as many commands as it may.
+#[inline(always)]
+pub(crate) fn is_full(set: &LinkedTaskSet) -> bool
     ensures { result ≡ is_set_full set.now }
 {
     set.depth() <= set.len()

@@ -5,7 +5,7 @@ ghost use Rattle.std.specs.VecDeque.{deque_len, deque_capacity};
 ghost use Rattle.iscsi_wire.specs.Fields.{connection_of};
 ghost use Rattle.iscsi_window.specs.Windows.{is_asked};
 ghost use Rattle.iscsi_slots.specs.Queued.{queued};
-ghost use Rattle.iscsi_session.specs.private.Turning.{waiting_in};
+ghost use Rattle.iscsi_session.specs.private.Steps.{waiting_in};
 
 use crate::session::logout::is_of;
 use iscsi_wire::Request;

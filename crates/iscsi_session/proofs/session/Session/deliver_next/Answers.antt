@@ -8,7 +8,7 @@ use Rattle.iscsi_session.specs.private.Standing.{Core, is_held}
 use Rattle.iscsi_session.specs.private.Turning.{with_executed, executed_effects}
 use Rattle.iscsi_history.proofs.BoolLemmas.{and_first, not_true}
 use Rattle.iscsi_session.proofs.WindowLemmas.{Advanced, advanced_at}
-use Rattle.iscsi_session.proofs.ManageLemmas.{placed_executed}
+use Rattle.iscsi_session.proofs.PaceLemmas.{executed_counted}
 use Rattle.iscsi_session.proofs.session.Session.deliver_next.Goals as goal
 use Rattle.iscsi_session.proofs.session.Session.deliver_next.Goals.{In-Some, In-Some-held}
 
@@ -26,7 +26,7 @@ returns-in-Some-held-clause-session c =
     let s : Core = the_view c.self.inside in
     let n = turned (goal.at.returns-in-Some-held-clause-session c).In-Some-held in
     rw (← c.self.view_is, n.here)
-    (c.deliver.ensures.session ∙ ap (λ (v : Arrived). with_executed (record s { window = v }) c.in-Some-held.field-0.request c.in-Some-held.field-0.event) c.advance.ensures.state)
+    (c.deliver_apart.ensures.session ∙ ap (λ (v : Arrived). with_executed (record s { window = v }) c.in-Some-held.field-0.request c.in-Some-held.field-0.event) c.advance.ensures.state)
 
 pub returns-in-Some-held-clause-effects : goal.returns-in-Some-held-clause-effects
 returns-in-Some-held-clause-effects c =
@@ -34,16 +34,16 @@ returns-in-Some-held-clause-effects c =
     let n = turned (goal.at.returns-in-Some-held-clause-effects c).In-Some-held in
     let r = c.in-Some-held.field-0.request in
     rw (← c.self.view_is, n.here)
-    (c.deliver.ensures.effects ∙ ap (λ (v : Arrived). c.args.out.now.items ++ Deliver r ∷ executed_effects (record s { window = v }) r c.in-Some-held.field-0.event) c.advance.ensures.state)
+    (c.deliver_apart.ensures.effects ∙ ap (λ (v : Arrived). c.args.out.now.items ++ Deliver r ∷ executed_effects (record s { window = v }) r c.in-Some-held.field-0.event) c.advance.ensures.state)
 
 pub returns-in-Some-held-clause-spent : goal.returns-in-Some-held-clause-spent
 returns-in-Some-held-clause-spent c =
     let n = turned (goal.at.returns-in-Some-held-clause-spent c).In-Some-held in
-    rw (← c.self.view_is) (omega (arith, ap (λ w. count_by is_held w.places) c.advance.ensures.state, n.held, c.deliver.ensures.spent))
+    rw (← c.self.view_is) (omega (arith, ap (λ w. count_by is_held w.places) c.advance.ensures.state, n.held, c.deliver_apart.ensures.spent))
 
 pub returns-in-Some-held-clause-fewer : goal.returns-in-Some-held-clause-fewer
 returns-in-Some-held-clause-fewer c = λ said.
     let path = (goal.at.returns-in-Some-held-clause-fewer c).In-Some-held in
     let t : Core = record (the_view c.self.inside) { window = c.advance.new.self } in
-    let g = placed_executed t c.in-Some-held.field-0.request c.in-Some-held.field-0.event (numbered path) in
-    rw (← c.self.view_is) (omega (arith, ap (λ (u : Core). count_by is_some u.window.places) c.deliver.ensures.session, g.counted, ap (λ w. count_by is_some w.places) c.advance.ensures.state, (turned path).counted))
+    let counted = executed_counted t c.in-Some-held.field-0.request c.in-Some-held.field-0.event (numbered path) in
+    rw (← c.self.view_is) (omega (arith, ap (λ (u : Core). count_by is_some u.window.places) c.deliver_apart.ensures.session, counted, ap (λ w. count_by is_some w.places) c.advance.ensures.state, (turned path).counted))

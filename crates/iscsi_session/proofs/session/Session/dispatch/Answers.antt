@@ -7,11 +7,10 @@ use Rattle.iscsi_history.specs.promises.Flow.{HasOneMore}
 use Rattle.iscsi_history.specs.rules.Agenda.{arrival_open, arrival_of}
 use Rattle.iscsi_history.specs.rules.Run.{effects_of}
 use Rattle.iscsi_session.specs.private.Standing.{Core, Settled}
-use Rattle.iscsi_session.specs.private.Turning.{deferral_by}
 use Rattle.iscsi_history.proofs.ListLemmas.{is_known-cids}
 use Rattle.iscsi_history.proofs.ReceivedItems.{passed_receives, rejected_receives, is_numbered_arrival}
 use Rattle.iscsi_session.proofs.ArriveLemmas.{passed_over, rejected_opcode, AtOnce, at_once, at_once_settled, at_once_effects, at_once_receives}
-use Rattle.iscsi_session.proofs.PaceLemmas.{immediate_stays}
+use Rattle.iscsi_session.proofs.PaceLemmas.{immediate_same}
 use Rattle.iscsi_session.proofs.session.Session.dispatch.Goals as goal
 
 pub returns-in-PassedOver-clause-settled : goal.returns-in-PassedOver-clause-settled
@@ -61,7 +60,7 @@ returns-then-immediate-clause-received c = λ o index t taken h.
     at_once_receives o c.args.self.now c.receive_immediate.new.self t a x c.run_agenda.ensures.received
 
 pub returns-then-immediate-clause-taken : goal.returns-then-immediate-clause-taken
-returns-then-immediate-clause-taken c = c.run_agenda.ensures.taken ∙ ap (λ (s : Core). s.taken) c.receive_immediate.ensures.session ∙ (immediate_stays c.args.self.now c.args.request (deferral_by c.args.self.now c.args.request)).taken
+returns-then-immediate-clause-taken c = c.run_agenda.ensures.taken ∙ ap (λ (s : Core). s.taken) c.receive_immediate.ensures.session ∙ (immediate_same c.args.self.now c.args.request).taken
 
 pub returns-then-immediate-clause-pace : goal.returns-then-immediate-clause-pace
 returns-then-immediate-clause-pace c = omega (arith, c.receive_immediate.ensures.pace, c.run_agenda.ensures.pace)

@@ -54,9 +54,9 @@ push-requires-clause-unused c = rw c.itt.ensures (rw (← c.self.view_is) at c.r
 -- the set of the unit has the task as the definitions say
 sets_are : (c : After-enter-slot) → c.enter-slot.new.sets ≡ set c.self.inside.sets.items c.args.unit (given_by (entered_to (get_or c.self.inside.sets.items c.args.unit (opened 0)) (new_task c.args.self.now c.args.request.now)))
 sets_are c =
-    let position = to_z-of_z w64 c.position-pos.result (search rules) in
+    let position = to_z-of_z w64 c.args.pos (search rules) in
     c.enter-slot.ensures.sets
-    ∙ rw (c.deref_mut.ensures.value, c.conn.ensures, c.itt.ensures, c.attr_of-attr.ensures, c.attr.ensures, c.immediate.ensures, position, c.position-pos.ensures, c.event-event.ensures, ap (λ (s : Core). s.entered) c.self.view_is)
+    ∙ rw (c.deref_mut.ensures.value, c.conn.ensures, c.itt.ensures, c.attr_of-attr.ensures, c.attr.ensures, c.immediate.ensures, position, c.requires.number, c.event-event.ensures, ap (λ (s : Core). s.entered) c.self.view_is)
 
 -- and so they are written back
 sets_now : (c : After-enter-slot) → take c.self.inside.sets.len (c.enter-slot.new.sets ++ drop (length c.enter-slot.new.sets) c.self.inside.sets.items) ≡ c.enter-slot.new.sets
@@ -94,6 +94,6 @@ returns-clause-session c =
 
 pub returns-clause-effects : goal.returns-clause-effects
 returns-clause-effects c =
-    let position = to_z-of_z w64 c.position-pos.result (search rules) in
+    let position = to_z-of_z w64 c.args.pos (search rules) in
     c.enter-slot.ensures.effects
-    ∙ rw (c.push_reserved.ensures.items, append_assoc, c.deref_mut.ensures.value, c.conn.ensures, c.itt.ensures, c.attr_of-attr.ensures, c.attr.ensures, c.immediate.ensures, position, c.position-pos.ensures, c.event-event.ensures, ← c.self.view_is)
+    ∙ rw (c.push_reserved.ensures.items, append_assoc, c.deref_mut.ensures.value, c.conn.ensures, c.itt.ensures, c.attr_of-attr.ensures, c.attr.ensures, c.immediate.ensures, position, c.requires.number, c.event-event.ensures, ← c.self.view_is)

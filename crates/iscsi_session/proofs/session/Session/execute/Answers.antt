@@ -1,28 +1,31 @@
-use Rattle.std.proofs.Common.{◌≡◌, ap, arith, length, count_by}
-use Rattle.iscsi_session.specs.private.Standing.{Core, is_held}
-use Rattle.iscsi_session.specs.private.Steps.{verdict_by}
-use Rattle.iscsi_session.specs.private.Closing.{closing_by}
-use Rattle.iscsi_session.proofs.ManageLemmas.{Eased, managed_eased, managed_waiting, answered_places, answered_waiting}
-use Rattle.iscsi_session.proofs.LoggedOutLemmas.{closed_parts}
+use Rattle.std.proofs.Common.{rules, w64, ◌≡◌, ◌∙◌, arith}
+use Rattle.std.proofs.lemmas.Int.{to_z-of_z}
+use Rattle.iscsi_session.specs.private.Deeds.{deed_by}
+use Rattle.iscsi_session.specs.private.Turning.{with_executed}
+use Rattle.iscsi_session.proofs.DeedLemmas.{fits_deed, ready, Stays}
+use Rattle.iscsi_session.proofs.PaceLemmas.{executed_stays}
 use Rattle.iscsi_session.proofs.session.Session.execute.Goals as goal
 
-pub returns-in-TaskManagement-clause-spent : goal.returns-in-TaskManagement-clause-spent
-returns-in-TaskManagement-clause-spent c =
-    let e : Eased c.args.self.now.window c.manage.new.self.window = rw c.manage.ensures.session (managed_eased c.args.self.now c.args.request.now _ c.args.event) in
-    omega (arith, e.held, c.manage.ensures.spent)
+pub carry_out-requires-clause-fits : goal.carry_out-requires-clause-fits
+carry_out-requires-clause-fits c = rw c.decide-deed.ensures (fits_deed c.args.self.now c.args.request.now)
 
-pub returns-in-TaskManagement-clause-waiting : goal.returns-in-TaskManagement-clause-waiting
-returns-in-TaskManagement-clause-waiting c =
-    let same : c.manage.new.self.waiting ≡ c.args.self.now.waiting = rw c.manage.ensures.session (managed_waiting c.args.self.now c.args.request.now _ c.args.event) in
-    omega (arith, ap length same)
+pub carry_out-requires-clause-ready : goal.carry_out-requires-clause-ready
+carry_out-requires-clause-ready c =
+    rw c.decide-deed.ensures
+    (ready c.args.self.now c.args.request.now (deed_by c.args.self.now c.args.request.now) (fits_deed c.args.self.now c.args.request.now) c.requires.space c.requires.turned c.requires.counted c.requires.known)
 
-pub returns-in-Logout-clause-waiting : goal.returns-in-Logout-clause-waiting
-returns-in-Logout-clause-waiting c = omega (arith, ap (λ (v : Core). length v.waiting) c.log_out.ensures.session, (closed_parts c.args.self.now c.args.request.now (closing_by c.args.self.now c.args.request.now)).waiting)
+pub carry_out-requires-clause-number : goal.carry_out-requires-clause-number
+carry_out-requires-clause-number c = λ unit is. to_z-of_z w64 c.position-number.result (search rules) ∙ c.position-number.ensures
 
-pub returns-in-NopOut-clause-spent : goal.returns-in-NopOut-clause-spent
-returns-in-NopOut-clause-spent c =
-    omega (arith, ap (λ (v : Core). count_by is_held v.window.places) c.answer_or_enter.ensures.session, ap (count_by is_held) (answered_places c.args.self.now c.args.request.now (verdict_by c.args.self.now c.args.request.now)))
-
-pub returns-in-NopOut-clause-waiting : goal.returns-in-NopOut-clause-waiting
-returns-in-NopOut-clause-waiting c =
-    omega (arith, ap (λ (v : Core). length v.waiting) c.answer_or_enter.ensures.session, ap length (answered_waiting c.args.self.now c.args.request.now (verdict_by c.args.self.now c.args.request.now)))
+pub returns : goal.returns
+returns c =
+    let number = to_z-of_z w64 c.position-number.result (search rules) in
+    let session : c.carry_out.new.self ≡ with_executed c.args.self.now c.args.request.now c.args.event = rw (number, c.decide-deed.ensures, c.position-number.ensures) at c.carry_out.ensures.session in
+    let stays : Stays 1 c.args.self.now c.carry_out.new.self = rw session (executed_stays c.args.self.now c.args.request.now c.args.event) in
+    record {
+      session = session;
+      effects = rw (number, c.decide-deed.ensures, c.position-number.ensures) at c.carry_out.ensures.effects;
+      spent = omega (arith, c.carry_out.ensures.spent, stays.held);
+      waiting = stays.waiting;
+      capacity = c.carry_out.ensures.capacity;
+    }

@@ -9,7 +9,8 @@ use Rattle.iscsi_session.specs.private.Standing.{Core, Agrees}
 use Rattle.iscsi_session.specs.private.Steps.{KeepsPace}
 use Rattle.iscsi_session.specs.private.Turning.{next_waiting, function_if, function_effects}
 use Rattle.iscsi_session.proofs.AgendaLemmas.{Leads, left_functions, functions-on, functions-done}
-use Rattle.iscsi_session.proofs.PaceLemmas.{Stays, function_stays, pace-function}
+use Rattle.iscsi_session.proofs.DeedLemmas.{Stays}
+use Rattle.iscsi_session.proofs.PaceLemmas.{function_stays, pace-function}
 use Rattle.iscsi_session.proofs.session.Session.execute_all_waiting.Goals as goal
 use Rattle.iscsi_history.proofs.ListLemmas.{is_none}
 

@@ -1,18 +1,47 @@
-use Rattle.std.proofs.Common.{◌-◌, arith}
-use Rattle.std.proofs.lemmas.List.{length_push}
-use Rattle.iscsi_session.proofs.ManageLemmas.{Eased, eased_executed}
+use Rattle.std.proofs.Common.{◌≤◌, ◌∙◌, sym, arith, count_by}
+use Rattle.std.proofs.lemmas.Bool.{false≢true}
+use Rattle.iscsi_wire.specs.declared.request.Request.{Request}
+use Rattle.iscsi_history.specs.declared.deed.Deed.{Deed}
+use Rattle.iscsi_history.specs.declared.deed.Deed.TheVariants.{CloseConn}
+use Rattle.iscsi_session.specs.private.Standing.{Core, is_held}
+use Rattle.iscsi_session.specs.private.Deeds.{Fits, most_emptied}
+use Rattle.iscsi_session.proofs.DeedLemmas.{fits_arrival, ready, Stays}
+use Rattle.iscsi_session.proofs.PaceLemmas.{at_once_stays, immediate_is}
 use Rattle.iscsi_session.proofs.session.Session.receive_immediate.Goals as goal
-use Rattle.iscsi_session.proofs.session.Session.receive_immediate.Goals.{After-execute_at_once}
+use Rattle.iscsi_session.proofs.session.Session.receive_immediate.Goals.{After-decide_arrival}
 
-eased : (c : After-execute_at_once) → Eased c.args.self.now.window c.execute_at_once.new.self.window
-eased c = rw c.execute_at_once.ensures.session (eased_executed c.args.self.now c.args.request (c.args.self.now.taken - 1) c.requires.immediate)
+-- what it does fits
+fits : (c : After-decide_arrival) → Fits c.args.self.now c.args.request c.decide_arrival.result
+fits c = rw c.decide_arrival.ensures (fits_arrival c.args.self.now c.args.request)
 
-pub returns-in-Now-clause-pace : goal.returns-in-Now-clause-pace
-returns-in-Now-clause-pace c = (eased (goal.at.returns-in-Now-clause-pace c).After-execute_at_once).pace
+emptied_most : (s : Core) (d : Deed) → most_emptied s d ≤ count_by is_held s.window.places
+emptied_most s (CloseConn conn) = omega arith
+emptied_most s _ = omega arith
 
-pub returns-in-Now-clause-spent : goal.returns-in-Now-clause-spent
-returns-in-Now-clause-spent c =
-    omega (arith, (eased (goal.at.returns-in-Now-clause-spent c).After-execute_at_once).held, c.execute_at_once.ensures.waiting, c.execute_at_once.ensures.spent)
+pub wait-requires-clause-later : goal.wait-requires-clause-later
+wait-requires-clause-later c = rw c.in-Wait.is at (fits (goal.at.wait-requires-clause-later c).After-decide_arrival)
 
-pub returns-in-Later-clause-spent : goal.returns-in-Later-clause-spent
-returns-in-Later-clause-spent c = rw (c.wait.ensures.session, length_push) (omega (arith, c.wait.ensures.len))
+pub execute_at_once-requires : goal.execute_at_once-requires
+execute_at_once-requires c =
+    let d = fits (goal.at.execute_at_once-requires c).After-decide_arrival in
+    record {
+      fits = d;
+      ready = ready c.args.self.now c.args.request c.decide_arrival.result d (λ no. absurd (false≢true (sym no ∙ c.requires.immediate))) (λ is. c.requires.turned) c.requires.entered c.requires.known;
+      taken = omega (arith, c.requires.turned);
+      room = omega (arith, c.requires.room, emptied_most c.args.self.now c.decide_arrival.result);
+    }
+
+pub returns-in_default : goal.returns-in_default
+returns-in_default c =
+    let s : Core = c.args.self.now in
+    let r : Request = c.args.request in
+    let d : Deed = c.decide_arrival.result in
+    let is = immediate_is s r d c.in_default.not-Wait in
+    let stays : Stays 0 s c.execute_at_once.new.self = rw c.execute_at_once.ensures.session (at_once_stays s r d (fits (goal.at.returns-in_default c).After-decide_arrival) c.requires.immediate) in
+    record {
+      session = rw (← c.decide_arrival.ensures, is.0) c.execute_at_once.ensures.session;
+      effects = rw (← c.decide_arrival.ensures, is.1) c.execute_at_once.ensures.effects;
+      pace = omega (arith, stays);
+      spent = omega (arith, stays, c.execute_at_once.ensures.spent);
+      capacity = c.execute_at_once.ensures.capacity;
+    }

@@ -6,15 +6,16 @@ use Rattle.iscsi_wire.specs.Fields.{cmd_sn}
 use Rattle.iscsi_window.specs.Windows.{number_expected}
 use Rattle.iscsi_slots.specs.Queued.{Queued}
 use Rattle.iscsi_session.specs.declared.session.waiting.Waiting.{Waiting}
-use Rattle.iscsi_session.proofs.ManageLemmas.{Waits, waits_more, Later, later}
+use Rattle.iscsi_session.specs.private.Deeds.{FitsWait}
+use Rattle.iscsi_session.proofs.ManageLemmas.{Waits, waits_more}
 use Rattle.iscsi_session.proofs.SoundLemmas.{functions_sound}
 use Rattle.iscsi_session.specs.contracts.session.Session.{the_view}
 use Rattle.iscsi_session.proofs.session.Session.wait.Goals as goal
 use Rattle.iscsi_session.proofs.session.Session.wait.Goals.{After-exp}
 use Rattle.iscsi_history.proofs.NumberLemmas.{ahead_by}
 
-waits_later : (c : After-exp) → Later (the_view c.self.inside) c.args.request
-waits_later c = rw (← c.self.view_is) at (later c.args.self.now c.args.request c.requires.later)
+waits_later : (c : After-exp) → FitsWait (the_view c.self.inside) c.args.request
+waits_later c = rw (← c.self.view_is) at c.requires.later
 
 -- one function more waits
 waits_one : (c : After-exp) (w : Waiting) → w.request ≡ c.args.request → Waits c.self.inside.connections.conns c.self.inside.waiting.items w

@@ -2,7 +2,7 @@ use Rattle.std.proofs.Common.{◌≡◌, ◌≤◌, ◌+◌, ◌==◌, ◌++◌,
 use Rattle.std.proofs.lemmas.List.Sums.{sum_by-append, count_by-le-length}
 use Rattle.iscsi_wire.specs.Fields.{connection_of}
 use Rattle.iscsi_session.specs.declared.session.waiting.Waiting.{Waiting}
-use Rattle.iscsi_session.specs.private.Turning.{waiting_in}
+use Rattle.iscsi_session.specs.private.Steps.{waiting_in}
 use Rattle.iscsi_session.proofs.session.waiting.Waitlist.count_on.Goals as goal
 
 -- the functions of a connection, of both parts
