@@ -1,7 +1,6 @@
 pub mod Ascending
 pub mod Agreement
 pub mod ItemLemmas
-pub mod Tables
 pub mod MarkLemmas
 pub mod AllowedLemmas
 pub mod RunLemmas

@@ -23,7 +23,6 @@ use Rattle.iscsi_machine.specs.Machine.{Member, State, after_mark}
 use Rattle.iscsi_machine.proofs.Ascending.{filter-same_in, filter-all_in, held_range, is_between}
 use Rattle.iscsi_machine.proofs.Agreement.{Agrees, Allowed, more, mark_agrees}
 use Rattle.iscsi_machine.proofs.ItemLemmas.{commands_same}
-use Rattle.iscsi_machine.proofs.Tables as Tables
 
 module _ (o : Setting) (now : ℕ) (w : Command → Bool) (s : State) (t : Trace) (a : Agrees o now w s t) where
   -- ---- what the rules ask of the history
@@ -87,7 +86,7 @@ module _ (o : Setting) (now : ℕ) (w : Command → Bool) (s : State) (t : Trace
 
   -- ---- what a request does that executes
 
-  facts_same : (b : Arrival) → Tables.facts_of o s b ≡ Deeds.facts_of o t b
+  facts_same : (b : Arrival) → Machine.facts_of o s b ≡ Deeds.facts_of o t b
   facts_same b = alike is_used is_crowded is_full has_commands tagged held is_missing is_open
     where
       made : (used crowded full commands : Bool) (live held : Option ℕ) (missing is_open : Bool) → Facts
@@ -109,7 +108,7 @@ module _ (o : Setting) (now : ℕ) (w : Command → Bool) (s : State) (t : Trace
       is_used : list_any (λ (c : Command). itt c.arrival.request == itt b.request) (Machine.commands s) ≡ Rules.is_tag_live t (itt b.request)
       is_used = ap (list_any (λ (c : Command). itt c.arrival.request == itt b.request)) cs_same
 
-      is_crowded : (is_immediate b.request && nat_le Rules.MOST_IMMEDIATE (Tables.live_immediate (connection_of b.request) s)) ≡ Rules.is_crowded t b.request
+      is_crowded : (is_immediate b.request && nat_le Rules.MOST_IMMEDIATE (Machine.live_immediate (connection_of b.request) s)) ≡ Rules.is_crowded t b.request
       is_crowded = ap (λ cs. is_immediate b.request && nat_le Rules.MOST_IMMEDIATE (count_by (λ (c : Command). is_immediate c.arrival.request && connection_of c.arrival.request == connection_of b.request) cs)) cs_same
 
       is_full : Deeds.of_unit unit false (λ u. nat_le o.depth (length (Machine.live_in u s))) ≡ Deeds.of_unit unit false (λ u. Rules.is_full o t u)
@@ -118,7 +117,7 @@ module _ (o : Setting) (now : ℕ) (w : Command → Bool) (s : State) (t : Trace
       has_commands : Deeds.of_unit unit false (λ u. list_any (λ (c : Command). true) (Machine.live_in u s)) ≡ Deeds.of_unit unit false (λ u. list_any (λ (c : Command). true) (live_in u t))
       has_commands = ap (λ cs. Deeds.of_unit unit false (λ u. list_any (λ (c : Command). true) (filter (λ (c : Command). c.unit == u) cs))) cs_same
 
-      tagged : Deeds.of_unit unit None (λ u. option_map (λ (c : Command). c.ticket) (Tables.live_with_tag s (rtt b.request) u)) ≡ Deeds.of_unit unit None (λ u. option_map (λ (c : Command). c.ticket) (Functions.live_with_tag t (rtt b.request) u))
+      tagged : Deeds.of_unit unit None (λ u. option_map (λ (c : Command). c.ticket) (Machine.live_with_tag s (rtt b.request) u)) ≡ Deeds.of_unit unit None (λ u. option_map (λ (c : Command). c.ticket) (Functions.live_with_tag t (rtt b.request) u))
       tagged = ap (λ cs. Deeds.of_unit unit None (λ u. option_map (λ (c : Command). c.ticket) (first_of (filter (λ (c : Command). itt c.arrival.request == rtt b.request) (filter (λ (c : Command). c.unit == u) cs))))) cs_same
 
       held : Deeds.of_unit unit None (λ u. option_map (λ (h : Arrival). wire h.number) (Machine.held_command o s (rtt b.request) u b.number)) ≡ Deeds.of_unit unit None (λ u. option_map (λ (h : Arrival). wire h.number) (Functions.held_command o t (rtt b.request) u b.number))
@@ -133,7 +132,7 @@ module _ (o : Setting) (now : ℕ) (w : Command → Bool) (s : State) (t : Trace
       is_open = ap (λ v. is_known (cid b.request) o.conns && not v) (closed_same (cid b.request))
 
   -- a number that is voided isn't below ExpCmdSN
-  marks_same : (b : Arrival) (d : Deed) → Befits (Deeds.facts_of o t b) b.request d → Tables.deed_marks o s b d ≡ Deeds.deed_marks o t b d
+  marks_same : (b : Arrival) (d : Deed) → Befits (Deeds.facts_of o t b) b.request d → Machine.deed_marks o s b d ≡ Deeds.deed_marks o t b d
   marks_same b Nothing fits = refl
   marks_same b ToWait fits = refl
   marks_same b (Replies x) fits = refl
@@ -157,10 +156,10 @@ module _ (o : Setting) (now : ℕ) (w : Command → Bool) (s : State) (t : Trace
   marks_same b Ends fits = ap (λ ms. ms ++ Logouts.parting b 0 ++ ClosesSession ∷ []) (taken_out_same (λ conn. true))
 
   pub after_same : (b : Arrival) → Machine.marks_after o s b ≡ Deeds.marks_after o t b
-  after_same b = Tables.says o s b ∙ ap (λ f. Tables.deed_marks o s b (Deeds.deed_of f b.request)) (facts_same b) ∙ marks_same b _ (befits_deed (Deeds.facts_of o t b) b.request)
+  after_same b = ap (λ f. Machine.deed_marks o s b (Deeds.deed_of f b.request)) (facts_same b) ∙ marks_same b _ (befits_deed (Deeds.facts_of o t b) b.request)
 
   pub function_same : (b : Arrival) → Machine.function_marks o s b ≡ Deeds.function_marks o t b
-  function_same b = Tables.says_function o s b ∙ ap (λ f. Tables.deed_marks o s b (Deeds.function_deed f b.request)) (facts_same b) ∙ marks_same b _ (befits_function (Deeds.facts_of o t b) b.request)
+  function_same b = ap (λ f. Machine.deed_marks o s b (Deeds.function_deed f b.request)) (facts_same b) ∙ marks_same b _ (befits_function (Deeds.facts_of o t b) b.request)
 
 module _ (o : Setting) (now : ℕ) (w : Command → Bool) (s : State) (t : Trace) (a : Agrees o now w s t) where
   pub execution_same : (mark : Mark) (b : Arrival) → Allowed o s t mark → Machine.execution o s mark b ≡ Items.execution o t mark b

@@ -1,11 +1,14 @@
 -- The rules of a session as a state machine (RFC 7143, SAM-5): its state, what each event does, and its run. A transition gives
 -- items, and an item is a list of marks in their order, by which the state goes on. At the end of an item commands become enabled.
-use Rattle.std.specs.Prelude.{ℕ, ◌+◌, ◌-◌, ◌==◌, ◌&&◌, ◌||◌, not, Bool, true, false, nat_lt, nat_le, List, [], ◌∷◌, ◌++◌, length, map, Option, Some, None, if◌then◌else◌, filter, count_by}
+use Rattle.std.specs.Prelude.{ℕ, ◌+◌, ◌-◌, ◌==◌, ◌&&◌, ◌||◌, not, Bool, true, false, nat_lt, nat_le, List, [], ◌∷◌, ◌++◌, length, map, Option, Some, None, option_map, if◌then◌else◌, filter, count_by}
 use Rattle.std.specs.List.{list_any, list_all, flat_map, range_with_len}
-use Rattle.iscsi_wire.specs.declared.reply.Reply.TheVariants.{Scsi, Task, Nop, Reject}
+use Rattle.iscsi_wire.specs.declared.reply.Reply.TheVariants.{Scsi}
 use Rattle.iscsi_wire.specs.Serial.{wire, lift, number_of_first}
-use Rattle.iscsi_wire.specs.Fields.{request_of, connection_of, header_of, is_immediate, opcode, function, attr_code, itt, rtt, cid, cmd_sn, ref_cmd_sn}
+use Rattle.iscsi_wire.specs.Fields.{request_of, connection_of, is_immediate, opcode, attr_code, itt, rtt, cid, cmd_sn, ref_cmd_sn}
 use Rattle.iscsi_tasks.specs.Rules.{is_free}
+use Rattle.iscsi_history.specs.declared.deed.Answer.TheVariants.{Reject, Respond}
+use Rattle.iscsi_history.specs.declared.deed.Deed.{Deed}
+use Rattle.iscsi_history.specs.declared.deed.Deed.TheVariants.{Nothing, Wait as ToWait, Reply as Replies, Enter as EnterUnit, Void as VoidNumber, Empty as EmptyNumber, Abort, AbortEarlier, AbortAll, CloseConn as Closes, CloseSession as Ends}
 use Rattle.iscsi_history.specs.declared.effect.Effect.{Effect}
 use Rattle.iscsi_history.specs.declared.effect.Effect.TheVariants.{Deliver, Immediate, Wait, Void, Empty, Enter, Enable, Leave, Send, CloseConn, CloseSession, Ignore}
 use Rattle.iscsi_history.specs.declared.effect.Why.TheVariants.{Outside, Duplicate, Closed, Data, Stale}
@@ -16,9 +19,10 @@ use Rattle.iscsi_history.specs.declared.kind.Kind.{Kind}
 use Rattle.iscsi_history.specs.declared.kind.Kind.TheVariants.{PassedOver, Unknown, Executes as ExecutesKind}
 use Rattle.iscsi_history.specs.rules.Settings.{Setting, is_known}
 use Rattle.iscsi_history.specs.rules.Trace.{Arrival, Command, Mark, Admits, Delivers, Executes, Voids, Empties, Waits, Leaves, Enters, Sends, ClosesConn, ClosesSession, Ignores, first_of, contains, queued_of}
-use Rattle.iscsi_history.specs.rules.Execution.{NO_TAG, MOST_IMMEDIATE, no_unit, attr_of, unit_named, reply_on, rejected, sense_of_status}
+use Rattle.iscsi_history.specs.rules.Execution.{MOST_IMMEDIATE, attr_of, unit_named, reply_of, reply_on, rejected, sense_of_status}
 use Rattle.iscsi_history.specs.rules.Management.{MOST_WAITING, may_wait, refusal_of_function, answer, is_to, is_before}
 use Rattle.iscsi_history.specs.rules.Logout.{parting}
+use Rattle.iscsi_history.specs.rules.Deeds.{Facts, of_unit, if_found, function_deed, deed_of}
 use Rattle.iscsi_history.specs.rules.Agenda.{kind_of}
 use Rattle.iscsi_history.specs.rules.Run.{first_stat_sn}
 
@@ -131,76 +135,38 @@ does o item d =
     let s = after_marks d.state item in
     record { state = moment s; effects = d.effects ++ (flat_map (effects_of_mark d.state) item ++ map (λ (c : Command). Enable c.ticket c.unit) (newly_enabled o s)) }
 
--- ---- a NOP-Out, a Text Request or a SCSI Command
+-- ---- what is found as a request executes. The tables of deeds (Deeds.antt) say by it what the request does
 
-abbrev pub reject : Arrival → ℕ → List Mark
-reject a reason = reply_on a (Reject reason (header_of a.request))
-
--- a SCSI Command to a unit: its connection has too many immediate ones, or the set is full, or it enters. Tickets go up by one
-abbrev pub command_to : Setting → State → Arrival → ℕ → List Mark
-command_to o s a unit =
-    let crowd = count_by (λ c. is_immediate c.arrival.request && connection_of c.arrival.request == connection_of a.request) (commands s) in
-    if is_immediate a.request && nat_le MOST_IMMEDIATE crowd then reject a 6
-    else (if nat_le o.depth (length (live_in unit s)) then reply_on a (Scsi (itt a.request) 0x28 None)
-    else Enters (record { ticket = s.entered + 1; unit = unit; attr = attr_of (attr_code a.request); arrival = a }) ∷ [])
-
-abbrev pub command_marks : Setting → State → Arrival → List Mark
-command_marks o s a =
-    if itt a.request == NO_TAG then reject a 9
-    else (if nat_lt 3 (attr_code a.request) then reject a 9
-    else (if list_any (λ c. itt c.arrival.request == itt a.request) (commands s) then reject a 7
-    else elim (unit_named o.units a.request) [ Some unit ↦ command_to o s a unit | None ↦ reply_on a (Scsi (itt a.request) 0x02 (Some no_unit)) ]))
-
-abbrev pub nop_marks : Arrival → List Mark
-nop_marks a = if itt a.request == NO_TAG then [] else reply_on a (Nop (itt a.request))
-
--- ---- task management
+-- the live command of a unit with this tag
+abbrev pub live_with_tag : State → ℕ → ℕ → Option Command
+live_with_tag s tag unit = first_of (filter (λ c. itt c.arrival.request == tag) (live_in unit s))
 
 -- the lowest SCSI Command with this tag and unit that is held for its turn, of a number below
 abbrev pub held_command : Setting → State → ℕ → ℕ → ℕ → Option Arrival
 held_command o s tag unit below = first_of (filter (λ h. nat_lt h.number below && opcode h.request == 0x01 && itt h.request == tag && is_to o unit h.request) (filter (λ h. nat_le s.exp h.number) s.held))
 
--- an immediate ABORT TASK of a number in the window, below its own: it may not have come yet
-abbrev pub abort_missing : Setting → State → Arrival → ℕ → List Mark
-abort_missing o s a n =
-    if is_immediate a.request && nat_le s.exp n && nat_le n (max_of o s) && nat_lt n a.number
-    then (if contains s.above n then [] else Voids n ∷ []) ++ answer a 0
-    else answer a 1
+-- the live immediate commands of a connection
+abbrev pub live_immediate : ℕ → State → ℕ
+live_immediate conn s = count_by (λ c. is_immediate c.arrival.request && connection_of c.arrival.request == conn) (commands s)
 
--- of a command that is live, or held, or missing
-abbrev pub abort_task : Setting → State → Arrival → ℕ → List Mark
-abort_task o s a unit =
-    elim (first_of (filter (λ c. itt c.arrival.request == rtt a.request) (live_in unit s))) [
-      | Some c ↦ Leaves c ∷ answer a 0
-      | None ↦ elim (held_command o s (rtt a.request) unit a.number) [
-        | Some h ↦ Empties h ∷ answer a 0
-        | None ↦ abort_missing o s a (lift s.exp (ref_cmd_sn a.request))
-      ]
-    ]
+abbrev pub facts_of : Setting → State → Arrival → Facts
+facts_of o s a = record {
+  level = o.level;
+  unit = unit_named o.units a.request;
+  is_used = list_any (λ c. itt c.arrival.request == itt a.request) (commands s);
+  is_crowded = is_immediate a.request && nat_le MOST_IMMEDIATE (live_immediate (connection_of a.request) s);
+  is_full = of_unit (unit_named o.units a.request) false (λ unit. nat_le o.depth (length (live_in unit s)));
+  has_commands = of_unit (unit_named o.units a.request) false (λ unit. list_any (λ c. true) (live_in unit s));
+  live = of_unit (unit_named o.units a.request) None (λ unit. option_map (λ (c : Command). c.ticket) (live_with_tag s (rtt a.request) unit));
+  held = of_unit (unit_named o.units a.request) None (λ unit. option_map (λ (h : Arrival). wire h.number) (held_command o s (rtt a.request) unit a.number));
+  is_missing = let n = lift s.exp (ref_cmd_sn a.request) in is_immediate a.request && nat_le s.exp n && nat_le n (max_of o s) && nat_lt n a.number;
+  is_open = is_known (cid a.request) o.conns && not (is_closed (cid a.request) s);
+}
+
+-- ---- what is done
 
 abbrev pub abort_all : State → Arrival → ℕ → (Command → Bool) → List Mark
 abort_all s a unit covers = map Leaves (filter covers (live_in unit s)) ++ answer a 0
-
-abbrev pub query : Arrival → Bool → List Mark
-query a there = answer a (if there then 7 else 0)
-
--- ABORT TASK, LOGICAL UNIT RESET, QUERY TASK, QUERY TASK SET; ABORT TASK SET and CLEAR TASK SET take out what was before them
-abbrev pub function_to : Setting → State → Arrival → ℕ → List Mark
-function_to o s a unit =
-    if function a.request == 1 then abort_task o s a unit
-    else (if function a.request == 5 then abort_all s a unit (λ c. true)
-    else (if function a.request == 9 then query a (list_any (λ c. itt c.arrival.request == rtt a.request) (live_in unit s))
-    else (if function a.request == 10 then query a (list_any (λ c. true) (live_in unit s))
-    else abort_all s a unit (is_before a))))
-
-abbrev pub function_marks : Setting → State → Arrival → List Mark
-function_marks o s a = elim (unit_named o.units a.request) [ Some unit ↦ function_to o s a unit | None ↦ [] ]
-
--- a function at its turn, or at its arrival where it doesn't wait
-abbrev pub management_marks : Setting → State → Arrival → List Mark
-management_marks o s a = elim (refusal_of_function o a.request) [ Some reply ↦ reply_on a reply | None ↦ function_marks o s a ]
-
--- ---- Logout
 
 -- the commands and the held requests of these connections are taken out, units ascending, oldest and lowest first
 abbrev pub taken_out : Setting → State → (ℕ → Bool) → List Mark
@@ -208,29 +174,32 @@ taken_out o s of_these =
     map Leaves (filter (λ (c : Command). of_these (connection_of c.arrival.request)) (flat_map (λ unit. live_in unit s) (range_with_len 0 o.units)))
     ++ map Empties (filter (λ (a : Arrival). of_these (connection_of a.request)) s.held)
 
--- the session is closed, or a connection, and with the last open one the session
-abbrev pub logout_marks : Setting → State → Arrival → List Mark
-logout_marks o s a =
-    let closing = cid a.request in
-    let is_last = list_all (λ c. (c.0 == closing) || is_closed c.0 s) o.conns in
-    if itt a.request == NO_TAG then reject a 9
-    else (if function a.request == 0 then taken_out o s (λ conn. true) ++ parting a 0 ++ ClosesSession ∷ []
-    else (if function a.request == 1 then (
-    if is_known closing o.conns && not (is_closed closing s)
-    then taken_out o s (λ conn. conn == closing) ++ parting a 0 ++ ClosesConn closing ∷ (if is_last then ClosesSession ∷ [] else [])
-    else parting a 1)
-    else (if function a.request == 2 then parting a 2
-    else reject a 9)))
+-- all others are closed
+abbrev pub is_last_open : Setting → State → ℕ → Bool
+is_last_open o s conn = list_all (λ c. (c.0 == conn) || is_closed c.0 s) o.conns
+
+-- each function and Logout Request that takes something out, or closes something, is answered behind it. Tickets go up by one
+abbrev pub deed_marks : Setting → State → Arrival → Deed → List Mark
+deed_marks o s a Nothing = []
+deed_marks o s a ToWait = []
+deed_marks o s a (Replies x) = reply_on a (reply_of a.request x)
+deed_marks o s a (EnterUnit unit) = Enters (record { ticket = s.entered + 1; unit = unit; attr = attr_of (attr_code a.request); arrival = a }) ∷ []
+deed_marks o s a VoidNumber = let n = lift s.exp (ref_cmd_sn a.request) in (if contains s.above n then [] else Voids n ∷ []) ++ answer a 0
+deed_marks o s a (EmptyNumber unit sn) = if_found Empties (held_command o s (rtt a.request) unit a.number) ++ answer a 0
+deed_marks o s a (Abort unit ticket) = if_found Leaves (live_with_tag s (rtt a.request) unit) ++ answer a 0
+deed_marks o s a (AbortEarlier unit) = abort_all s a unit (is_before a)
+deed_marks o s a (AbortAll unit) = abort_all s a unit (λ c. true)
+deed_marks o s a (Closes closing) = taken_out o s (λ conn. conn == closing) ++ parting a 0 ++ ClosesConn closing ∷ (if is_last_open o s closing then ClosesSession ∷ [] else [])
+deed_marks o s a Ends = taken_out o s (λ conn. true) ++ parting a 0 ++ ClosesSession ∷ []
 
 -- ---- what executes
 
 abbrev pub marks_after : Setting → State → Arrival → List Mark
-marks_after o s a =
-    if opcode a.request == 0x02 then management_marks o s a
-    else (if opcode a.request == 0x06 then logout_marks o s a
-    else (if opcode a.request == 0x00 then nop_marks a
-    else (if opcode a.request == 0x04 then reject a 5
-    else command_marks o s a)))
+marks_after o s a = deed_marks o s a (deed_of (facts_of o s a) a.request)
+
+-- a function that isn't refused
+abbrev pub function_marks : Setting → State → Arrival → List Mark
+function_marks o s a = deed_marks o s a (function_deed (facts_of o s a) a.request)
 
 -- the item of a request that executes, which begins with this mark
 abbrev pub execution : Setting → State → Mark → Arrival → List Mark
@@ -239,9 +208,9 @@ execution o s mark a = mark ∷ marks_after o (after_mark s mark) a
 -- an immediate function over a whole set: it is too far ahead, or executes, or too many wait, or it waits
 abbrev pub waiting_item : Setting → State → Arrival → List Mark
 waiting_item o s a =
-    if nat_lt (max_of o s + 1) a.number then Executes a ∷ reply_on a (Task (itt a.request) 255)
+    if nat_lt (max_of o s + 1) a.number then Executes a ∷ reply_on a (reply_of a.request (Respond 255))
     else (if not (nat_lt s.exp a.number) then execution o s (Executes a) a
-    else (if nat_le MOST_WAITING (count_by (λ b. connection_of b.request == connection_of a.request) s.waiting) then Executes a ∷ reject a 6
+    else (if nat_le MOST_WAITING (count_by (λ b. connection_of b.request == connection_of a.request) s.waiting) then Executes a ∷ reply_on a (reply_of a.request (Reject 6))
     else Waits a ∷ []))
 
 -- an immediate request at its arrival
