@@ -1,5 +1,5 @@
 -- A session that agrees with what has happened agrees after one item more.
-use Rattle.std.proofs.Common.{◌≡◌, ℕ, ◌+◌, ◌-◌, ◌<◌, ◌≤◌, not, true, false, List, [], ◌∷◌, length, nat_lt, refl, sym, ◌∙◌, arith}
+use Rattle.std.proofs.Common.{◌≡◌, ℕ, ◌+◌, ◌-◌, ◌<◌, ◌≤◌, not, true, false, List, [], ◌∷◌, ◌++◌, length, nat_lt, refl, ap, sym, ◌∙◌, arith}
 use Rattle.std.specs.List.{filter_map, list_all}
 use Rattle.std.proofs.lemmas.Bool.{ltb-true}
 use Rattle.iscsi_wire.specs.Serial.{wire}
@@ -10,13 +10,14 @@ use Rattle.iscsi_history.specs.declared.effect.Effect.TheVariants.{Ignore}
 use Rattle.iscsi_history.specs.declared.effect.Why.{Why}
 use Rattle.iscsi_commands.specs.declared.live.Live.{Live}
 use Rattle.iscsi_history.specs.rules.Settings.{Setting, is_known}
-use Rattle.iscsi_history.specs.rules.Trace.{Arrival, Command, Mark, Admits, Ignores, Trace, after_items, has, entered, sent_on, waiting, leaves_ticket, live, is_received}
+use Rattle.iscsi_history.specs.rules.Trace.{Arrival, Command, Mark, Admits, Ignores, Trace, after_items, has, entered, sent_on, waiting, leaves_ticket, live, is_received, received}
 use Rattle.iscsi_history.specs.rules.Execution.{exp_of, max_of, ignored}
 use Rattle.iscsi_history.specs.rules.Run.{effects_of, numbers_of}
 use Rattle.iscsi_session.specs.private.Standing.{Core, CommandsAgree, WindowAgrees, is_regular, is_regular_request, Agrees, Settled}
-use Rattle.iscsi_session.specs.private.Steps.{numbers_by}
+use Rattle.iscsi_session.specs.private.Steps.{Step, Handles, numbers_by}
+use Rattle.iscsi_history.specs.promises.Flow.{HasOneMore}
 use Rattle.iscsi_history.proofs.BoolLemmas.{and_parts}
-use Rattle.iscsi_history.proofs.ListLemmas.{list_all-filter}
+use Rattle.iscsi_history.proofs.ListLemmas.{list_all-filter, is_known-cids}
 use Rattle.iscsi_session.proofs.OpenConns.{open_of-same}
 use Rattle.iscsi_history.proofs.TraceLemmas.{weaker}
 use Rattle.iscsi_history.proofs.DeliveryLemmas.{quiet-ignored}
@@ -33,6 +34,10 @@ use Rattle.iscsi_session.proofs.SetParts.{SetsAgree-untouched}
 
 pub settled_expected : (o : Setting) (s : Core) (t : Trace) → Settled o s t → exp_of o t ≡ number_expected s.window
 settled_expected o s t h = next_expected o s.window t h.agrees.window h.none_due
+
+-- a connection that a session knows is one of the setting's
+pub known_of : (o : Setting) (s : Core) (t : Trace) (cid : ℕ) → Agrees o s t → is_known cid s.conns ≡ true → is_known cid o.conns ≡ true
+known_of o s t cid a known = sym (is_known-cids cid s.conns o.conns a.replies.cids) ∙ known
 
 -- what is regular of a command
 pub record Regular (o : Setting) (c : Command) : Type 0 where
@@ -60,9 +65,17 @@ settled_numbers o s t h = cc (settled_expected o s t h, settled_max o s t h)
 
 -- ---- one step: what is kept, and the effects
 
-pub record Stepped (o : Setting) (s : Core) (t : Trace) (items : List (List Mark)) (effects : List Effect) : Type 0 where
-  pub settled : Settled o s (after_items items t)
-  pub effects_are : effects ≡ effects_of o t items
+pub record Stepped (o : Setting) (x : Step) (t : Trace) (items : List (List Mark)) : Type 0 where
+  pub settled : Settled o x.core (after_items items t)
+  pub effects_are : x.effects ≡ effects_of o t items
+
+-- and what becomes of a session that takes it
+pub handled : (o : Setting) (x : Step) (t : Trace) (items : List (List Mark)) (now : Core) (out out' : List Effect) → Stepped o x t items → HasOneMore (received t) (received (after_items items t)) → now ≡ x.core → out' ≡ out ++ x.effects → Handles o t items HasOneMore now out out'
+handled o x t items now out out' h receives core effects = record { settled = rw core h.settled; effects = effects ∙ ap (λ es. out ++ es) h.effects_are; receives = receives }
+
+-- an event is ignored
+abbrev pub step_ignored : Core → Why → Step
+step_ignored s why = record { core = s; effects = Ignore why ∷ [] }
 
 -- ---- an item by which no command enters or leaves, no reply goes out and nothing closes
 
@@ -83,7 +96,7 @@ Agrees-untouched o s w t item u sends_none closes_none waits a same window = rec
 
 -- ---- an ignored event
 
-pub Stepped-ignored : (o : Setting) (s : Core) (t : Trace) (why : Why) → Settled o s t → Stepped o s t (ignored why) (Ignore why ∷ [])
+pub Stepped-ignored : (o : Setting) (s : Core) (t : Trace) (why : Why) → Settled o s t → Stepped o (step_ignored s why) t (ignored why)
 Stepped-ignored o s t why h =
     let a = h.agrees in
     let item : List Mark = Ignores why ∷ [] in

@@ -16,7 +16,7 @@ use Rattle.iscsi_history.specs.rules.Management.{may_wait}
 use Rattle.iscsi_history.specs.rules.Run.{effects_of_mark, effects_of_item}
 use Rattle.iscsi_session.specs.private.Standing.{open_of, Core, kept, is_regular, task_of, member_of, WindowAgrees, RepliesAgree, CommandsAgree, SetsAgree, arrival_waiting, Agrees}
 use Rattle.iscsi_history.specs.promises.Enabling.{EnabledSoFar}
-use Rattle.iscsi_session.specs.private.Steps.{new_live, new_task, number_by, event_by, started, is_immediate_on, is_crowded_by, is_set_full, count_reply, with_command, entry_effects, with_reply, reply_effects}
+use Rattle.iscsi_session.specs.private.Steps.{count_reply, Step, unchanged, after_effect, is_set_full, is_immediate_on, is_crowded_by, replied, new_live, number_by, event_by, new_task, started, command_entered}
 use Rattle.iscsi_history.proofs.BoolLemmas.{and_both}
 use Rattle.iscsi_session.proofs.OpenConns.{open_of-same}
 use Rattle.iscsi_history.proofs.ListLemmas.{count_by-map, count_by-push}
@@ -67,9 +67,9 @@ pub record Begun (o : Setting) (s : Core) (t : Trace) (m : Mark) (e : Effect) (a
   pub open_is : s.open_conns ≡ open_of o t
   pub shows : effects_of_mark o t m ≡ e ∷ []
 
--- the session that an item leads to, and its effects
-abbrev pub Follows : Setting → Trace → List Mark → Core → List Effect → Type 0
-Follows o t item s es = Agrees o s (item ∷ t) × (es ≡ effects_of_item o t item)
+-- what an item leads to
+abbrev pub Follows : Setting → Trace → List Mark → Step → Type 0
+Follows o t item x = Agrees o x.core (item ∷ t) × (x.effects ≡ effects_of_item o t item)
 
 module _ (o : Setting) (s : Core) (t : Trace) (m : Mark) (e : Effect) (a : Arrival) (b : Begun o s t m e a) where
   pub untouched-begun : (ms : List Mark) → Untouched ms → Untouched (m ∷ ms)
@@ -94,7 +94,7 @@ module _ (o : Setting) (s : Core) (t : Trace) (m : Mark) (e : Effect) (a : Arriv
       }
 
   -- nothing more happens
-  pub nothing_more : Follows o t (m ∷ []) s (e ∷ [])
+  pub nothing_more : Follows o t (m ∷ []) (after_effect e (unchanged s))
   nothing_more =
       let none : Untouched [] = record { enters_none = refl; leaves_no = λ k. refl } in (
         begun-untouched [] s.conns quiet_none none (record { session = refl; conns = λ k. refl }) (RepliesAgree-quiet o s.conns t (m ∷ []) (cc b.sends_no) b.replies) refl,
@@ -102,7 +102,7 @@ module _ (o : Setting) (s : Core) (t : Trace) (m : Mark) (e : Effect) (a : Arriv
       )
 
   -- a reply goes out
-  pub answered : (reply : Reply) → Follows o t (m ∷ reply_on a reply) (with_reply s (connection_of a.request)) (e ∷ reply_effects s (connection_of a.request) reply)
+  pub answered : (reply : Reply) → Follows o t (m ∷ reply_on a reply) (after_effect e (replied s (connection_of a.request) reply))
   answered reply =
       let conn : ℕ = connection_of a.request in
       let sends : List Mark = Sends conn reply ∷ [] in
@@ -113,7 +113,7 @@ module _ (o : Setting) (s : Core) (t : Trace) (m : Mark) (e : Effect) (a : Arriv
 
   -- a command enters
   pub enters_unit : number_by s a.request ≡ a.number → event_by s a.request ≡ cond (is_immediate a.request) a.event 0 → (unit : ℕ) → unit < o.units
-      → Follows o t (m ∷ Enters (next_command ((m ∷ []) ∷ t) a unit) ∷ []) (with_command s a.request unit) (e ∷ entry_effects s a.request unit)
+      → Follows o t (m ∷ Enters (next_command ((m ∷ []) ∷ t) a unit) ∷ []) (after_effect e (command_entered s a.request unit))
   enters_unit number_is event_is unit inside =
       let c : Command = next_command ((m ∷ []) ∷ t) a unit in
       let ms : List Mark = Enters c ∷ [] in

@@ -20,7 +20,7 @@ use Rattle.iscsi_history.specs.rules.Settings.{Setting, is_known}
 use Rattle.iscsi_history.specs.rules.Trace.{Arrival, Command, Mark, Executes, Delivers, Voids, Empties, Waits, Leaves, Trace, admits_at, contains, is_received, held, waiting, waiting_by, waiting_through, live, live_in, sent_on}
 use Rattle.iscsi_history.specs.rules.Agenda.{arrival_of}
 use Rattle.iscsi_history.specs.rules.Items.{execution, waiting_item, immediate_item, item_of, function_item}
-use Rattle.iscsi_history.specs.rules.Run.{effects_of_mark, effects_of_item}
+use Rattle.iscsi_history.specs.rules.Run.{effects_of_mark}
 use Rattle.iscsi_session.specs.private.Standing.{Core, kept, task_of, WindowAgrees, CommandsAgree, arrival_waiting, WaitingAgrees, Agrees, Settled}
 use Rattle.iscsi_session.proofs.OpenConns.{open_of-same}
 use Rattle.iscsi_history.proofs.BoolLemmas.{and_parts}
@@ -51,10 +51,8 @@ use Rattle.iscsi_history.specs.declared.deed.Deed.TheVariants.{Nothing, Wait, Re
 use Rattle.iscsi_history.specs.rules.Execution.{exp_of, max_of, reply_of, unit_named}
 use Rattle.iscsi_history.specs.rules.Management.{may_wait, waiting_on, answer, is_before, live_with_tag, held_command, refusal}
 use Rattle.iscsi_history.specs.rules.Deeds.{function_deed, if_found, deed_marks}
-use Rattle.iscsi_session.specs.private.Functions.{covers_ticket, response_effects}
-use Rattle.iscsi_session.specs.private.Steps.{with_reply, number_by, event_by, waiting_in}
-use Rattle.iscsi_session.specs.private.Deeds.{live_by, facts_by, deed_by, refusal_by, waits_by, arrival_by, Fits, carried, carried_effects}
-use Rattle.iscsi_session.specs.private.Turning.{position_by, next_position, without_waiting, waited_by, with_executed, executed_effects, next_waiting, function_if, function_effects, immediate_as, immediate_effects}
+use Rattle.iscsi_session.specs.private.Steps.{and_then, after_effect, waiting_in, request_answered, number_by, event_by, covers_ticket}
+use Rattle.iscsi_session.specs.private.Deeds.{refusal_by, live_by, facts_by, deed_by, waits_by, arrival_by, Fits, position_by, carried, executed, turn_of, next_waiting, without_waiting, next_position, waited_by, function_taken, immediate_taken}
 use Rattle.iscsi_history.proofs.ApartLemmas.{apart-filter}
 use Rattle.iscsi_history.proofs.CommandItems.{ticket_alone}
 use Rattle.iscsi_history.proofs.DeedTable.{never_waits}
@@ -102,7 +100,7 @@ module _ (o : Setting) (s : Core) (t : Trace) (m : Mark) (e : Effect) (a : Arriv
 
   -- the number of a place is taken out of the window or put into it, and the function is answered
   windowed : (k : ℕ) (x : Mark) → Windowed o s t m → WindowAgrees o (with_place s.window k (Some None)) ((m ∷ x ∷ answer a 0) ∷ t) → IsMute a x
-      → Follows o t (m ∷ x ∷ answer a 0) (with_reply (record s { window = with_place s.window k (Some None) }) (connection_of a.request)) (e ∷ (effects_of_mark o t x ++ response_effects s a.request 0))
+      → Follows o t (m ∷ x ∷ answer a 0) (after_effect e (and_then (record { core = record s { window = with_place s.window k (Some None) }; effects = effects_of_mark o t x }) (λ s'. request_answered s' a.request (Respond 0))))
   windowed k x before window mute =
       let conn : ℕ = connection_of a.request in
       let ms : List Mark = x ∷ answer a 0 in
@@ -128,10 +126,10 @@ module _ (o : Setting) (s : Core) (t : Trace) (m : Mark) (e : Effect) (a : Arriv
   -- ---- what it does
 
   abbrev Does : ℤ → ℕ → Deed → Type 0
-  Does position event d = Follows o t (m ∷ deed_marks o t' a d) (carried s a.request position event d) (e ∷ carried_effects s a.request position event d)
+  Does position event d = Follows o t (m ∷ deed_marks o t' a d) (after_effect e (carried s a.request position event d))
 
   void_number : (position : ℤ) (event : ℕ) → Fits s a.request Void → Found o s t' a → Windowed o s t m → Does position event Void
-  void_number position event fits x before = subst (λ ms. Follows o t (m ∷ ms) (carried s a.request position event Void) (e ∷ carried_effects s a.request position event Void)) (sym marks) (by_known (is_received t n) refl)
+  void_number position event fits x before = subst (λ ms. Follows o t (m ∷ ms) (after_effect e (carried s a.request position event Void))) (sym marks) (by_known (is_received t n) refl)
     where
       marks : deed_marks o t' a Void ≡ cond (is_received t' n) [] (Voids n ∷ []) ++ answer a 0
       marks = ap (λ k. cond (is_received t' (lift k (ref_cmd_sn a.request))) [] (Voids (lift k (ref_cmd_sn a.request)) ∷ []) ++ answer a 0) (x.expected_is (missing_parts s a.request fits).0)
@@ -146,7 +144,7 @@ module _ (o : Setting) (s : Core) (t : Trace) (m : Mark) (e : Effect) (a : Arriv
       v = voided_at o s.window t (ref_cmd_sn a.request) n before.window bounds.0 bounds.1 refl
 
       by_known : (b : Bool) → is_received t n ≡ b
-          → Follows o t (m ∷ (cond (is_received t' n) [] (Voids n ∷ []) ++ answer a 0)) (carried s a.request position event Void) (e ∷ carried_effects s a.request position event Void)
+          → Follows o t (m ∷ (cond (is_received t' n) [] (Voids n ∷ []) ++ answer a 0)) (after_effect e (carried s a.request position event Void))
       by_known true there = rw (v.known there, v.received_is, same, there) (answered o s t m e a b (TaskReply (itt a.request) 0))
       by_known false gone = rw (v.new gone, v.received_is, same, gone, ← wire-lift (number_expected s.window) (ref_cmd_sn a.request))
           (windowed (n - number_expected s.window) (Voids n) before (WindowAgrees-voided o s.window t m n (answer a 0) before.window before.quiet quiet_answer bounds.0 bounds.1 gone) (search))
@@ -156,7 +154,7 @@ module _ (o : Setting) (s : Core) (t : Trace) (m : Mark) (e : Effect) (a : Arriv
     where
       by_found : (y : Option Arrival) (k : Option ℕ) → held_command o t' (rtt a.request) unit a.number ≡ y → find_held s.window (rtt a.request) unit (cmd_sn a.request) ≡ k
           → option_map (λ (h : Arrival). h.number) y ≡ option_map (λ i. number_expected s.window + i) k
-          → Follows o t (m ∷ (if_found Empties y ++ answer a 0)) (carried s a.request position event (Empty unit sn)) (e ∷ carried_effects s a.request position event (Empty unit sn))
+          → Follows o t (m ∷ (if_found Empties y ++ answer a 0)) (after_effect e (carried s a.request position event (Empty unit sn)))
       by_found y None is at same = absurd (let none : None ≡ Some sn = sym (ap (option_map (number_shown s.window)) at) ∙ fits.1 in cc)
       by_found None (Some k) is at same = absurd cc
       by_found (Some h) (Some k) is at same =
@@ -178,7 +176,7 @@ module _ (o : Setting) (s : Core) (t : Trace) (m : Mark) (e : Effect) (a : Arriv
       lives = ap (option_map (λ (l : Live). l.ticket)) (tagged_in-is s t' (rtt a.request) unit here.commands)
 
       by_live : (x : Option Command) → live_with_tag t' (rtt a.request) unit ≡ x
-          → Follows o t (m ∷ (if_found Leaves x ++ answer a 0)) (carried s a.request position event (Abort unit ticket)) (e ∷ carried_effects s a.request position event (Abort unit ticket))
+          → Follows o t (m ∷ (if_found Leaves x ++ answer a 0)) (after_effect e (carried s a.request position event (Abort unit ticket)))
       by_live None is = absurd (let none : None ≡ Some ticket = sym (lives ∙ ap (λ y. option_map (λ (l : Live). l.ticket) (option_map kept y)) is) ∙ fits.1 in cc)
       by_live (Some c) is =
           let ticket_is : c.ticket ≡ ticket = let z : Some c.ticket ≡ Some ticket = sym (lives ∙ ap (λ y. option_map (λ (l : Live). l.ticket) (option_map kept y)) is) ∙ fits.1 in cc in
@@ -224,17 +222,17 @@ position_of o s a first number = rw (number, first)
 
 -- a request of any kind executes
 executes : (o : Setting) (s : Core) (t : Trace) (m : Mark) (e : Effect) (a : Arrival) (event : ℕ) → Begun o s t m e a → number_by s a.request ≡ a.number → event_by s a.request ≡ cond (is_immediate a.request) a.event 0 → event ≡ a.event → Found o s ((m ∷ []) ∷ t) a
-    → (is_of_number (deed_by s a.request) ≡ true → Windowed o s t m) → Follows o t (execution o t m a) (with_executed s a.request event) (e ∷ executed_effects s a.request event)
+    → (is_of_number (deed_by s a.request) ≡ true → Windowed o s t m) → Follows o t (execution o t m a) (after_effect e (executed s a.request event))
 executes o s t m e a event b number_is event_is now x w =
     let d : Deed = deed_by s a.request in
     let done = does o s t m e a b (position_by s a.request) event (position_of o s a b.first number_is) now d (fits_deed s a.request) (meets o s t m e a b number_is event_is x d w) in
     let is : execution o t m a ≡ m ∷ deed_marks o ((m ∷ []) ∷ t) a d = ap (λ d. m ∷ deed_marks o ((m ∷ []) ∷ t) a d) (deed_is o s t m e a b (λ one. x)) in
-    subst (λ item. Follows o t item (with_executed s a.request event) (e ∷ executed_effects s a.request event)) (sym is) done
+    subst (λ item. Follows o t item (after_effect e (executed s a.request event))) (sym is) done
 
 -- ---- at its turn
 
 pub turned-item : (o : Setting) (s : Core) (t : Trace) (r : HeldRequest) → Agrees o s t → at_place s.window 0 ≡ Some (Some r) → (x : Next s.window t r)
-    → Agrees o (with_executed (turned_core s) r.request r.event) (item_of o t x.arrival ∷ t) × (Deliver r.request ∷ executed_effects (turned_core s) r.request r.event ≡ effects_of_item o t (item_of o t x.arrival))
+    → Follows o t (item_of o t x.arrival) (turn_of (turned_core s) (Some r))
 turned-item o s t r h place x =
     let a : Arrival = x.arrival in
     let b = turn-begun o s t r h place x in
@@ -243,7 +241,7 @@ turned-item o s t r h place x =
     let shows = h.window.numbers (number_expected s.window) a (admitted_of_held t (number_expected s.window) a x.held_is) ∙ ap wire (sym number) in
     let next : a.number + 1 ≡ number_expected (turned_window s.window) = omega (arith, number) in
     let never = numbered_deed (turned_core s) a.request a.number (deed_by (turned_core s) a.request) (numbered_held o s t r h x) next shows (fits_deed (turned_core s) a.request) in
-    subst (λ (q : HeldRequest). Follows o t (item_of o t a) (with_executed (turned_core s) q.request q.event) (Deliver q.request ∷ executed_effects (turned_core s) q.request q.event)) x.request_is
+    subst (λ (q : HeldRequest). Follows o t (item_of o t a) (turn_of (turned_core s) (Some q))) x.request_is
     (executes o (turned_core s) t (Delivers a) (Deliver a.request) a a.event b same (event_next o s t r h x) refl (Found-turned o s t r h place x) (λ said. absurd (false≢true (sym never ∙ said))))
 
 -- ---- an immediate request begins to execute
@@ -276,7 +274,7 @@ immediate_begun o s t a waits h immediate known w = record {
 -- ---- once it has waited
 
 pub waited-item : (o : Setting) (s : Core) (t : Trace) (w : Waiting) → Agrees o s t → next_waiting s ≡ Some w
-    → Agrees o (function_if s (Some w)) (function_item o t (arrival_waiting o.first w) ∷ t) × (function_effects s (Some w) ≡ effects_of_item o t (function_item o t (arrival_waiting o.first w)))
+    → Follows o t (function_item o t (arrival_waiting o.first w)) (function_taken s (Some w))
 waited-item o s t w h found =
     let a : Arrival = arrival_waiting o.first w in
     let s' : Core = without_waiting s w in
@@ -296,7 +294,7 @@ waited-item o s t w h found =
     let done = does o s' t (Executes a) (Immediate a.request) a b (next_position s) w.event (rw (number, h.window.first)) refl d (fits_function s' w.request) (whole_meets o s' t a b d (whole_function (facts_by s' w.request) w.request may)) in
     let is : function_item o t a ≡ Executes a ∷ deed_marks o t' a d =
     ap (λ x. Executes a ∷ deed_marks o t' a x) (function_is o s' t (Executes a) (Immediate a.request) a b (λ one. absurd (false≢true (sym (no_abort_task w.request may) ∙ one)))) in
-    subst (λ item. Follows o t item (function_if s (Some w)) (function_effects s (Some w))) (sym is) done
+    subst (λ item. Follows o t item (function_taken s (Some w))) (sym is) done
   where
     whole_meets : (o : Setting) (s : Core) (t : Trace) (a : Arrival) (b : Begun o s t (Executes a) (Immediate a.request) a) (d : Deed) → is_whole d ≡ true → Meets o s t (Executes a) (Immediate a.request) a b d
     whole_meets o s t a b (Enter unit) is = absurd (false≢true is)
@@ -322,7 +320,7 @@ module _ (o : Setting) (s : Core) (index : ℕ) (t : Trace) (r : Request) (h : S
   a = arrival_of o index t r
 
   abbrev Becomes : List Mark → Deed → Type 0
-  Becomes item d = Follows o t item (immediate_as s r d) (immediate_effects s r d)
+  Becomes item d = Follows o t item (immediate_taken s r d)
 
   last : s.taken - 1 ≡ index
   last = omega (arith, taken)
@@ -341,8 +339,7 @@ module _ (o : Setting) (s : Core) (index : ℕ) (t : Trace) (r : Request) (h : S
   becomes_done d fits other =
       let now = h.agrees in
       let number : number_by s r ≡ a.number = rw (immediate, settled_expected o s t h) in
-      let is = immediate_is s r d other in
-      rw (is.0, is.1) (does o s t (Executes a) (Immediate r) a begun (position_by s r) (s.taken - 1) (position_of o s a now.window.first number) last d fits
+      rw (immediate_is s r d other) (does o s t (Executes a) (Immediate r) a begun (position_by s r) (s.taken - 1) (position_of o s a now.window.first number) last d fits
       (meets o s t (Executes a) (Immediate r) a begun number (rw (immediate, last)) found d (λ said. record { window = now.window; quiet = quiet_executes a [] (search) })))
 
   -- it executes
@@ -396,7 +393,7 @@ module _ (o : Setting) (s : Core) (index : ℕ) (t : Trace) (r : Request) (h : S
       by_tests false true true f g k = rw (far, near, many, f, g, k) (becomes_done (Reply (Reject 6)) tt (λ e. cc))
       by_tests false true false f g k = rw (far, near, many, f, g, k) (becomes_waiting may g)
 
-  pub immediate-item : Agrees o (immediate_as s r (arrival_by s r)) (immediate_item o t (arrival_of o index t r) ∷ t) × (immediate_effects s r (arrival_by s r) ≡ effects_of_item o t (immediate_item o t (arrival_of o index t r)))
+  pub immediate-item : Follows o t (immediate_item o t (arrival_of o index t r)) (immediate_taken s r (arrival_by s r))
   immediate-item = by_function (opcode r == 0x02 && may_wait r) refl
     where
       same : refusal o.level (unit_named o.units r) r ≡ refusal_by s r

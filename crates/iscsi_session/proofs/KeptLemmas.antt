@@ -12,7 +12,7 @@ use Rattle.iscsi_tasks.specs.declared.member.Member.{Member}
 use Rattle.iscsi_tasks.specs.Sets.{Members, opened, entered_to, after_moment, given_by}
 use Rattle.iscsi_commands.specs.declared.live.Live.{Live}
 use Rattle.iscsi_session.specs.private.Standing.{Match, are_ascending, are_within, tickets_of, tickets_in}
-use Rattle.iscsi_session.specs.private.Steps.{enabled_of, find_ticket, without_ticket, all_given, as_given, set_without}
+use Rattle.iscsi_session.specs.private.Steps.{find_ticket, without_ticket, as_given, all_given, enabled_of, set_without}
 use Rattle.iscsi_history.proofs.BoolLemmas.{and_parts, and_both}
 use Rattle.iscsi_history.proofs.ListLemmas.{list_all-filter, filter-shorter, filter-map, map-map, filter-swap}
 use Rattle.iscsi_history.proofs.TraceLemmas.{weaker}

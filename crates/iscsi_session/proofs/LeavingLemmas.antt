@@ -1,5 +1,5 @@
 -- Commands of a unit leave together, and the function that took them out is answered.
-use Rattle.std.proofs.Common.{◌≡◌, ℕ, ◌+◌, ◌-◌, ◌<◌, ◌≤◌, ◌==◌, ◌&&◌, not, Bool, true, false, List, [], ◌∷◌, ◌++◌, length, map, filter, count_by, get_or, set, refl, ap, sym, ◌∙◌, arith}
+use Rattle.std.proofs.Common.{◌≡◌, ℕ, ◌+◌, ◌-◌, ◌<◌, ◌≤◌, ◌==◌, ◌&&◌, not, Bool, true, false, List, [], ◌∷◌, ◌++◌, length, map, filter, count_by, get_or, set, refl, ap, sym, ◌∙◌, arith, append_assoc}
 use Rattle.std.proofs.lemmas.Bool.{eqb-true}
 use Rattle.std.proofs.lemmas.List.{get_or-set_same, set-set}
 use Rattle.iscsi_wire.specs.declared.reply.Reply.{Reply}
@@ -17,8 +17,7 @@ use Rattle.iscsi_history.specs.rules.Trace.{Arrival, Command, Mark, Leaves, Trac
 use Rattle.iscsi_history.specs.rules.Execution.{unfinished, reply_on}
 use Rattle.iscsi_history.specs.rules.Run.{effects_of_item}
 use Rattle.iscsi_session.specs.private.Standing.{Core, kept, task_of, member_of, set_of, WindowAgrees, CommandsAgree, Agrees}
-use Rattle.iscsi_session.specs.private.Steps.{set_at, all_given, as_given, enable_effects, is_numbered}
-use Rattle.iscsi_session.specs.private.Functions.{is_gone, staying, set_staying, has_covered, aborted, abort_effects}
+use Rattle.iscsi_session.specs.private.Steps.{set_staying, after_effect, set_at, as_given, all_given, enable_effects, is_numbered, is_gone, staying, has_covered, aborted}
 use Rattle.iscsi_session.proofs.OpenConns.{open_of-same}
 use Rattle.iscsi_history.proofs.BoolLemmas.{and_parts, and_comm, alike, alike_same}
 use Rattle.iscsi_history.proofs.ListLemmas.{list_any-map, count_by-map, list_all-filter, any_filter, any_same, fewer_counted, map_all, filter-map, map-map, none_out}
@@ -34,7 +33,7 @@ use Rattle.iscsi_history.proofs.EnabledItems.{EnabledSoFar-left, newly-one}
 use Rattle.iscsi_session.proofs.CommandParts.{CommandsAgree-left}
 use Rattle.iscsi_session.proofs.SetParts.{SetLeaving, set-changed}
 use Rattle.iscsi_session.proofs.AgreeLemmas.{units_live}
-use Rattle.iscsi_session.proofs.ExecutionLemmas.{Begun}
+use Rattle.iscsi_session.proofs.ExecutionLemmas.{Begun, Follows}
 
 -- ---- the window
 
@@ -168,7 +167,7 @@ module _ (o : Setting) (s : Core) (t : Trace) (m : Mark) (e : Effect) (a : Arriv
   left_is : get_or (set s.sets unit (set_staying covers old)) unit (opened 0) ≡ set_staying covers old
   left_is = get_or-set_same s.sets unit (set_staying covers old) (opened 0) (omega (arith, inside, b.sets.units))
 
-  agrees : Agrees o (aborted s a.request unit covers) (item ∷ t)
+  agrees : Agrees o (aborted s a.request unit covers).core (item ∷ t)
   agrees =
       let fewer = fewer_counted is_numbered (λ l. not (out l.ticket)) s.live in
       let quiet = quiet-leaving gone a reply in
@@ -185,8 +184,8 @@ module _ (o : Setting) (s : Core) (t : Trace) (m : Mark) (e : Effect) (a : Arriv
         open_conns = b.open_is ∙ sym (open_of-same o item t (closes-more m (map Leaves gone ++ reply_on a reply) b.closes_no (leaving-closes gone a reply)));
       }
 
-  effects_are : e ∷ abort_effects s a.request unit covers ≡ effects_of_item o t item
-  effects_are = rw (leaving_shown o t old unit list_is covers, b.replies.stat_sns (connection_of a.request) b.known, left_is, sets.effects, b.shows, leaving-shown o t gone a reply)
+  effects_are : e ∷ (aborted s a.request unit covers).effects ≡ effects_of_item o t item
+  effects_are = rw (leaving_shown o t old unit list_is covers, b.replies.stat_sns (connection_of a.request) b.known, left_is, sets.effects, b.shows, leaving-shown o t gone a reply, append_assoc)
 
-  pub leaving-item : Agrees o (aborted s a.request unit covers) (item ∷ t) × (e ∷ abort_effects s a.request unit covers ≡ effects_of_item o t item)
+  pub leaving-item : Follows o t item (after_effect e (aborted s a.request unit covers))
   leaving-item = (agrees, effects_are)

@@ -14,8 +14,7 @@ use Rattle.iscsi_tasks.specs.Sets.{Members, opened, tasks_in, left_by, with_tick
 use Rattle.iscsi_history.specs.declared.effect.Effect.TheVariants.{Leave}
 use Rattle.iscsi_commands.specs.declared.live.Live.{Live}
 use Rattle.iscsi_session.specs.private.Standing.{Match, are_ascending, tickets_of, tickets_in}
-use Rattle.iscsi_session.specs.private.Steps.{all_given, as_given, is_numbered, find_ticket, without_ticket}
-use Rattle.iscsi_session.specs.private.Functions.{is_gone, staying, set_staying, finished_by, leaves, leave_each, tickets_covered, without_tickets, has_covered, covers_ticket, ungiven, ungiven_in}
+use Rattle.iscsi_session.specs.private.Steps.{set_staying, find_ticket, without_ticket, as_given, all_given, is_numbered, is_gone, staying, finished_by, leaves, tickets_covered, without_tickets, leave_each, covers_ticket, has_covered, ungiven, ungiven_in}
 use Rattle.iscsi_history.proofs.BoolLemmas.{and_both, and_comm, and_parts, and_true, and_false, or_first, or_second}
 use Rattle.iscsi_history.proofs.ListLemmas.{any_filter, any_same, list_any-map, count_by-map, filter-swap, filter-map, map-map, find-found, filter-shorter, filter_every, filter_here, list_all-filter, fewer_counted, none_out}
 use Rattle.iscsi_history.proofs.TraceLemmas.{filter-same, filter-true, weaker}

@@ -19,9 +19,7 @@ use Rattle.iscsi_history.specs.rules.Logout.{live_of_units, is_open, is_last_ope
 use Rattle.iscsi_history.specs.rules.Management.{may_wait}
 use Rattle.iscsi_history.specs.rules.Run.{effects_of_mark, effects_of_item, newly_enabled, stat_sn_of}
 use Rattle.iscsi_session.specs.private.Standing.{Core, Agrees, WindowAgrees, CommandsAgree, SetsAgree, arrival_waiting, open_of, task_of}
-use Rattle.iscsi_session.specs.private.Steps.{set_at, all_given}
-use Rattle.iscsi_session.specs.private.Functions.{set_staying}
-use Rattle.iscsi_session.specs.private.Closing.{is_among_open, units_of, covers_of, all_leaving_effects, left_to, still_open, waiting_then, close_effects, all_enable_effects, logged_out, logout_effects}
+use Rattle.iscsi_session.specs.private.Steps.{set_staying, is_among_open, still_open, after_effect, set_at, units_of, all_given, enable_effects, all_commands_left, covers_of, waiting_then, session_closes, closing_effects, logged_out}
 use Rattle.iscsi_history.proofs.MomentLemmas.{enables}
 use Rattle.iscsi_session.proofs.ReplyParts.{RepliesAgree-sent}
 use Rattle.iscsi_history.proofs.ListLemmas.{list_all-filter, list_all-same, list_any-map, any_filter, any_flat_map, any_in_range, flat_map_in_range, filter-flat_map, map-flat_map, filter-map, filtered_among}
@@ -118,7 +116,7 @@ module _ (o : Setting) (s : Core) (t : Trace) (m : Mark) (e : Effect) (a : Arriv
   conn = connection_of a.request
 
   abbrev left : Core
-  left = left_to s scope
+  left = (all_commands_left s (units_of s) covers).core
 
   k : Keeps s left
   k = left_keeps s (units_of s) covers
@@ -177,7 +175,7 @@ module _ (o : Setting) (s : Core) (t : Trace) (m : Mark) (e : Effect) (a : Arriv
   abbrev leave_of : Command → Effect
   leave_of c = Leave c.ticket c.unit
 
-  leaving : all_leaving_effects s (units_of s) covers ≡ map leave_of cs
+  leaving : (all_commands_left s (units_of s) covers).effects ≡ map leave_of cs
   leaving =
       rw (effects_leaving covers s 0 (length s.sets), b.sets.units, units_are, filter-flat_map, map-flat_map) (flat_map_in_range _ _ 0 o.units
       (λ unit low high. rw (leaving_shown o t (set_at s unit) unit (b.sets.lists unit (omega arith)) covers, covered_are unit)))
@@ -208,7 +206,7 @@ module _ (o : Setting) (s : Core) (t : Trace) (m : Mark) (e : Effect) (a : Arriv
     lists = λ unit inside. rw (get_or-map all_given left.sets unit (opened 0), set_is unit inside) (set_after unit inside).given;
   }
 
-  enabling : all_enable_effects left ≡ enables (newly_enabled o t item)
+  enabling : flat_map (λ unit. enable_effects unit (set_at left unit).list) (units_of left) ≡ enables (newly_enabled o t item)
   enabling =
       rw (units_same, map-flat_map) (flat_map_in_range _ _ 0 o.units (λ unit low high. rw (set_is unit (omega arith)) (set_after unit (omega arith)).effects))
 
@@ -223,7 +221,7 @@ module _ (o : Setting) (s : Core) (t : Trace) (m : Mark) (e : Effect) (a : Arriv
   left_agrees : WindowAgrees o left.window t₁
   left_agrees = rw k.same (WindowAgrees-fewer o s.window t₁ left.window.unfinished k.unfinished before)
 
-  window : WindowAgrees o (logged_out s a.request scope).window (item ∷ t)
+  window : WindowAgrees o (logged_out s a.request scope).core.window (item ∷ t)
   window = WindowAgrees-logged_out o left.window t m scope cs rest left_agrees (quiet-closing o t₁ a scope)
 
   -- ---- the connections
@@ -239,7 +237,7 @@ module _ (o : Setting) (s : Core) (t : Trace) (m : Mark) (e : Effect) (a : Arriv
   last_open closing =
       rw (b.open_is, filter-twice, last_is o t closing o.conns (λ c known. known)) (list_all-same _ _ o.conns (λ d. rw (closed-same d.0 (m ∷ []) t b.closes_no)))
 
-  closes_are : (x : Option ℕ) → close_effects s x ≡ closes_shown o t₁ a x
+  closes_are : (x : Option ℕ) → closing_effects x ++ session_closes (still_open x s.open_conns) ≡ closes_shown o t₁ a x
   closes_are None = rw none_stay
   closes_are (Some closing) = grind (arith, last_open closing)
 
@@ -268,7 +266,7 @@ module _ (o : Setting) (s : Core) (t : Trace) (m : Mark) (e : Effect) (a : Arriv
   abbrev stays : Waiting → Bool
   stays w = not (is_asked scope (connection_of w.request))
 
-  waits : waiting_through marks (waiting_by m (waiting t)) ≡ map (arrival_waiting o.first) (logged_out s a.request scope).waiting
+  waits : waiting_through marks (waiting_by m (waiting t)) ≡ map (arrival_waiting o.first) (logged_out s a.request scope).core.waiting
   waits = rw (b.waiting, append_assoc, left_waits, emptied_waits, k.same) (rest_waits scope)
     where
       rest_waits : (x : Option ℕ) → waiting_through (closing_marks o t₁ a x) (map (arrival_waiting o.first) s.waiting)
@@ -276,12 +274,12 @@ module _ (o : Setting) (s : Core) (t : Trace) (m : Mark) (e : Effect) (a : Arriv
       rest_waits None = rw none_stay
       rest_waits (Some closing) = grind (arith, last_open closing, filter-map (λ (c : Arrival). not (connection_of c.request == closing)) (arrival_waiting o.first) s.waiting)
 
-  still_all : (test : Waiting → Bool) → list_all test s.waiting ≡ true → list_all test (logged_out s a.request scope).waiting ≡ true
+  still_all : (test : Waiting → Bool) → list_all test s.waiting ≡ true → list_all test (logged_out s a.request scope).core.waiting ≡ true
   still_all test h = rw k.same (grind (arith, list_all-filter stays test s.waiting h))
 
   -- ---- the whole
 
-  agrees : Agrees o (logged_out s a.request scope) (item ∷ t)
+  agrees : Agrees o (logged_out s a.request scope).core (item ∷ t)
   agrees = record {
     events = rw k.same b.events;
     window = window;
@@ -295,8 +293,8 @@ module _ (o : Setting) (s : Core) (t : Trace) (m : Mark) (e : Effect) (a : Arriv
     open_conns = rw (k.same, b.open_is, open_after) (stays_open scope);
   }
 
-  shown : e ∷ logout_effects s a.request scope ≡ effects_of_item o t item
-  shown = simp (leaving, emptied_from-is o s.window t₁ scope before, b.replies.stat_sns conn b.known, closes_are scope, enabling, b.shows, append_assoc, left_shown, emptied_shown, closing_shown o t₁ a t scope)
+  shown : e ∷ (logged_out s a.request scope).effects ≡ effects_of_item o t item
+  shown = rw k.same (simp (leaving, emptied_from-is o s.window t₁ scope before, b.replies.stat_sns conn b.known, closes_are scope, enabling, b.shows, append_assoc, left_shown, emptied_shown, closing_shown o t₁ a t scope))
 
 -- ---- what a Logout Request does
 
@@ -304,10 +302,10 @@ module _ (o : Setting) (s : Core) (t : Trace) (m : Mark) (e : Effect) (a : Arriv
   abbrev began : Trace
   began = (m ∷ []) ∷ t
 
-  pub session_ends : Follows o t (m ∷ end_session o began a) (logged_out s a.request None) (e ∷ logout_effects s a.request None)
+  pub session_ends : Follows o t (m ∷ end_session o began a) (after_effect e (logged_out s a.request None))
   session_ends = rw (append_assoc (taken_out o began (λ conn. true)) (parting a 0) (ClosesSession ∷ [])) (agrees o s t m e a b None, shown o s t m e a b None)
 
-  pub conn_closes : (closing : ℕ) → Follows o t (m ∷ close_conn o began a closing) (logged_out s a.request (Some closing)) (e ∷ logout_effects s a.request (Some closing))
+  pub conn_closes : (closing : ℕ) → Follows o t (m ∷ close_conn o began a closing) (after_effect e (logged_out s a.request (Some closing)))
   conn_closes closing =
       rw (append_assoc (taken_out o began (λ conn. conn == closing)) (parting a 0) (ClosesConn closing ∷ cond (is_last_open o began closing) (ClosesSession ∷ []) []))
       (agrees o s t m e a b (Some closing), shown o s t m e a b (Some closing))

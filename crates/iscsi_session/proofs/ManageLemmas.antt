@@ -15,8 +15,7 @@ use Rattle.iscsi_tasks.specs.Sets.{Members, opened, entered_to, looked_at, given
 use Rattle.iscsi_session.specs.declared.session.waiting.Waiting.{Waiting}
 use Rattle.iscsi_history.specs.rules.Settings.{is_known}
 use Rattle.iscsi_session.specs.private.Standing.{Core}
-use Rattle.iscsi_session.specs.private.Steps.{new_live, set_at, set_entered, new_task, with_command, waiting_in}
-use Rattle.iscsi_session.specs.private.Functions.{ungiven, ungiven_in, owed}
+use Rattle.iscsi_session.specs.private.Steps.{set_at, waiting_in, new_live, new_task, set_entered, command_entered, ungiven, ungiven_in, owed}
 use Rattle.iscsi_history.proofs.BoolLemmas.{and_parts}
 use Rattle.iscsi_history.proofs.ListLemmas.{count_by-map, count_by-push, fewer_counted}
 use Rattle.iscsi_history.proofs.SetLemmas.{ungiven_given}
@@ -84,7 +83,7 @@ ungiven_set (x ∷ sets) zero set' d lt = omega arith
 ungiven_set (x ∷ sets) (suc unit) set' d lt = omega (arith, ungiven_set sets unit set' d (omega (arith, lt)))
 
 -- a command that enters may leave, and be enabled before
-pub owed_entered : (s : Core) (r : Request) (unit : ℕ) → unit < length s.sets → owed (with_command s r unit).live (with_command s r unit).sets ≤ owed s.live s.sets + 2
+pub owed_entered : (s : Core) (r : Request) (unit : ℕ) → unit < length s.sets → owed (command_entered s r unit).core.live (command_entered s r unit).core.sets ≤ owed s.live s.sets + 2
 owed_entered s r unit inside =
     let now : Members = given_by (set_entered s r unit) in
     let sets : ungiven_in (set s.sets unit now) + ungiven (set_at s unit) ≡ ungiven_in s.sets + ungiven now = ungiven_set s.sets unit now (opened 0) inside in

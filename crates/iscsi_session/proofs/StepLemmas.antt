@@ -1,5 +1,5 @@
 -- An arrival, a completion, and an event as a whole.
-use Rattle.std.proofs.Common.{◌≡◌, ℕ, ◌+◌, ◌-◌, ◌<◌, ◌≤◌, ◌==◌, ◌&&◌, ◌||◌, not, cond, Bool, true, false, List, [], ◌∷◌, ◌++◌, length, filter, Option, Some, None, option_map, refl, ap, sym, ◌∙◌, arith, nat_lt, nat_le}
+use Rattle.std.proofs.Common.{inl, ◌≡◌, ℕ, ◌+◌, ◌-◌, ◌<◌, ◌≤◌, ◌==◌, ◌&&◌, ◌||◌, not, cond, Bool, true, false, List, [], ◌∷◌, ◌++◌, length, filter, Option, Some, None, option_map, refl, ap, sym, ◌∙◌, arith, nat_lt, nat_le}
 use Rattle.std.specs.List.{list_any}
 use Rattle.std.proofs.lemmas.Bool.{eqb-true, cond_both}
 use Rattle.std.proofs.lemmas.Bool.Decides.{nat_tests}
@@ -12,25 +12,25 @@ use Rattle.iscsi_window.specs.declared.answer.Offer.TheVariants.{Held, Outside a
 use Rattle.iscsi_tasks.specs.declared.member.Member.{Member}
 use Rattle.iscsi_tasks.specs.Sets.{Members, is_enabled_in}
 use Rattle.iscsi_window.specs.Windows.{Arrived, number_expected, room_of, at_place, offer_to}
-use Rattle.iscsi_history.specs.declared.effect.Effect.TheVariants.{Ignore}
 use Rattle.iscsi_history.specs.declared.effect.Why.TheVariants.{Outside, Duplicate, Stale}
 use Rattle.iscsi_history.specs.declared.event.Event.{Event}
 use Rattle.iscsi_history.specs.declared.event.Event.TheVariants.{Arrive, Done}
 use Rattle.iscsi_session.specs.declared.fault.SessionFault.TheVariants.{UnknownConnection, Exhausted}
 use Rattle.iscsi_history.specs.rules.Settings.{Setting, is_known}
-use Rattle.iscsi_history.specs.rules.Trace.{Arrival, Command, Mark, Admits, Trace, first_of, is_received, live, live_in, was_free, is_among}
+use Rattle.iscsi_history.specs.rules.Trace.{Arrival, Command, Mark, Admits, Trace, first_of, is_received, live, live_in, was_free, is_among, received, after_items}
 use Rattle.iscsi_history.specs.rules.Execution.{exp_of, max_of, unfinished, ignored, completion}
 use Rattle.iscsi_history.specs.rules.Agenda.{with_turns, numbered, arrival_of, command_of, items_of, belongs}
 use Rattle.iscsi_history.specs.rules.Items.{agenda}
 use Rattle.iscsi_history.specs.rules.Run.{newly_enabled, effects_of, trace_of}
 use Rattle.iscsi_session.specs.promises.Refusals.{refusal_of}
 use Rattle.iscsi_session.specs.private.Standing.{Core, CommandsAgree, place_of, kept, is_regular, member_of, WindowAgrees, Agrees, Settled, StandsFor}
-use Rattle.iscsi_session.specs.private.Steps.{set_at, set_left, finished, with_offered, comes_on, refusal_by, find_ticket, without_ticket, enabled_of, find_enabled, without_command, leave_effects, after_completion, completion_effects, counted}
+use Rattle.iscsi_session.specs.private.Steps.{find_ticket, without_ticket, comes_on, refusal_by, set_at, with_offered, enabled_of, enabled_in, set_without, finished, command_completed, completed}
 use Rattle.iscsi_session.proofs.OpenConns.{open_of-same}
 use Rattle.iscsi_history.proofs.BoolLemmas.{and_both, or_false}
 use Rattle.iscsi_history.proofs.ListLemmas.{list_any-map, is_known-cids, first_itself}
 use Rattle.iscsi_history.proofs.ApartLemmas.{eq_sym, count-without, one_unit}
 use Rattle.iscsi_history.proofs.TraceLemmas.{all_among}
+use Rattle.iscsi_history.specs.promises.Flow.{HasOneMore}
 use Rattle.iscsi_session.proofs.WindowParts.{WindowAgrees-quiet, WindowAgrees-finished, with_held}
 use Rattle.iscsi_session.proofs.ReplyParts.{RepliesAgree-sent}
 use Rattle.iscsi_history.proofs.MomentLemmas.{enables}
@@ -40,7 +40,7 @@ use Rattle.iscsi_history.proofs.NumberLemmas.{wire-lift}
 use Rattle.iscsi_history.proofs.CommandItems.{LeavesSome, live-left, first_passing, none_passing, untouched-admits, among_unit, completion_item, first_passes, quiet-completion}
 use Rattle.iscsi_history.proofs.EnabledItems.{EnabledSoFar-left}
 use Rattle.iscsi_session.proofs.SetParts.{SetsAgree-left, left_by-one}
-use Rattle.iscsi_session.proofs.AgreeLemmas.{Regular, regular_parts, regular_live, units_live, settled_expected, settled_max, Stepped, Stepped-ignored, Agrees-admitted}
+use Rattle.iscsi_session.proofs.AgreeLemmas.{Regular, regular_parts, regular_live, units_live, settled_expected, settled_max, Stepped, Stepped-ignored, step_ignored, Agrees-admitted}
 
 -- ---- a completion
 
@@ -52,7 +52,7 @@ unfinished-left : (w : Arrived) (n : ℕ) (c : Command) → w.unfinished ≡ n +
 unfinished-left w n c h = grind arith
 
 Stepped-completed : (o : Setting) (s : Core) (t : Trace) (c : Command) (ticket status : ℕ) → Settled o s t → first_of (filter (λ d. d.ticket == ticket) (live t)) ≡ Some c
-    → Stepped o (without_command s (kept c)) t (completion_item c status ∷ []) (leave_effects s (kept c) status)
+    → Stepped o (command_completed s (kept c) status) t (completion_item c status ∷ [])
 Stepped-completed o s t c ticket status h found =
     let a = h.agrees in
     let r : Regular o c = regular_parts o c (first_passes (λ d. d.ticket == ticket) (is_regular o) (live t) c (regular_live o s.live s.entered t a.commands) found) in
@@ -64,7 +64,7 @@ Stepped-completed o s t c ticket status h found =
     let here = rw (← is_ticket) at found in
     let among_in : is_among c.ticket (live_in c.unit t) ≡ true = sym (among_unit c.ticket (live_in c.unit t)) ∙ (first_passing (λ d. true) c.ticket (live t) c a.commands.apart here).1 in
     let left_is = left_by-one o s.sets t c.unit c.ticket a.sets r.unit among_in in
-    let set = SetsAgree-left o s.sets t item out c.unit (set_left s (kept c)) a.sets l (one_unit c.ticket (live t) c a.commands.apart here) r.unit (ap (λ (m : Members). m.depth) left_is) (ap (λ (m : Members). m.list) left_is) in
+    let set = SetsAgree-left o s.sets t item out c.unit (set_without (kept c) s.sets) a.sets l (one_unit c.ticket (live t) c a.commands.apart here) r.unit (ap (λ (m : Members). m.depth) left_is) (ap (λ (m : Members). m.list) left_is) in
     let commands : CommandsAgree o (without_ticket c.ticket s.live) s.entered (item ∷ t) = CommandsAgree-left o s.live s.entered t item out a.commands l (live_early o s.live s.entered t c.ticket a.commands among) in
     record {
       settled = record {
@@ -85,28 +85,33 @@ Stepped-completed o s t c ticket status h found =
       effects_are = rw (a.replies.stat_sns (connection_of c.arrival.request) r.known, set.effects, append-nil (enables (newly_enabled o t item)));
     }
 
+-- it receives no number
+pub completion_receives : (status : ℕ) (x : Option Command) (t : Trace) → HasOneMore (received t) (received (after_items (completion status x) t))
+completion_receives status None t = inl (append-nil (received t))
+completion_receives status (Some c) t = inl (append-nil (received t))
+
 -- what a session finds by the ticket
 enabled_in_set : (o : Setting) (s : Core) (t : Trace) (ticket : ℕ) (c : Command) → Agrees o s t → c.unit < o.units → is_enabled_in ticket (set_at s c.unit).list ≡ list_any (λ d. d.ticket == ticket && was_free d t) (live_in c.unit t)
 enabled_in_set o s t ticket c a inside = ap (is_enabled_in ticket) (a.sets.lists c.unit inside) ∙ list_any-map (λ (m : Member). m.task.ticket == ticket && m.enabled) (member_of o t) (live_in c.unit t)
 
 pub Stepped-completion : (o : Setting) (s : Core) (t : Trace) (event ticket status : ℕ) → Settled o s t
-    → Stepped o (after_completion s ticket) t (items_of o event t (Done ticket status)) (completion_effects s ticket status)
+    → Stepped o (completed s ticket status) t (items_of o event t (Done ticket status))
 Stepped-completion o s t event ticket status h = by_ticket (first_of (filter (λ d. d.ticket == ticket) (live t))) refl
   where
-    kept_is : find_enabled s ticket ≡ enabled_of s.sets ticket (option_map kept (first_of (filter (λ d. d.ticket == ticket) (live t))))
+    kept_is : enabled_in s.sets s.live ticket ≡ enabled_of s.sets ticket (option_map kept (first_of (filter (λ d. d.ticket == ticket) (live t))))
     kept_is = ap (enabled_of s.sets ticket) (ap (find_ticket ticket) h.agrees.commands.commands ∙ find_kept ticket (live t))
 
-    by_ticket : (x : Option Command) → first_of (filter (λ d. d.ticket == ticket) (live t)) ≡ x → Stepped o (after_completion s ticket) t (completion status (command_of t ticket)) (completion_effects s ticket status)
-    by_ticket None none = rw (kept_is, none, none_passing (λ d. was_free d t) ticket (live t) none, after_completion, completion_effects) (Stepped-ignored o s t Stale h)
+    by_ticket : (x : Option Command) → first_of (filter (λ d. d.ticket == ticket) (live t)) ≡ x → Stepped o (completed s ticket status) t (completion status (command_of t ticket))
+    by_ticket None none = rw (kept_is, none, none_passing (λ d. was_free d t) ticket (live t) none, completed) (Stepped-ignored o s t Stale h)
     by_ticket (Some c) found = by_test (was_free c t) refl
       where
-        by_test : (b : Bool) → was_free c t ≡ b → Stepped o (after_completion s ticket) t (completion status (command_of t ticket)) (completion_effects s ticket status)
+        by_test : (b : Bool) → was_free c t ≡ b → Stepped o (completed s ticket status) t (completion status (command_of t ticket))
         by_test b is =
             let r : Regular o c = regular_parts o c (first_passes (λ d. d.ticket == ticket) (is_regular o) (live t) c (regular_live o s.live s.entered t h.agrees.commands) found) in
             let one = first_passing (λ d. was_free d t) ticket (live t) c h.agrees.commands.apart found in
-            rw (kept_is, found, enabled_in_set o s t ticket c h.agrees r.unit, one.1, one.0, is, after_completion, completion_effects) (by_free b)
+            rw (kept_is, found, enabled_in_set o s t ticket c h.agrees r.unit, one.1, one.0, is, completed) (by_free b)
           where
-            by_free : (b : Bool) → Stepped o (elim (cond b (Some (kept c)) None) [ Some l ↦ without_command s l | None ↦ s ]) t (completion status (cond b (Some c) None)) (elim (cond b (Some (kept c)) None) [ Some l ↦ leave_effects s l status | None ↦ Ignore Stale ∷ [] ])
+            by_free : (b : Bool) → Stepped o (elim (cond b (Some (kept c)) None) [ Some l ↦ command_completed s l status | None ↦ step_ignored s Stale ]) t (completion status (cond b (Some c) None))
             by_free true = Stepped-completed o s t c ticket status h found
             by_free false = Stepped-ignored o s t Stale h
 
@@ -166,8 +171,8 @@ answered o s t a h number event = by_tests (nat_le (number_expected s.window) a.
     })
 
 pub record Offered (o : Setting) (s : Core) (event : ℕ) (t : Trace) (r : Request) : Type 0 where
-  pub outside : offer_to s.window r ≡ OutsideWindow → Stepped o (with_offered s r) t (numbered o t (arrival_of o event t r)) (Ignore Outside ∷ [])
-  pub known : offer_to s.window r ≡ Known → Stepped o (with_offered s r) t (numbered o t (arrival_of o event t r)) (Ignore Duplicate ∷ [])
+  pub outside : offer_to s.window r ≡ OutsideWindow → Stepped o (step_ignored (with_offered s r) Outside) t (numbered o t (arrival_of o event t r))
+  pub known : offer_to s.window r ≡ Known → Stepped o (step_ignored (with_offered s r) Duplicate) t (numbered o t (arrival_of o event t r))
   pub outside_is : offer_to s.window r ≡ OutsideWindow → numbered o t (arrival_of o event t r) ≡ ignored Outside
   pub known_is : offer_to s.window r ≡ Known → numbered o t (arrival_of o event t r) ≡ ignored Duplicate
   pub taken : offer_to s.window r ≡ Held → Agrees o (with_offered s r) ((Admits (arrival_of o event t r) ∷ []) ∷ t)
@@ -200,7 +205,7 @@ offered o s event t r h not_immediate known taken =
 
 -- ---- an event
 
-pub Settled-counted : (o : Setting) (s : Core) (t : Trace) → Settled o s t → Settled o (counted s) t
+pub Settled-counted : (o : Setting) (s : Core) (t : Trace) → Settled o s t → Settled o (record s { taken = s.taken + 1 }) t
 Settled-counted o s t h = assumption
 
 pub comes_on-same : (o : Setting) (s : Core) (t : Trace) (e : Event) → Agrees o s t → comes_on s.conns e ≡ comes_on o.conns e

@@ -1,10 +1,10 @@
 //! The completion of a command by its unit.
 
-ghost use Rattle.std.specs.Prelude.{ℕ, ◌*◌, ◌≡◌, ◌==◌, ◌&&◌, ◌+◌, ◌<◌, ◌≤◌, true, false, if◌then◌else◌, ◌++◌, length, nat_lt, vec_len, vec_capacity};
+ghost use Rattle.std.specs.Prelude.{ℕ, ◌*◌, ◌≡◌, ◌==◌, ◌&&◌, ◌+◌, ◌<◌, ◌≤◌, true, false, if◌then◌else◌, length, nat_lt, vec_len, vec_capacity};
 ghost use Rattle.std.specs.List.{list_all};
 ghost use Rattle.iscsi_history.specs.rules.Settings.{is_known as known_in};
 ghost use Rattle.iscsi_history.specs.rules.Execution.{sense_of_status};
-ghost use Rattle.iscsi_session.specs.private.Steps.{enabled_in, sets_left, after_completion, completion_effects, counted_on, finished};
+ghost use Rattle.iscsi_session.specs.private.Steps.{counted_on, Takes, enabled_in, sets_left, finished, completed};
 
 use crate::session::sets::CHECK_CONDITION;
 use crate::session::{Session, sets};
@@ -28,10 +28,8 @@ impl Session {
     /// Rules: `completion/stale`, `completion/status`.
     pub(crate) fn complete(&mut self, ticket: u64, status: u8, out: &mut Vec<Effect>)
         requires room { vec_len out.old + 2 * length self.old.live + 1 ≤ vec_capacity out.old }
-        ensures session { self.new ≡ after_completion self.old ticket }
-        ensures effects { out.new.items ≡ out.old.items ++ completion_effects self.old ticket status }
+        ensures done { Takes (completed self.old ticket status) self.new out.old out.new }
         ensures spent { vec_len out.new ≤ vec_len out.old + 2 * length self.old.live + 1 }
-        ensures capacity { vec_capacity out.new ≡ vec_capacity out.old }
     {
         let Some(command) = take_enabled(&mut self.sets, &self.live, ticket) else {
             out.push_reserved(Effect::Ignore { why: Why::Stale });

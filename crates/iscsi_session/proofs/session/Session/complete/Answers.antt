@@ -1,4 +1,4 @@
-use Rattle.std.proofs.Common.{not, cond, ◌≡◌, ◌==◌, ◌&&◌, ◌∙◌, ◌≤◌, ◌<◌, ap, sym, Some, true, arith, length, count_by, ◌+◌, ℕ, List, nat_le, nat_lt, get_or, set, take, drop, ◌++◌, length-set, refl}
+use Rattle.std.proofs.Common.{append_assoc, not, cond, ◌≡◌, ◌==◌, ◌&&◌, ◌∙◌, ◌≤◌, ◌<◌, ap, sym, Some, true, arith, length, count_by, ◌+◌, ℕ, List, nat_le, nat_lt, get_or, set, take, drop, ◌++◌, length-set, refl}
 use Rattle.std.proofs.lemmas.Bool.{ltb-true}
 use Rattle.std.proofs.lemmas.List.{get_or-set_same, set-set}
 use Rattle.std.proofs.lemmas.List.Sums.{count_by-le-length}
@@ -8,7 +8,7 @@ use Rattle.iscsi_slots.specs.Queued.{Queued}
 use Rattle.iscsi_commands.specs.declared.live.Live.{Live}
 use Rattle.iscsi_connections.specs.Connected.{Connected, count_reply}
 use Rattle.iscsi_session.specs.private.Standing.{Core}
-use Rattle.iscsi_session.specs.private.Steps.{is_numbered, finished, find_ticket, enabled_in, find_enabled, without_ticket, set_without, all_given}
+use Rattle.iscsi_session.specs.private.Steps.{find_ticket, without_ticket, all_given, is_numbered, enabled_in, set_without, finished}
 use Rattle.iscsi_history.proofs.BoolLemmas.{and_second}
 use Rattle.iscsi_history.proofs.ListLemmas.{find-passes}
 use Rattle.iscsi_history.proofs.TraceLemmas.{weaker}
@@ -130,16 +130,21 @@ sets_are c left here =
     let returned : c.announce.new.sets ≡ sets_without l old = c.announce.ensures.sets ∙ rw (here, c.deref_mut-2.ensures.value, left) (set-set old l.unit (set_without l old) (all_given (set_without l old))) in
     rw left (written c.self.inside.sets.len c.announce.new.sets (sets_after l old) (ap length returned ∙ length-set old l.unit _ ∙ sym long) (c.self.inside.sets.ok.0 ∙ sym long) ∙ returned)
 
-pub returns-clause-session : goal.returns-clause-session
-returns-clause-session c =
-    let e : In-Some = (goal.at.returns-clause-session c).In-Some in
-    let a : After-announce = (goal.at.returns-clause-session c).After-announce in
+pub returns-clause-done : goal.returns-clause-done
+returns-clause-done c =
+    let e : In-Some = (goal.at.returns-clause-done c).In-Some in
+    let a : After-announce = (goal.at.returns-clause-done c).After-announce in
     let l : Live = c.in-Some.command in
     let f = command e in
-    let found : find_enabled c.args.self.now c.args.ticket ≡ Some l = ap (λ (v : Core). find_enabled v c.args.ticket) (sym c.self.view_is) ∙ found_it e in
-    let sets = sets_are a (left_are e) (here_is (goal.at.returns-clause-session c).After-deref_mut-2 (left_are e) f.inside) in
-    rw (found, lives_are a f.named, sets, c.finish.ensures.window, c.finish.ensures.connections, c.assign_stat_sn-stat_sn.ensures.state)
-    (ap (λ (v : Core). record v { window = finished v.window l; conns = count_reply l.conn v.conns; live = without_ticket l.ticket v.live; sets = sets_without l v.sets }) c.self.view_is)
+    let found : enabled_in c.args.self.now.sets c.args.self.now.live c.args.ticket ≡ Some l = ap (λ (v : Core). enabled_in v.sets v.live c.args.ticket) (sym c.self.view_is) ∙ found_it e in
+    let here = here_is (goal.at.returns-clause-done c).After-deref_mut-2 (left_are e) f.inside in
+    let sets = sets_are a (left_are e) here in
+    rw found (record {
+      core = rw (lives_are a f.named, sets, c.finish.ensures.window, c.finish.ensures.connections, c.assign_stat_sn-stat_sn.ensures.state)
+          (ap (λ (v : Core). record v { window = finished v.window l; conns = count_reply l.conn v.conns; live = without_ticket l.ticket v.live; sets = sets_without l v.sets }) c.self.view_is);
+      effects = c.announce.ensures.effects.items ∙ rw (here, c.push_reserved-3.ensures.items, c.push_reserved-2.ensures.items, append_assoc, append_assoc, c.sense_of.ensures, c.assign_stat_sn-stat_sn.ensures.number, ← c.self.view_is);
+      room = c.announce.ensures.effects.room ∙ c.push_reserved-3.ensures.capacity ∙ c.push_reserved-2.ensures.capacity;
+    })
 
 pub returns-clause-spent : goal.returns-clause-spent
 returns-clause-spent c =

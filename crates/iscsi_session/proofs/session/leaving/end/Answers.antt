@@ -2,7 +2,7 @@ use Rattle.std.proofs.Common.{◌≡◌, ◌∙◌, ◌+◌, ◌-◌, ◌≤◌,
 use Rattle.iscsi_window.specs.Windows.{Arrived, with_unfinished}
 use Rattle.iscsi_commands.specs.declared.live.Live.{Live}
 use Rattle.iscsi_history.specs.rules.Settings.{is_known}
-use Rattle.iscsi_session.specs.private.Steps.{is_numbered, finished, find_ticket, without_ticket}
+use Rattle.iscsi_session.specs.private.Steps.{find_ticket, without_ticket, is_numbered, finished}
 use Rattle.iscsi_history.proofs.ListLemmas.{find-passes}
 use Rattle.iscsi_session.proofs.CountLemmas.{count-left, some_counted, AreCounted-left}
 use Rattle.iscsi_session.proofs.FoundLemmas.{found_ticket}
