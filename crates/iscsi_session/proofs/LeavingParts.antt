@@ -1,10 +1,10 @@
 -- Covered commands of a unit leave: what is left of its set and of the live commands.
-use Rattle.std.proofs.Common.{◌≡◌, ℕ, zero, suc, ◌+◌, ◌<◌, ◌≤◌, ◌==◌, ◌&&◌, ◌||◌, ◌++◌, not, ⊎_elim, cond, Bool, true, false, nat_lt, List, [], ◌∷◌, length, map, filter, count_by, All, take, get_or, set, Option, Some, None, is_some, refl, ap, sym, arith, length-set, ◌∙◌, eq-eqb}
+use Rattle.std.proofs.Common.{◌≡◌, ℕ, zero, suc, ◌+◌, ◌<◌, ◌≤◌, ◌==◌, ◌&&◌, ◌||◌, ◌++◌, not, ⊎_elim, cond, Bool, true, false, nat_lt, List, [], ◌∷◌, length, map, filter, count_by, All, take, get_or, set, Option, Some, None, is_some, refl, ap, sym, arith, ◌∙◌, eq-eqb}
 use Rattle.std.specs.Prelude.{IsSome}
 use Rattle.std.specs.List.{list_any, list_all, AllPairs}
-use Rattle.std.proofs.lemmas.Bool.{cases_Bool, cases_eq, eqb-true, false≢true, ltb-true, ne_eqb}
+use Rattle.std.proofs.lemmas.Bool.{cases_Bool, eqb-true, false≢true, ltb-true, ne_eqb}
 use Rattle.std.proofs.lemmas.Bool.Decides.{nat_tests}
-use Rattle.std.proofs.lemmas.List.{length-map, get_or-set_same, get_or-set_other, get_or_default, get_or-take, length-take-le, take_more, map-append}
+use Rattle.std.proofs.lemmas.List.{length-map, get_or_default, get_or-take, length-take-le, take_more, map-append}
 use Rattle.std.proofs.lemmas.List.Folds.{list_any_none, list_all-map, list_any_more}
 use Rattle.std.proofs.lemmas.List.Sums.{sum_by-cons, AllPass-from_list_all}
 use Rattle.iscsi_window.specs.Windows.{Arrived, with_unfinished}
@@ -23,7 +23,7 @@ use Rattle.iscsi_history.proofs.NewlyLemmas.{filter-twice, both_all}
 use Rattle.iscsi_history.proofs.CountLemmas.{fewer}
 use Rattle.iscsi_history.proofs.SetLemmas.{none_filtered, tickets, gone_each, none_covered, none_found, one_gone, rising, some_covered}
 use Rattle.iscsi_history.proofs.NumberLemmas.{none_above}
-use Rattle.iscsi_session.proofs.KeptLemmas.{ascending-kept}
+use Rattle.iscsi_session.proofs.KeptLemmas.{ascending-kept, match_set}
 
 -- ---- tickets go up along a set
 
@@ -69,15 +69,6 @@ apart_units unit other (x ∷ lives) apart up =
     grind (arith, rest, later, none_above x.ticket (tickets_in unit lives) (later_in x.ticket unit lives ups.0))
 
 -- ---- the sets and the live commands that are left
-
--- one set is another now, and the commands of the other units are as they were
-match_set : (sets : List Members) (lives left : List Live) (unit : ℕ) (new : Members) → unit < length sets → Match sets lives → tickets_of new ≡ tickets_in unit left
-    → ((u : ℕ) → (u == unit) ≡ false → tickets_in u left ≡ tickets_in u lives) → Match (set sets unit new) left
-match_set sets lives left unit new inside m here elsewhere = λ u lt.
-    ⊎_elim
-    (λ (same : u ≡ unit). rw (same, get_or-set_same sets unit new (opened 0) inside) here)
-    (λ other. rw (get_or-set_other sets unit u new (opened 0) other, elsewhere u (let no : (u == unit) ≡ false = grind (arith, nat_tests) in no)) (m u (omega (arith, length-set sets unit new, lt))))
-    (cases_eq u unit)
 
 module _ (sets : List Members) (lives : List Live) (unit : ℕ) (covers : Task → Bool) (inside : unit < length sets) (m : Match sets lives) (up : are_ascending lives ≡ true) where
   abbrev here : Members

@@ -11,9 +11,10 @@ use Rattle.iscsi_history.specs.rules.Deeds.{Facts, function_deed}
 use Rattle.iscsi_history.proofs.DeedTable.{through_function}
 use Rattle.iscsi_session.specs.declared.session.waiting.Waiting.{Waiting}
 use Rattle.iscsi_session.specs.private.Standing.{Core}
-use Rattle.iscsi_session.specs.private.Steps.{KeepsPace}
+use Rattle.iscsi_session.specs.private.Steps.{KeepsPace, set_at, is_numbered, is_gone, covers_ticket, completed}
 use Rattle.iscsi_session.specs.private.Deeds.{facts_by, deed_by, arrival_by, Fits, position_by, executed, turn_taken, without_waiting, next_position, waited_by, function_taken, done_at_once, immediate_taken}
-use Rattle.iscsi_history.proofs.ListLemmas.{filter-shorter}
+use Rattle.iscsi_history.proofs.ListLemmas.{filter-shorter, fewer_counted}
+use Rattle.iscsi_commands.specs.declared.live.Live.{Live}
 use Rattle.iscsi_session.proofs.DeedLemmas.{fits_deed, fits_function, fits_arrival, begins, begins_one, Stays, carried_stays, carried_counted}
 
 pub same_expected : (w w' : Arrived) → w'.first ≡ w.first → w'.turned ≡ w.turned → number_expected w' ≡ number_expected w
@@ -78,6 +79,12 @@ immediate_same s r =
     by_deed : (d : Deed) → Stays 1 s (done_at_once s r d).core → Same s (immediate_taken s r d).core
     by_deed Wait h = record { expected = refl; taken = refl }
     by_deed _ h = record { expected = stays_expected 1 s _ h; taken = h.taken }
+
+-- ---- a completion
+
+pub pace-completed : (s : Core) (x : Option Live) (status : ℕ) → KeepsPace s.window (completed s x status).core.window
+pace-completed s None status = omega arith
+pace-completed s (Some l) status = omega (arith, fewer_counted is_numbered (λ m. not (is_gone (covers_ticket l.ticket) (set_at s l.unit) m.ticket)) s.live)
 
 -- ---- a turn
 

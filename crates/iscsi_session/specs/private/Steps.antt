@@ -13,7 +13,7 @@ use Rattle.iscsi_tasks.specs.declared.task.Task.{Task}
 use Rattle.iscsi_tasks.specs.declared.member.Member.{Member}
 use Rattle.iscsi_tasks.specs.declared.cover.Cover.{Cover}
 use Rattle.iscsi_tasks.specs.declared.cover.Cover.TheVariants.{All as AllOfThem, Conn as OfConn}
-use Rattle.iscsi_tasks.specs.Sets.{Members, tasks_in, opened as opened_set, entered_to, left_by, with_ticket, is_covered, is_enabled_in, is_new, next_in, given_by}
+use Rattle.iscsi_tasks.specs.Sets.{Members, tasks_in, opened as opened_set, entered_to, is_covered, is_enabled_in, is_new, next_in, given_by}
 pub use Rattle.iscsi_tasks.specs.Sets.{set_staying}
 use Rattle.iscsi_commands.specs.declared.live.Live.{Live}
 pub use Rattle.iscsi_commands.specs.Commands.{find_ticket, without_ticket}
@@ -201,7 +201,7 @@ command_entered s r unit = record {
   effects = Enter (s.entered + 1) unit (attr_of (attr_code r)) ∷ enable_effect unit (next_in (set_entered s r unit).list);
 }
 
--- ---- a completion
+-- ---- a command that is enabled
 
 -- the command with this ticket, if it is enabled in the set of its unit
 abbrev pub enabled_of : List Members → ℕ → Option Live → Option Live
@@ -210,34 +210,9 @@ enabled_of sets ticket x = elim x [ Some l ↦ if is_enabled_in ticket (slice_in
 abbrev pub enabled_in : List Members → List Live → ℕ → Option Live
 enabled_in sets live ticket = enabled_of sets ticket (find_ticket ticket live)
 
--- the set of its unit without it
-abbrev pub set_without : Live → List Members → Members
-set_without l sets = let set = slice_index_or sets l.unit (opened_set 0) in left_by set (with_ticket l.ticket (tasks_in set))
-
--- the sets, once a command left that of its unit, if one did
-abbrev pub sets_left : List Members → Option Live → List Members
-sets_left sets None = sets
-sets_left sets (Some l) = slice_set sets l.unit (set_without l sets)
-
 -- a numbered command gives its place back
 abbrev pub finished : Arrived → Live → Arrived
 finished w l = if l.immediate then w else with_unfinished w (w.unfinished - 1)
-
--- this command is completed
-abbrev pub command_completed : Core → Live → ℕ → Step
-command_completed s l status = record {
-  core = record s {
-    window = finished s.window l;
-    conns = count_reply l.conn s.conns;
-    live = without_ticket l.ticket s.live;
-    sets = slice_set s.sets l.unit (all_given (set_without l s.sets));
-  };
-  effects = Leave l.ticket l.unit ∷ Send l.conn (stat_sn_on l.conn s.conns) (Scsi l.itt status (sense_of_status status)) ∷ enable_effects l.unit (set_without l s.sets).list;
-}
-
--- the one with this ticket, if it is enabled
-abbrev pub completed : Core → ℕ → ℕ → Step
-completed s ticket status = elim (enabled_in s.sets s.live ticket) [ Some l ↦ command_completed s l status | None ↦ record { core = s; effects = Ignore Stale ∷ [] } ]
 
 -- ---- commands of a unit leave
 
@@ -288,15 +263,33 @@ leave_each unit tickets = map (λ ticket. Leave ticket unit) tickets
 abbrev pub covers_ticket : ℕ → Task → Bool
 covers_ticket ticket t = t.ticket == ticket
 
+-- this command leaves, if there is one: the sets, and the whole
+abbrev pub sets_left : List Members → Option Live → List Members
+sets_left sets None = sets
+sets_left sets (Some l) = slice_set sets l.unit (set_staying (covers_ticket l.ticket) (slice_index_or sets l.unit (opened_set 0)))
+
+abbrev pub command_left : Core → Option Live → Step
+command_left s None = unchanged s
+command_left s (Some l) = commands_left s l.unit (covers_ticket l.ticket)
+
 -- some command of the set is covered
 abbrev pub has_covered : (Task → Bool) → Members → Bool
 has_covered covers set = list_any (λ m. covers m.task) set.list
+
+-- commands of a unit leave, a reply goes out, and the unit is told
+abbrev pub left_answered : Core → ℕ → (Task → Bool) → ℕ → Reply → Step
+left_answered s unit covers conn reply = and_then (commands_left s unit covers) (λ s'. and_then (replied s' conn reply) (λ s'. unit_told s' unit))
+
+-- this command is completed, or the completion ignored
+abbrev pub completed : Core → Option Live → ℕ → Step
+completed s None status = record { core = s; effects = Ignore Stale ∷ [] }
+completed s (Some l) status = left_answered s l.unit (covers_ticket l.ticket) l.conn (Scsi l.itt status (sense_of_status status))
 
 -- ---- task management
 
 -- commands leave, and the function is answered
 abbrev pub aborted : Core → Request → ℕ → (Task → Bool) → Step
-aborted s r unit covers = and_then (commands_left s unit covers) (λ s'. and_then (request_answered s' r (Respond 0)) (λ s'. unit_told s' unit))
+aborted s r unit covers = left_answered s unit covers (connection_of r) (reply_of r (Respond 0))
 
 -- a number is received without a request, if it wasn't received before
 abbrev pub number_voided : Core → ℕ → Step

@@ -1,6 +1,6 @@
 //! Commands of a unit that leave before they are completed.
 
-ghost use Rattle.std.specs.Prelude.{◌≡◌, ◌+◌, ◌<◌, ◌≤◌, [], ◌∷◌, true, length, count_by, slice_index_or, slice_set, All, IsSome, vec_len, vec_capacity, if◌then◌else◌};
+ghost use Rattle.std.specs.Prelude.{Some, ◌≡◌, ◌+◌, ◌<◌, ◌≤◌, [], ◌∷◌, true, length, count_by, slice_index_or, slice_set, All, IsSome, vec_len, vec_capacity, if◌then◌else◌};
 ghost use Rattle.std.specs.List.{AllPairs};
 ghost use Rattle.iscsi_tasks.specs.Sets.{opened, is_covered};
 ghost use Rattle.iscsi_session.specs.private.Standing.{are_ascending, are_known, tickets_of, tickets_in};
@@ -9,7 +9,7 @@ ghost use Rattle.iscsi_history.specs.declared.effect.Effect.{Effect};
 
 use crate::session::completion::finish;
 use crate::session::{Session, sets};
-use iscsi_commands::LiveCommands;
+use iscsi_commands::{Live, LiveCommands};
 use iscsi_connections::Connections;
 use iscsi_history::Effect;
 use iscsi_tasks::{Cover, LinkedTaskSet};
@@ -177,6 +177,29 @@ fn end(
     ensures capacity { live.new.room ≡ live.old.room }
 {
     let command = live.find(ticket).unwrap();
-    finish(window, connections, &command);
-    live.remove(ticket);
+    end_command(window, connections, live, &command);
+}
+
+/// This live command is over.
+#[inline(always)]
+pub(crate) fn end_command(
+    window: &mut EventWindow,
+    connections: &mut Connections,
+    live: &mut LiveCommands,
+    command: &Live,
+)
+    requires ascending { are_ascending live.old.items ≡ true }
+    requires there { find_ticket command.now.ticket live.old.items ≡ Some command.now }
+    requires numbered { count_by is_numbered live.old.items ≤ window.old.unfinished }
+    requires known { are_known live.old.items connections.old.conns ≡ true }
+    requires counted { AreCounted connections.old.immediate connections.old.conns live.old.items }
+    ensures window { window.new ≡ finished_by window.old live.old.items
+        (without_ticket command.now.ticket live.old.items) }
+    ensures live { live.new.items ≡ without_ticket command.now.ticket live.old.items }
+    ensures connections { connections.new ≡ record connections.old { immediate = connections.new.immediate } }
+    ensures counted { AreCounted connections.new.immediate connections.old.conns live.new.items }
+    ensures capacity { live.new.room ≡ live.old.room }
+{
+    finish(window, connections, command);
+    live.remove(command.ticket);
 }
