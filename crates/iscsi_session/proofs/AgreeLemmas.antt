@@ -11,16 +11,18 @@ use Rattle.iscsi_history.specs.declared.effect.Why.{Why}
 use Rattle.iscsi_commands.specs.declared.live.Live.{Live}
 use Rattle.iscsi_history.specs.rules.Settings.{Setting, is_known}
 use Rattle.iscsi_history.specs.rules.Trace.{Arrival, Command, Mark, Admits, Ignores, Trace, after_items, has, entered, sent_on, waiting, leaves_ticket, live, is_received, received}
-use Rattle.iscsi_history.specs.rules.Execution.{exp_of, max_of, ignored}
+use Rattle.iscsi_history.specs.rules.Execution.{exp_of, max_of, ignored, unfinished}
 use Rattle.iscsi_history.specs.rules.Run.{effects_of, numbers_of}
-use Rattle.iscsi_session.specs.private.Standing.{Core, CommandsAgree, WindowAgrees, is_regular, is_regular_request, Agrees, Settled}
+use Rattle.iscsi_session.specs.private.Standing.{Core, CommandsAgree, SetsAgree, RepliesAgree, WaitingAgrees, WindowAgrees, open_of, is_regular, is_regular_request, Agrees, Settled}
 use Rattle.iscsi_session.specs.private.Steps.{Step, Handles, numbers_by}
 use Rattle.iscsi_history.specs.promises.Flow.{HasOneMore}
+use Rattle.iscsi_history.specs.promises.Enabling.{EnabledSoFar}
+use Rattle.iscsi_session.specs.declared.session.waiting.Waiting.{Waiting}
 use Rattle.iscsi_history.proofs.BoolLemmas.{and_parts}
 use Rattle.iscsi_history.proofs.ListLemmas.{list_all-filter, is_known-cids}
 use Rattle.iscsi_session.proofs.OpenConns.{open_of-same}
 use Rattle.iscsi_history.proofs.TraceLemmas.{weaker}
-use Rattle.iscsi_history.proofs.DeliveryLemmas.{quiet-ignored}
+use Rattle.iscsi_history.proofs.DeliveryLemmas.{IsQuiet, quiet-ignored}
 use Rattle.iscsi_session.proofs.WindowParts.{next_expected, WindowAgrees-quiet, with_held, WindowAgrees-admitted}
 use Rattle.iscsi_history.proofs.ClosingItems.{ClosesNone}
 use Rattle.iscsi_session.proofs.ReplyParts.{RepliesAgree-quiet}
@@ -77,22 +79,40 @@ handled o x t items now out out' h receives core effects = record { settled = rw
 abbrev pub step_ignored : Core → Why → Step
 step_ignored s why = record { core = s; effects = Ignore why ∷ [] }
 
--- ---- an item by which no command enters or leaves, no reply goes out and nothing closes
+-- ---- an item by which no command enters or leaves, and nothing closes
 
-pub Agrees-untouched : (o : Setting) (s : Core) (w : Arrived) (t : Trace) (item : List Mark) → Untouched item → filter_map sent_on item ≡ [] → ClosesNone item → waiting (item ∷ t) ≡ waiting t → Agrees o s t
-    → w.unfinished ≡ s.window.unfinished → WindowAgrees o w (item ∷ t) → Agrees o (record s { window = w }) (item ∷ t)
-Agrees-untouched o s w t item u sends_none closes_none waits a same window = record {
+-- what such an item leaves as it is, beside the window, the connections and what waits
+pub record Lasting (o : Setting) (s : Core) (t : Trace) : Type 0 where
+  pub events : s.events ≡ o.events
+  pub commands : CommandsAgree o s.live s.entered t
+  pub sets : SetsAgree o s.sets t
+  pub unfinished_is : s.window.unfinished ≡ unfinished t
+  pub enabled : EnabledSoFar o t
+  pub level : s.level ≡ o.level
+  pub open_is : s.open_conns ≡ open_of o t
+
+pub lasting : (o : Setting) (s : Core) (t : Trace) → Agrees o s t → Lasting o s t
+lasting o s t a = record { events = a.events; commands = a.commands; sets = a.sets; unfinished_is = a.unfinished; enabled = a.enabled; level = a.level; open_is = a.open_conns }
+
+pub Agrees-untouched : (o : Setting) (s : Core) (t : Trace) (item : List Mark) (w : Arrived) (conns : List (ℕ × ℕ)) (waits : List Waiting) → Untouched item → ClosesNone item → Lasting o s t → w.unfinished ≡ s.window.unfinished
+    → WindowAgrees o w (item ∷ t) → RepliesAgree o conns (item ∷ t) → WaitingAgrees o waits (item ∷ t) → Agrees o (record s { window = w; conns = conns; waiting = waits }) (item ∷ t)
+Agrees-untouched o s t item w conns waits u closes a same window replies waiting = record {
   events = a.events;
   window = window;
-  replies = RepliesAgree-quiet o s.conns t item sends_none a.replies;
+  replies = replies;
   commands = CommandsAgree-untouched o s.live s.entered t item u a.commands;
   sets = SetsAgree-untouched o s.sets t item u a.sets;
-  unfinished = same ∙ a.unfinished ∙ sym (unfinished-untouched item t u);
+  unfinished = same ∙ a.unfinished_is ∙ sym (unfinished-untouched item t u);
   enabled = EnabledSoFar-untouched o item t u a.enabled;
   level = a.level;
-  waiting = record { list = waits ∙ a.waiting.list; may = a.waiting.may; known = a.waiting.known };
-  open_conns = a.open_conns ∙ sym (open_of-same o item t closes_none);
+  waiting = waiting;
+  open_conns = a.open_is ∙ sym (open_of-same o item t closes);
 }
+
+-- nor does it receive or send anything
+pub Agrees-waits : (o : Setting) (s : Core) (t : Trace) (item : List Mark) (waits : List Waiting) → IsQuiet item → Untouched item → ClosesNone item → filter_map sent_on item ≡ [] → Agrees o s t → WaitingAgrees o waits (item ∷ t) → Agrees o (record s { waiting = waits }) (item ∷ t)
+Agrees-waits o s t item waits q u closes sends h w =
+    Agrees-untouched o s t item s.window s.conns waits u closes (lasting o s t h) refl (WindowAgrees-quiet o s.window t item q h.window) (RepliesAgree-quiet o s.conns t item sends h.replies) w
 
 -- ---- an ignored event
 
@@ -103,8 +123,7 @@ Stepped-ignored o s t why h =
     let u : Untouched item = record { enters_none = refl; leaves_no = λ k. refl } in
     record {
       settled = record {
-        agrees = Agrees-untouched o s s.window t item u refl (record { session = refl; conns = λ c. refl }) refl a refl
-            (WindowAgrees-quiet o s.window t item (quiet-ignored why) a.window);
+        agrees = Agrees-waits o s t item s.waiting (quiet-ignored why) u (record { session = refl; conns = λ c. refl }) refl a (record { list = a.waiting.list; may = a.waiting.may; known = a.waiting.known });
         none_due = h.none_due;
       };
       effects_are = cc (newly-untouched o t item u);
@@ -115,5 +134,5 @@ Stepped-ignored o s t why h =
 pub Agrees-admitted : (o : Setting) (s : Core) (t : Trace) (a : Arrival) → Agrees o s t → number_expected s.window ≤ a.number → a.number < number_expected s.window + room_of s.window → is_received t a.number ≡ false → is_regular_request o a.request ≡ true → wire (cmd_sn a.request) ≡ wire a.number
     → Agrees o (record s { window = with_held s.window a }) ((Admits a ∷ []) ∷ t)
 Agrees-admitted o s t a h low high new regular shows =
-    Agrees-untouched o s (with_held s.window a) t (Admits a ∷ []) (untouched-admits a) refl (record { session = refl; conns = λ c. refl }) refl h refl
-    (WindowAgrees-admitted o s.window t a h.window low high new regular shows)
+    Agrees-untouched o s t (Admits a ∷ []) (with_held s.window a) s.conns s.waiting (untouched-admits a) (record { session = refl; conns = λ c. refl }) (lasting o s t h) refl
+    (WindowAgrees-admitted o s.window t a h.window low high new regular shows) (RepliesAgree-quiet o s.conns t (Admits a ∷ []) refl h.replies) (record { list = h.waiting.list; may = h.waiting.may; known = h.waiting.known })

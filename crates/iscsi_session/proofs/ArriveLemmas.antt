@@ -20,24 +20,19 @@ use Rattle.iscsi_history.specs.rules.Agenda.{with_turns, numbered, kind_of, arri
 use Rattle.iscsi_history.specs.rules.Items.{immediate_item, agenda}
 use Rattle.iscsi_history.specs.rules.Run.{effects_of, effects_of_item, stat_sn_of}
 use Rattle.iscsi_session.specs.private.Standing.{Core, Agrees, Settled}
-use Rattle.iscsi_session.specs.private.Steps.{is_among_open, Takes, Handles, HasNoMore, with_offered, replied, request_answered}
+use Rattle.iscsi_session.specs.private.Steps.{count_reply, is_among_open, Takes, Handles, HasNoMore, with_offered, replied, request_answered}
 use Rattle.iscsi_session.specs.private.Deeds.{arrival_by, turn_taken, next_waiting, comes_next, immediate_taken}
 use Rattle.iscsi_history.specs.rules.Logout.{is_open}
-use Rattle.iscsi_session.proofs.OpenConns.{open_of-same}
 use Rattle.iscsi_history.proofs.ListLemmas.{list_any-map, filtered_among, is_none}
 use Rattle.iscsi_history.proofs.DeliveryLemmas.{IsQuiet}
 use Rattle.iscsi_session.proofs.WindowParts.{WindowAgrees-quiet}
 use Rattle.iscsi_session.proofs.ReplyParts.{RepliesAgree-sent}
 use Rattle.iscsi_history.proofs.NewlyLemmas.{Untouched}
-use Rattle.iscsi_session.proofs.CommandParts.{CommandsAgree-untouched}
 use Rattle.iscsi_history.proofs.NewlyLemmas.{newly-untouched}
-use Rattle.iscsi_session.proofs.SetParts.{SetsAgree-untouched}
 use Rattle.iscsi_history.proofs.MomentLemmas.{enables}
-use Rattle.iscsi_history.proofs.EnabledItems.{EnabledSoFar-untouched}
-use Rattle.iscsi_history.proofs.CommandItems.{unfinished-untouched}
 use Rattle.iscsi_history.proofs.ReceivedItems.{immediate_receives_one, ignored_receives}
 use Rattle.iscsi_history.proofs.BoolLemmas.{not_flip}
-use Rattle.iscsi_session.proofs.AgreeLemmas.{settled_expected, Stepped, Stepped-ignored, step_ignored, known_of}
+use Rattle.iscsi_session.proofs.AgreeLemmas.{settled_expected, Stepped, Stepped-ignored, step_ignored, known_of, lasting, Agrees-untouched}
 use Rattle.iscsi_session.specs.declared.session.waiting.Waiting.{Waiting}
 use Rattle.iscsi_session.proofs.WindowLemmas.{held_now, comes_alone, Delivered, delivered}
 use Rattle.iscsi_session.proofs.StepLemmas.{Offered, offered}
@@ -104,18 +99,8 @@ rejected_opcode o s index t r h kind known =
     let q : IsQuiet item = record { receives = refl; admits = λ n. refl; delivers_none = refl; delivers_no = λ n. refl; empties_no = λ n. refl } in
     subst (λ k. Stepped o (replied s conn reply) t (arrival_as o t (arrival_of o index t r) k)) (sym kind) (record {
       settled = record {
-        agrees = record {
-          events = a.events;
-          window = WindowAgrees-quiet o s.window t item q a.window;
-          replies = RepliesAgree-sent o s.conns t item conn refl known a.replies;
-          commands = CommandsAgree-untouched o s.live s.entered t item u a.commands;
-          sets = SetsAgree-untouched o s.sets t item u a.sets;
-          unfinished = a.unfinished ∙ sym (unfinished-untouched item t u);
-          enabled = EnabledSoFar-untouched o item t u a.enabled;
-          level = a.level;
-          waiting = record { list = a.waiting.list; may = a.waiting.may; known = a.waiting.known };
-          open_conns = a.open_conns ∙ sym (open_of-same o item t (record { session = refl; conns = λ c. refl }));
-        };
+        agrees = Agrees-untouched o s t item s.window (count_reply conn s.conns) s.waiting u (record { session = refl; conns = λ c. refl }) (lasting o s t a) refl (WindowAgrees-quiet o s.window t item q a.window) (RepliesAgree-sent o s.conns t item conn refl known a.replies)
+            (record { list = a.waiting.list; may = a.waiting.may; known = a.waiting.known });
         none_due = h.none_due;
       };
       effects_are = ap (λ n. Send conn n reply ∷ []) (a.replies.stat_sns conn known) ∙ sym (ap (λ cs. ((Send conn (stat_sn_of o t conn) reply ∷ []) ++ enables cs) ++ []) (newly-untouched o t item u));

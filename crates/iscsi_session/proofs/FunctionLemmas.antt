@@ -22,7 +22,6 @@ use Rattle.iscsi_history.specs.rules.Agenda.{arrival_of}
 use Rattle.iscsi_history.specs.rules.Items.{execution, waiting_item, immediate_item, item_of, function_item}
 use Rattle.iscsi_history.specs.rules.Run.{effects_of_mark}
 use Rattle.iscsi_session.specs.private.Standing.{Core, kept, task_of, WindowAgrees, CommandsAgree, arrival_waiting, WaitingAgrees, Agrees, Settled}
-use Rattle.iscsi_session.proofs.OpenConns.{open_of-same}
 use Rattle.iscsi_history.proofs.BoolLemmas.{and_parts}
 use Rattle.iscsi_history.proofs.ListLemmas.{count_by-map, list_all-filter, find-passes, find-found, filter-map}
 use Rattle.iscsi_history.proofs.TraceLemmas.{filter-same}
@@ -31,12 +30,9 @@ use Rattle.iscsi_history.proofs.HeldLemmas.{held-number, admitted_of_held}
 use Rattle.iscsi_session.proofs.WindowParts.{Next, turned_window, WindowAgrees-quiet}
 use Rattle.iscsi_history.proofs.NewlyLemmas.{Untouched, live_in-untouched, newly-untouched}
 use Rattle.iscsi_session.proofs.ReplyParts.{RepliesAgree-sent}
-use Rattle.iscsi_session.proofs.SetParts.{SetsAgree-untouched}
-use Rattle.iscsi_session.proofs.AgreeLemmas.{settled_expected, settled_max}
+use Rattle.iscsi_session.proofs.AgreeLemmas.{settled_expected, settled_max, Agrees-untouched, Agrees-waits}
 use Rattle.iscsi_history.proofs.ClosingItems.{ClosesNone, closes-more}
 use Rattle.iscsi_history.proofs.ReceivedItems.{no_abort_task, may_immediate}
-use Rattle.iscsi_history.proofs.EnabledItems.{EnabledSoFar-untouched}
-use Rattle.iscsi_history.proofs.CommandItems.{unfinished-untouched}
 use Rattle.iscsi_history.proofs.NumberLemmas.{position_eq, position_lt, wire-lift}
 use Rattle.iscsi_history.proofs.EmptyingMarks.{quiet_executes}
 use Rattle.iscsi_session.proofs.LeavingLemmas.{covered_in, leaving-item}
@@ -51,16 +47,15 @@ use Rattle.iscsi_history.specs.declared.deed.Deed.TheVariants.{Nothing, Wait, Re
 use Rattle.iscsi_history.specs.rules.Execution.{exp_of, max_of, reply_of, unit_named}
 use Rattle.iscsi_history.specs.rules.Management.{may_wait, waiting_on, answer, is_before, live_with_tag, held_command, refusal}
 use Rattle.iscsi_history.specs.rules.Deeds.{function_deed, if_found, deed_marks}
-use Rattle.iscsi_session.specs.private.Steps.{and_then, after_effect, waiting_in, request_answered, number_by, event_by, covers_ticket}
-use Rattle.iscsi_session.specs.private.Deeds.{refusal_by, live_by, facts_by, deed_by, waits_by, arrival_by, Fits, position_by, carried, executed, turn_of, next_waiting, without_waiting, next_position, waited_by, function_taken, immediate_taken}
+use Rattle.iscsi_session.specs.private.Steps.{count_reply, and_then, after_effect, waiting_in, request_answered, number_by, event_by, covers_ticket}
+use Rattle.iscsi_session.specs.private.Deeds.{refusal_by, live_by, facts_by, deed_by, waits_by, arrival_by, Fits, position_by, carried, executed, turn_of, next_waiting, without_waiting, next_position, function_taken, immediate_taken}
 use Rattle.iscsi_history.proofs.ApartLemmas.{apart-filter}
 use Rattle.iscsi_history.proofs.CommandItems.{ticket_alone}
 use Rattle.iscsi_history.proofs.DeedTable.{never_waits}
-use Rattle.iscsi_session.proofs.CommandParts.{CommandsAgree-untouched}
 use Rattle.iscsi_session.proofs.FindLemmas.{tagged_in-is}
 use Rattle.iscsi_session.proofs.LogoutItem.{session_ends, conn_closes}
 use Rattle.iscsi_session.proofs.ExecutionLemmas.{Begun, Follows, nothing_more, answered, enters_unit, untouched-begun}
-use Rattle.iscsi_session.proofs.AbortParts.{Found, numbered_deed, Found-arrived, Found-turned, Agrees-waits}
+use Rattle.iscsi_session.proofs.AbortParts.{Found, numbered_deed, Found-arrived, Found-turned}
 use Rattle.iscsi_session.proofs.AlikeLemmas.{commands, deed_is, function_is}
 use Rattle.iscsi_session.proofs.DeedLemmas.{fits_deed, fits_function, is_of_number, missing_parts, is_whole, whole_function}
 use Rattle.iscsi_session.proofs.PaceLemmas.{immediate_is}
@@ -108,18 +103,8 @@ module _ (o : Setting) (s : Core) (t : Trace) (m : Mark) (e : Effect) (a : Arriv
       let long : length (set s.window.places k (Some None)) ≡ length s.window.places = length-set s.window.places k (Some None) in
       let u : Untouched item = untouched-begun o s t m e a b ms mute.untouched in
       let admits : (n : ℕ) → filter_map (admits_at n) item ≡ [] = λ n. filter_map-append (admits_at n) (m ∷ []) ms ∙ rw (before.quiet.admits n) (mute.admits n) in (
-        record {
-          events = b.events;
-          window = window;
-          replies = RepliesAgree-sent o s.conns t item conn (rw b.sends_no mute.sends) b.known b.replies;
-          commands = CommandsAgree-untouched o s.live s.entered t item u b.commands;
-          sets = SetsAgree-untouched o s.sets t item u b.sets;
-          unfinished = b.unfinished_is ∙ sym (unfinished-untouched item t u);
-          enabled = EnabledSoFar-untouched o item t u b.enabled;
-          level = b.level;
-          waiting = record { list = mute.waits (waiting_by m (waiting t)) ∙ b.waiting; may = b.may; known = b.waiting_known };
-          open_conns = b.open_is ∙ sym (open_of-same o item t (closes-more m ms b.closes_no mute.closes));
-        },
+        Agrees-untouched o s t item (with_place s.window k (Some None)) (count_reply conn s.conns) s.waiting u (closes-more m ms b.closes_no mute.closes) b.lasts refl window (RepliesAgree-sent o s.conns t item conn (rw b.sends_no mute.sends) b.known b.replies)
+            (record { list = mute.waits (waiting_by m (waiting t)) ∙ b.waits.list; may = b.waits.may; known = b.waits.known }),
         rw (newly-untouched o t item u, append-nil (flat_map (effects_of_mark o t) item), b.shows, b.replies.stat_sns conn b.known),
       )
 
@@ -150,7 +135,7 @@ module _ (o : Setting) (s : Core) (t : Trace) (m : Mark) (e : Effect) (a : Arriv
           (windowed (n - number_expected s.window) (Voids n) before (WindowAgrees-voided o s.window t m n (answer a 0) before.window before.quiet quiet_answer bounds.0 bounds.1 gone) (search))
 
   empty_number : (position : ℤ) (event unit sn : ℕ) → Fits s a.request (Empty unit sn) → Found o s t' a → Windowed o s t m → Does position event (Empty unit sn)
-  empty_number position event unit sn fits x before = by_found (held_command o t' (rtt a.request) unit a.number) (find_held s.window (rtt a.request) unit (cmd_sn a.request)) refl refl (x.held_same unit (omega (arith, fits.0, b.sets.units)))
+  empty_number position event unit sn fits x before = by_found (held_command o t' (rtt a.request) unit a.number) (find_held s.window (rtt a.request) unit (cmd_sn a.request)) refl refl (x.held_same unit (omega (arith, fits.0, b.lasts.sets.units)))
     where
       by_found : (y : Option Arrival) (k : Option ℕ) → held_command o t' (rtt a.request) unit a.number ≡ y → find_held s.window (rtt a.request) unit (cmd_sn a.request) ≡ k
           → option_map (λ (h : Arrival). h.number) y ≡ option_map (λ i. number_expected s.window + i) k
@@ -182,7 +167,7 @@ module _ (o : Setting) (s : Core) (t : Trace) (m : Mark) (e : Effect) (a : Arriv
           let ticket_is : c.ticket ≡ ticket = let z : Some c.ticket ≡ Some ticket = sym (lives ∙ ap (λ y. option_map (λ (l : Live). l.ticket) (option_map kept y)) is) ∙ fits.1 in cc in
           let one = (ticket_alone (λ d. itt d.arrival.request == rtt a.request) (live_in unit t') c (apart-filter (λ d. d.unit == unit) (live t') here.apart) is).0 in
           let gone : covered_in o t unit (covers_ticket ticket) ≡ c ∷ [] = rw (← ticket_is, ← same_live o s t m e a b unit) one in
-          rw gone at (leaving-item o s t m e a b unit (omega (arith, fits.0, b.sets.units)) (covers_ticket ticket))
+          rw gone at (leaving-item o s t m e a b unit (omega (arith, fits.0, b.lasts.sets.units)) (covers_ticket ticket))
 
   -- what is known where a request does this
   abbrev Meets : Deed → Type 0
@@ -195,17 +180,17 @@ module _ (o : Setting) (s : Core) (t : Trace) (m : Mark) (e : Effect) (a : Arriv
   does position event position_is event_is Nothing fits k = nothing_more o s t m e a b
   does position event position_is event_is Wait fits k = nothing_more o s t m e a b
   does position event position_is event_is (Reply x) fits k = answered o s t m e a b (reply_of a.request x)
-  does position event position_is event_is (Enter unit) fits k = enters_unit o s t m e a b k.0 k.1 unit (omega (arith, fits.inside, b.sets.units))
+  does position event position_is event_is (Enter unit) fits k = enters_unit o s t m e a b k.0 k.1 unit (omega (arith, fits.inside, b.lasts.sets.units))
   does position event position_is event_is Void fits k = void_number position event fits k.0 k.1
   does position event position_is event_is (Empty unit sn) fits k = empty_number position event unit sn fits k.0 k.1
   does position event position_is event_is (Abort unit ticket) fits k = abort_one position event unit ticket fits
   does position event position_is event_is (AbortEarlier unit) fits k =
-      let inside : unit < o.units = omega (arith, fits, b.sets.units) in
+      let inside : unit < o.units = omega (arith, fits, b.lasts.sets.units) in
       let before : filter (is_before a) (live_in unit t') ≡ covered_in o t unit (is_covered (Below position event)) =
       rw (position_is, event_is, same_live o s t m e a b unit) (filter-same (is_before a) (λ c. is_covered (Below (pos a.number -ℤ pos (number_of_first o.first)) a.event) (task_of o c)) (live_in unit t) (λ c. sym (covers_before o a c))) in
       rw before (leaving-item o s t m e a b unit inside (is_covered (Below position event)))
   does position event position_is event_is (AbortAll unit) fits k =
-      rw (same_live o s t m e a b unit) (leaving-item o s t m e a b unit (omega (arith, fits, b.sets.units)) (is_covered AllOfThem))
+      rw (same_live o s t m e a b unit) (leaving-item o s t m e a b unit (omega (arith, fits, b.lasts.sets.units)) (is_covered AllOfThem))
   does position event position_is event_is (CloseConn closing) fits k = conn_closes o s t m e a b closing
   does position event position_is event_is CloseSession fits k = session_ends o s t m e a b
 
@@ -249,25 +234,17 @@ turned-item o s t r h place x =
 immediate_begun : (o : Setting) (s : Core) (t : Trace) (a : Arrival) (waits : List Waiting) → Agrees o s t → is_immediate a.request ≡ true → is_known (connection_of a.request) o.conns ≡ true → WaitingAgrees o waits ((Executes a ∷ []) ∷ t)
     → Begun o (record s { waiting = waits }) t (Executes a) (Immediate a.request) a
 immediate_begun o s t a waits h immediate known w = record {
-  events = h.events;
+  lasts = record { events = h.events; commands = h.commands; sets = h.sets; unfinished_is = h.unfinished; enabled = h.enabled; level = h.level; open_is = h.open_conns };
   window = λ ms q. WindowAgrees-quiet o s.window t (Executes a ∷ ms) (quiet_executes a ms q) h.window;
   room = λ no ms q. absurd (false≢true (sym no ∙ immediate));
   replies = h.replies;
-  commands = h.commands;
-  sets = h.sets;
-  unfinished_is = h.unfinished;
-  enabled = h.enabled;
   known = known;
   first = h.window.first;
-  level = h.level;
-  waiting = w.list;
-  may = w.may;
-  waiting_known = w.known;
+  waits = w;
   enters_no = refl;
   leaves_no = λ k. refl;
   sends_no = refl;
   closes_no = record { session = refl; conns = λ c. refl };
-  open_is = h.open_conns;
   shows = refl;
 }
 
@@ -290,7 +267,7 @@ waited-item o s t w h found =
     let turn : w.turn ≡ s.window.turned = eqb-true w.turn s.window.turned (find-found turns s.waiting w found) in
     let number : number_expected s.window ≡ a.number = omega (arith, h.window.first, turn) in
     let t' : Trace = (Executes a ∷ []) ∷ t in
-    let d : Deed = waited_by s w in
+    let d : Deed = function_deed (facts_by s' w.request) w.request in
     let done = does o s' t (Executes a) (Immediate a.request) a b (next_position s) w.event (rw (number, h.window.first)) refl d (fits_function s' w.request) (whole_meets o s' t a b d (whole_function (facts_by s' w.request) w.request may)) in
     let is : function_item o t a ≡ Executes a ∷ deed_marks o t' a d =
     ap (λ x. Executes a ∷ deed_marks o t' a x) (function_is o s' t (Executes a) (Immediate a.request) a b (λ one. absurd (false≢true (sym (no_abort_task w.request may) ∙ one)))) in

@@ -14,7 +14,7 @@ use Rattle.iscsi_tasks.specs.Sets.{Members, opened, tasks_in, left_by, with_tick
 use Rattle.iscsi_history.specs.declared.effect.Effect.TheVariants.{Leave}
 use Rattle.iscsi_commands.specs.declared.live.Live.{Live}
 use Rattle.iscsi_session.specs.private.Standing.{Match, are_ascending, tickets_of, tickets_in}
-use Rattle.iscsi_session.specs.private.Steps.{set_staying, find_ticket, without_ticket, as_given, all_given, is_numbered, is_gone, staying, finished_by, leaves, tickets_covered, without_tickets, leave_each, covers_ticket, has_covered, ungiven, ungiven_in}
+use Rattle.iscsi_session.specs.private.Steps.{set_staying, covered_tickets, find_ticket, without_ticket, as_given, all_given, is_numbered, is_gone, staying, finished_by, leave_each, without_tickets, covers_ticket, has_covered, ungiven, ungiven_in}
 use Rattle.iscsi_history.proofs.BoolLemmas.{and_both, and_comm, and_parts, and_true, and_false, or_first, or_second}
 use Rattle.iscsi_history.proofs.ListLemmas.{any_filter, any_same, list_any-map, count_by-map, filter-swap, filter-map, map-map, find-found, filter-shorter, filter_every, filter_here, list_all-filter, fewer_counted, none_out}
 use Rattle.iscsi_history.proofs.TraceLemmas.{filter-same, filter-true, weaker}
@@ -165,27 +165,24 @@ few_in now unit lives match =
 -- ---- the covered commands of a set, by their tickets
 
 module _ (now : Members) (covers : Task → Bool) where
-  covered_are : tickets_covered covers now ≡ tickets (filter (λ m. covers m.task) now.list)
+  covered_are : covered_tickets covers now.list ≡ tickets (filter (λ m. covers m.task) now.list)
   covered_are = rw (filter-map, map-map)
 
-  gone_are : (k : ℕ) → list_any (λ t. t == k) (tickets_covered covers now) ≡ is_gone covers now k
+  gone_are : (k : ℕ) → list_any (λ t. t == k) (covered_tickets covers now.list) ≡ is_gone covers now k
   gone_are k = rw (covered_are, list_any-map, any_filter) (any_same _ _ now.list (λ m. and_comm (covers m.task) (m.task.ticket == k)))
 
-  pub without_covered : (lives : List Live) → without_tickets (tickets_covered covers now) lives ≡ staying covers now lives
+  pub without_covered : (lives : List Live) → without_tickets (covered_tickets covers now.list) lives ≡ staying covers now lives
   without_covered lives = filter-same _ _ lives (λ l. ap not (gone_are l.ticket))
 
-  pub leave_covered_each : (unit : ℕ) → leave_each unit (tickets_covered covers now) ≡ leaves unit covers now.list
-  leave_covered_each unit = rw (covered_are, map-map)
-
   -- each is among the live ones
-  pub covered_live : (unit : ℕ) (lives : List Live) → tickets_of now ≡ tickets_in unit lives → All (λ t. IsSome (find_ticket t lives)) (tickets_covered covers now)
-  covered_live unit lives match k d l = some_live (get_or (tickets_covered covers now) k d) unit lives (AllPass-from_list_all (is_in unit lives) (tickets_covered covers now) all k d l)
+  pub covered_live : (unit : ℕ) (lives : List Live) → tickets_of now ≡ tickets_in unit lives → All (λ t. IsSome (find_ticket t lives)) (covered_tickets covers now.list)
+  covered_live unit lives match k d l = some_live (get_or (covered_tickets covers now.list) k d) unit lives (AllPass-from_list_all (is_in unit lives) (covered_tickets covers now.list) all k d l)
     where
-      all : list_all (is_in unit lives) (tickets_covered covers now) ≡ true
+      all : list_all (is_in unit lives) (covered_tickets covers now.list) ≡ true
       all = rw (covered_are, list_all-map) (list_all-filter _ _ now.list (sym (list_all-map (is_in unit lives) (λ (m : Member). m.task.ticket) now.list) ∙ rw match (all_in (tickets_in unit lives))))
 
   -- and their tickets go up
-  pub covered_up : rising (tickets now.list) ≡ true → AllPairs (λ (a b : ℕ). a < b) (tickets_covered covers now)
+  pub covered_up : rising (tickets now.list) ≡ true → AllPairs (λ (a b : ℕ). a < b) (covered_tickets covers now.list)
   covered_up up = rw covered_are (pairs_up (tickets (filter (λ m. covers m.task) now.list)) (rising-filter now.list up))
     where
       rising-filter : (ms : List Member) → rising (tickets ms) ≡ true → rising (tickets (filter (λ m. covers m.task) ms)) ≡ true
@@ -229,7 +226,7 @@ one_live k now lives = simp one_gone (by_test (has_covered (covers_ticket k) now
     by_test true = simp and_true
     by_test false = simp (and_false, filter-true)
 
-pub one_leaves : (k unit : ℕ) (ms : List Member) → rising (tickets ms) ≡ true → cond (list_any (λ m. m.task.ticket == k) ms) (Leave k unit ∷ []) [] ≡ leaves unit (covers_ticket k) ms
+pub one_leaves : (k unit : ℕ) (ms : List Member) → rising (tickets ms) ≡ true → cond (list_any (λ m. m.task.ticket == k) ms) (Leave k unit ∷ []) [] ≡ leave_each unit (covered_tickets (covers_ticket k) ms)
 one_leaves k unit [] up = refl
 one_leaves k unit (x ∷ ms) up =
     let parts = and_parts (list_all (λ u. nat_lt x.task.ticket u) (tickets ms)) (rising (tickets ms)) up in

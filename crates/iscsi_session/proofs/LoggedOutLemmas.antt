@@ -1,5 +1,5 @@
 -- What a Logout leaves as it is.
-use Rattle.std.proofs.Common.{◌≡◌, ℕ, ◌≤◌, not, cond, Bool, List, [], ◌∷◌, length, map, count_by, is_some, length-set, Option, refl, ◌∙◌, arith}
+use Rattle.std.proofs.Common.{◌+◌, ◌≡◌, ℕ, ◌≤◌, not, cond, Bool, List, [], ◌∷◌, length, map, count_by, is_some, length-set, Option, refl, ◌∙◌, arith}
 use Rattle.std.proofs.lemmas.List.Sums.{sum_by-cons}
 use Rattle.iscsi_window.specs.declared.held_request.HeldRequest.{HeldRequest}
 use Rattle.iscsi_wire.specs.declared.request.Request.{Request}
@@ -10,6 +10,17 @@ use Rattle.iscsi_session.specs.declared.session.waiting.Waiting.{Waiting}
 use Rattle.iscsi_session.specs.private.Standing.{Core, is_held}
 use Rattle.iscsi_session.specs.private.Steps.{set_staying, set_at, units_of, is_numbered, is_gone, commands_left, all_commands_left, covers_of, emptied_place, logged_out}
 use Rattle.iscsi_history.proofs.ListLemmas.{fewer_counted, filter-shorter, count_by-map}
+
+-- ---- what stays
+
+-- no number turns, no event is counted, no request more is held or waits, and so many commands more are unfinished at the most
+pub record Stays (more : ℕ) (s s' : Core) : Type 0 where
+  pub first : s'.window.first ≡ s.window.first
+  pub turned : s'.window.turned ≡ s.window.turned
+  pub unfinished : s'.window.unfinished ≤ s.window.unfinished + more
+  pub taken : s'.taken ≡ s.taken
+  pub held : count_by is_held s'.window.places ≤ count_by is_held s.window.places
+  pub waiting : length s'.waiting ≤ length s.waiting
 
 -- ---- commands of several units leave
 
@@ -44,15 +55,10 @@ emptied_fewer scope (p ∷ ps) =
 
 -- ---- a Logout
 
--- the numbers are the same, no more is held or waits, and no more is unfinished
+-- what stays, and as many numbers are received
 pub record Parts (s s' : Core) : Type 0 where
-  pub first : s'.window.first ≡ s.window.first
-  pub turned : s'.window.turned ≡ s.window.turned
-  pub unfinished : s'.window.unfinished ≤ s.window.unfinished
-  pub taken : s'.taken ≡ s.taken
-  pub held : count_by is_held s'.window.places ≤ count_by is_held s.window.places
+  pub stays : Stays 0 s s'
   pub counted : count_by is_some s'.window.places ≡ count_by is_some s.window.places
-  pub waiting : length s'.waiting ≤ length s.waiting
 
 pub logged_out_parts : (s : Core) (r : Request) (scope : Option ℕ) → Parts s (logged_out s r scope).core
 logged_out_parts s r scope =

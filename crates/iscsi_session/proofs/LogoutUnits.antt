@@ -6,7 +6,7 @@ use Rattle.std.proofs.lemmas.List.{get_or-set_same, get_or-set_other}
 use Rattle.iscsi_tasks.specs.declared.task.Task.{Task}
 use Rattle.iscsi_tasks.specs.Sets.{opened}
 use Rattle.iscsi_session.specs.private.Standing.{Core}
-use Rattle.iscsi_session.specs.private.Steps.{set_staying, set_at, is_numbered, is_gone, leaves, commands_left, all_commands_left}
+use Rattle.iscsi_session.specs.private.Steps.{set_staying, covered_tickets, set_at, is_numbered, is_gone, leave_each, commands_left, all_commands_left}
 use Rattle.iscsi_history.proofs.TraceLemmas.{filter-same, filter-true}
 use Rattle.iscsi_history.proofs.NewlyLemmas.{filter-twice}
 use Rattle.iscsi_history.proofs.ListLemmas.{any_in_range, flat_map_in_range}
@@ -50,10 +50,10 @@ module _ (covers : Task → Bool) where
 
   -- ---- the effects
 
-  pub effects_leaving : (s : Core) (from n : ℕ) → (all_commands_left s (range_with_len from n) covers).effects ≡ flat_map (λ unit. leaves unit covers (set_at s unit).list) (range_with_len from n)
+  pub effects_leaving : (s : Core) (from n : ℕ) → (all_commands_left s (range_with_len from n) covers).effects ≡ flat_map (λ unit. leave_each unit (covered_tickets covers (set_at s unit).list)) (range_with_len from n)
   effects_leaving s from zero = refl
   effects_leaving s from (suc n) =
-      ap (λ es. leaves from covers (set_at s from).list ++ es)
+      ap (λ es. leave_each from (covered_tickets covers (set_at s from).list) ++ es)
       (effects_leaving (commands_left s from covers).core (from + 1) n ∙ flat_map_in_range _ _ (from + 1) n (λ unit low high. rw (other_set s from unit (omega arith))))
 
   -- ---- the numbered commands

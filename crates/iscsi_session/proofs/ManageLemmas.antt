@@ -15,7 +15,7 @@ use Rattle.iscsi_tasks.specs.Sets.{Members, entered_to, looked_at, given_by}
 use Rattle.iscsi_session.specs.declared.session.waiting.Waiting.{Waiting}
 use Rattle.iscsi_history.specs.rules.Settings.{is_known}
 use Rattle.iscsi_session.specs.private.Standing.{Core}
-use Rattle.iscsi_session.specs.private.Steps.{set_at, waiting_in, new_live, new_task, set_entered, command_entered, ungiven, ungiven_in, owed}
+use Rattle.iscsi_session.specs.private.Steps.{set_at, waiting_in, new_live, new_task, command_entered, ungiven, ungiven_in, owed}
 use Rattle.iscsi_history.proofs.BoolLemmas.{and_parts}
 use Rattle.iscsi_history.proofs.ListLemmas.{count_by-map, count_by-push, fewer_counted}
 use Rattle.iscsi_history.proofs.SetLemmas.{ungiven_given}
@@ -81,6 +81,6 @@ ungiven_entered set task =
 -- a command that enters may leave, and be enabled before
 pub owed_entered : (s : Core) (r : Request) (unit : ℕ) → unit < length s.sets → owed (command_entered s r unit).core.live (command_entered s r unit).core.sets ≤ owed s.live s.sets + 2
 owed_entered s r unit inside =
-    let now : Members = given_by (set_entered s r unit) in
+    let now : Members = given_by (entered_to (set_at s unit) (new_task s r)) in
     let sets : ungiven_in (set s.sets unit now) + ungiven (set_at s unit) ≡ ungiven_in s.sets + ungiven now = ungiven_in-set s.sets unit now inside in
     omega (arith, sets, ungiven_entered (set_at s unit) (new_task s r), length_push s.live (new_live s r unit))

@@ -12,10 +12,11 @@ use Rattle.iscsi_history.proofs.DeedTable.{through_function}
 use Rattle.iscsi_session.specs.declared.session.waiting.Waiting.{Waiting}
 use Rattle.iscsi_session.specs.private.Standing.{Core}
 use Rattle.iscsi_session.specs.private.Steps.{KeepsPace, set_at, is_numbered, is_gone, covers_ticket, completed}
-use Rattle.iscsi_session.specs.private.Deeds.{facts_by, deed_by, arrival_by, Fits, position_by, executed, turn_taken, without_waiting, next_position, waited_by, function_taken, done_at_once, immediate_taken}
+use Rattle.iscsi_session.specs.private.Deeds.{facts_by, deed_by, arrival_by, Fits, position_by, executed, turn_taken, without_waiting, next_position, function_taken, done_at_once, immediate_taken}
 use Rattle.iscsi_history.proofs.ListLemmas.{filter-shorter, fewer_counted}
 use Rattle.iscsi_commands.specs.declared.live.Live.{Live}
-use Rattle.iscsi_session.proofs.DeedLemmas.{fits_deed, fits_function, fits_arrival, begins, begins_one, Stays, carried_stays, carried_counted}
+use Rattle.iscsi_session.proofs.DeedLemmas.{fits_deed, fits_function, fits_arrival, begins, begins_one, carried_stays, carried_counted}
+use Rattle.iscsi_session.proofs.LoggedOutLemmas.{Stays}
 
 pub same_expected : (w w' : Arrived) → w'.first ≡ w.first → w'.turned ≡ w.turned → number_expected w' ≡ number_expected w
 same_expected w w' first turned = cc
@@ -41,7 +42,7 @@ pub function_stays : (s : Core) (x : Option Waiting) → Stays 0 s (function_tak
 function_stays s None = omega arith
 function_stays s (Some w) =
     let s' : Core = without_waiting s w in
-    let h = carried_stays s' w.request (next_position s) w.event (waited_by s w) (fits_function s' w.request) in
+    let h = carried_stays s' w.request (next_position s) w.event (function_deed (facts_by s' w.request) w.request) (fits_function s' w.request) in
     omega (arith, h, begins_function (facts_by s' w.request) w.request, fewer_left w)
   where
     fewer_left : (w : Waiting) → length (without_waiting s w).waiting ≤ length s.waiting

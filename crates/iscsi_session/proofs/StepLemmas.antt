@@ -24,7 +24,6 @@ use Rattle.iscsi_history.specs.rules.Run.{newly_enabled, effects_of, trace_of}
 use Rattle.iscsi_session.specs.promises.Refusals.{refusal_of}
 use Rattle.iscsi_session.specs.private.Standing.{Core, place_of, kept, is_regular, member_of, Agrees, Settled, StandsFor}
 use Rattle.iscsi_session.specs.private.Steps.{find_ticket, comes_on, refusal_by, set_at, with_offered, enabled_of, enabled_in, covers_ticket, left_answered, completed}
-use Rattle.iscsi_session.proofs.OpenConns.{open_of-same}
 use Rattle.iscsi_history.proofs.BoolLemmas.{and_both}
 use Rattle.iscsi_history.proofs.ListLemmas.{list_any-map, is_known-cids}
 use Rattle.iscsi_history.specs.promises.Flow.{HasOneMore}
@@ -39,7 +38,7 @@ use Rattle.iscsi_tasks.specs.declared.task.Task.{Task}
 use Rattle.iscsi_wire.specs.declared.reply.Reply.{Reply}
 use Rattle.iscsi_wire.specs.declared.reply.Reply.TheVariants.{Scsi}
 use Rattle.iscsi_history.proofs.ListLemmas.{filter-swap}
-use Rattle.iscsi_session.proofs.AgreeLemmas.{Regular, regular_parts, regular_live, settled_expected, settled_max, Stepped, Stepped-ignored, step_ignored, Agrees-admitted}
+use Rattle.iscsi_session.proofs.AgreeLemmas.{lasting, Regular, regular_parts, regular_live, settled_expected, settled_max, Stepped, Stepped-ignored, step_ignored, Agrees-admitted}
 
 -- ---- a completion
 
@@ -55,18 +54,11 @@ Stepped-completed o s t c ticket status h found =
     let one = (ticket_alone (λ d. d.ticket == ticket) (live t) c a.commands.apart found).0 in
     let gone : covered_in o t c.unit covers ≡ c ∷ [] = filter-swap (λ (d : Command). d.ticket == c.ticket) (λ (d : Command). d.unit == c.unit) (live t) ∙ rw (one, eq-eqb c.unit c.unit refl) in
     let leaving : Leaving o s t item c.unit covers conn = record {
-      events = a.events;
+      lasts = lasting o s t a;
       window = WindowAgrees-quiet o s.window t item (quiet-completion c status) a.window;
       replies = a.replies;
-      commands = a.commands;
-      sets = a.sets;
-      unfinished_is = a.unfinished;
-      enabled = a.enabled;
-      level = a.level;
-      waiting = a.waiting.list;
-      may = a.waiting.may;
-      waiting_known = a.waiting.known;
-      open_is = a.open_conns ∙ sym (open_of-same o item t (record { session = refl; conns = λ k. refl }));
+      waits = record { list = a.waiting.list; may = a.waiting.may; known = a.waiting.known };
+      closes = record { session = refl; conns = λ k. refl };
       inside = r.unit;
       known = r.known;
       leaves = record { enters_none = refl; some = λ k. sym (gone_tickets o t (set_at s c.unit) c.unit (a.sets.lists c.unit r.unit) covers k ∙ ap (is_among k) gone) };

@@ -37,25 +37,17 @@ turn-begun o s t r h place x =
     let regular = and_parts _ _ (h.window.requests e a (admitted_of_held t e a x.held_is)) in
     let number : a.number ≡ e = held-number t e a x.held_is in
     record {
-      events = h.events;
+      lasts = record { events = h.events; commands = h.commands; sets = h.sets; unfinished_is = h.unfinished; enabled = h.enabled; level = h.level; open_is = h.open_conns };
       window = λ ms q. (WindowAgrees-turned o s.window t r ms h.window place x q).agrees;
       room = λ is ms q. WindowAgrees-turned o s.window t r ms h.window place x q;
       replies = h.replies;
-      commands = h.commands;
-      sets = h.sets;
-      unfinished_is = h.unfinished;
-      enabled = h.enabled;
       known = regular.1;
       first = h.window.first;
-      level = h.level;
-      waiting = h.waiting.list;
-      may = h.waiting.may;
-      waiting_known = h.waiting.known;
+      waits = record { list = h.waiting.list; may = h.waiting.may; known = h.waiting.known };
       enters_no = refl;
       leaves_no = λ k. refl;
       sends_no = refl;
       closes_no = record { session = refl; conns = λ c. refl };
-      open_is = h.open_conns;
       shows = refl;
     }
 

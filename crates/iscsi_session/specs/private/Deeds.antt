@@ -173,14 +173,10 @@ without_waiting s w = record s { waiting = filter (λ v. not (v.event == w.event
 abbrev pub next_position : Core → ℤ
 next_position s = pos (number_expected s.window) -ℤ pos (number_of_first s.window.first)
 
--- what it does
-abbrev pub waited_by : Core → Waiting → Deed
-waited_by s w = function_deed (facts_by (without_waiting s w) w.request) w.request
-
 -- it executes, if there is one
 abbrev pub function_taken : Core → Option Waiting → Step
 function_taken s None = unchanged s
-function_taken s (Some w) = after_effect (Immediate w.request) (carried (without_waiting s w) w.request (next_position s) w.event (waited_by s w))
+function_taken s (Some w) = after_effect (Immediate w.request) (carried (without_waiting s w) w.request (next_position s) w.event (function_deed (facts_by (without_waiting s w) w.request) w.request))
 
 -- ---- an arrival
 
@@ -193,12 +189,9 @@ abbrev pub done_at_once : Core → Request → Deed → Step
 done_at_once s r deed = after_effect (Immediate r) (carried s r (position_by s r) (s.taken - 1) deed)
 
 -- or it waits
-abbrev pub waits_for_turn : Core → Request → Step
-waits_for_turn s r = record {
+abbrev pub immediate_taken : Core → Request → Deed → Step
+immediate_taken s r Wait = record {
   core = record s { waiting = s.waiting ++ record { request = r; turn = lift (number_expected s.window) (cmd_sn r) - number_of_first s.window.first; event = s.taken - 1 } ∷ [] };
   effects = Waits r ∷ [];
 }
-
-abbrev pub immediate_taken : Core → Request → Deed → Step
-immediate_taken s r Wait = waits_for_turn s r
 immediate_taken s r deed = done_at_once s r deed

@@ -13,8 +13,9 @@ use Rattle.iscsi_tasks.specs.declared.task.Task.{Task}
 use Rattle.iscsi_tasks.specs.declared.member.Member.{Member}
 use Rattle.iscsi_tasks.specs.declared.cover.Cover.{Cover}
 use Rattle.iscsi_tasks.specs.declared.cover.Cover.TheVariants.{All as AllOfThem, Conn as OfConn}
-use Rattle.iscsi_tasks.specs.Sets.{Members, tasks_in, opened as opened_set, entered_to, is_covered, is_enabled_in, is_new, next_in, given_by}
+use Rattle.iscsi_tasks.specs.Sets.{Members, opened as opened_set, entered_to, is_covered, is_enabled_in, is_new, next_in, given_by}
 pub use Rattle.iscsi_tasks.specs.Sets.{set_staying}
+pub use Rattle.iscsi_tasks.specs.Marked.{covered_tickets}
 use Rattle.iscsi_commands.specs.declared.live.Live.{Live}
 pub use Rattle.iscsi_commands.specs.Commands.{find_ticket, without_ticket}
 pub use Rattle.iscsi_connections.specs.Connected.{count_reply, counted_on, is_among_open, still_open}
@@ -183,22 +184,19 @@ event_by s r = if is_immediate r then s.taken - 1 else 0
 abbrev pub new_task : Core → Request → Task
 new_task s r = record { ticket = s.entered + 1; conn = connection_of r; itt = itt r; attr = attr_of (attr_code r); immediate = is_immediate r; pos = pos (number_by s r) -ℤ pos (number_of_first s.window.first); event = event_by s r }
 
-abbrev pub set_entered : Core → Request → ℕ → Members
-set_entered s r unit = entered_to (set_at s unit) (new_task s r)
-
 -- a numbered command takes a place of the window
 abbrev pub started : Arrived → Request → Arrived
 started w r = if is_immediate r then w else with_unfinished w (w.unfinished + 1)
 
 abbrev pub command_entered : Core → Request → ℕ → Step
-command_entered s r unit = record {
+command_entered s r unit = let set = entered_to (set_at s unit) (new_task s r) in record {
   core = record s {
     window = started s.window r;
     entered = s.entered + 1;
     live = s.live ++ new_live s r unit ∷ [];
-    sets = slice_set s.sets unit (given_by (set_entered s r unit));
+    sets = slice_set s.sets unit (given_by set);
   };
-  effects = Enter (s.entered + 1) unit (attr_of (attr_code r)) ∷ enable_effect unit (next_in (set_entered s r unit).list);
+  effects = Enter (s.entered + 1) unit (attr_of (attr_code r)) ∷ enable_effect unit (next_in set.list);
 }
 
 -- ---- a command that is enabled
@@ -228,9 +226,9 @@ staying covers set live = filter (λ l. not (is_gone covers set l.ticket)) live
 abbrev pub finished_by : Arrived → List Live → List Live → Arrived
 finished_by w before after = with_unfinished w (w.unfinished + count_by is_numbered after - count_by is_numbered before)
 
--- each of these members that is covered leaves
-abbrev pub leaves : ℕ → (Task → Bool) → List Member → List Effect
-leaves unit covers ms = map (λ m. Leave m.task.ticket unit) (filter (λ m. covers m.task) ms)
+-- each of the commands with these tickets leaves
+abbrev pub leave_each : ℕ → List ℕ → List Effect
+leave_each unit tickets = map (λ ticket. Leave ticket unit) tickets
 
 -- the covered commands of the unit leave
 abbrev pub commands_left : Core → ℕ → (Task → Bool) → Step
@@ -240,7 +238,7 @@ commands_left s unit covers = record {
     live = rest;
     sets = slice_set s.sets unit (set_staying covers (set_at s unit));
   };
-  effects = leaves unit covers (set_at s unit).list;
+  effects = leave_each unit (covered_tickets covers (set_at s unit).list);
 }
 
 -- those of these units do, one unit after the other
@@ -248,29 +246,17 @@ abbrev pub all_commands_left : Core → List ℕ → (Task → Bool) → Step
 all_commands_left s [] covers = unchanged s
 all_commands_left s (unit ∷ units) covers = and_then (commands_left s unit covers) (λ s'. all_commands_left s' units covers)
 
--- the tickets of the covered commands of a set
-abbrev pub tickets_covered : (Task → Bool) → Members → List ℕ
-tickets_covered covers set = map (λ (t : Task). t.ticket) (filter covers (tasks_in set))
-
 -- the live commands without those that have one of these tickets
 abbrev pub without_tickets : List ℕ → List Live → List Live
 without_tickets tickets live = filter (λ l. not (list_any (λ t. t == l.ticket) tickets)) live
 
--- each of the commands with these tickets leaves
-abbrev pub leave_each : ℕ → List ℕ → List Effect
-leave_each unit tickets = map (λ ticket. Leave ticket unit) tickets
-
 abbrev pub covers_ticket : ℕ → Task → Bool
 covers_ticket ticket t = t.ticket == ticket
 
--- this command leaves, if there is one: the sets, and the whole
+-- the sets, once this command left its own, if there is one
 abbrev pub sets_left : List Members → Option Live → List Members
 sets_left sets None = sets
 sets_left sets (Some l) = slice_set sets l.unit (set_staying (covers_ticket l.ticket) (slice_index_or sets l.unit (opened_set 0)))
-
-abbrev pub command_left : Core → Option Live → Step
-command_left s None = unchanged s
-command_left s (Some l) = commands_left s l.unit (covers_ticket l.ticket)
 
 -- some command of the set is covered
 abbrev pub has_covered : (Task → Bool) → Members → Bool
@@ -324,10 +310,6 @@ is_clear_below scope k ps = list_all (λ p. not (holds_from scope p)) (take k ps
 abbrev pub all_emptied : Core → Option ℕ → Step
 all_emptied s scope = record { core = record s { window = record s.window { places = map (emptied_place scope) s.window.places } }; effects = emptied_from (number_expected s.window) scope s.window.places }
 
--- the functions that wait are dropped
-abbrev pub with_dropped : Core → Option ℕ → Core
-with_dropped s scope = record s { waiting = filter (λ w. not (is_asked scope (connection_of w.request))) s.waiting }
-
 -- where no connection is open, nothing waits, and the session is closed
 abbrev pub waiting_then : List ℕ → List Waiting → List Waiting
 waiting_then [] ws = []
@@ -337,22 +319,19 @@ abbrev pub session_closes : List ℕ → List Effect
 session_closes [] = CloseSession ∷ []
 session_closes (conn ∷ conns) = []
 
-abbrev pub ended_if : Core → Step
-ended_if s = record { core = record s { waiting = waiting_then s.open_conns s.waiting }; effects = session_closes s.open_conns }
-
 abbrev pub closing_effects : Option ℕ → List Effect
 closing_effects None = []
 closing_effects (Some conn) = CloseConn conn ∷ []
 
 abbrev pub conns_closed : Core → Option ℕ → Step
-conns_closed s scope = and_then (record { core = record s { open_conns = still_open scope s.open_conns }; effects = closing_effects scope }) ended_if
+conns_closed s scope = let left = still_open scope s.open_conns in record { core = record s { open_conns = left; waiting = waiting_then left s.waiting }; effects = closing_effects scope ++ session_closes left }
 
--- what is live and held is taken out, the request is answered, and the connection or the session is closed
+-- what is live, is held or waits is taken out, the request is answered, and the connection or the session is closed
 abbrev pub logged_out : Core → Request → Option ℕ → Step
 logged_out s r scope =
     and_then (all_commands_left s (units_of s) (covers_of scope)) (λ s'.
     and_then (all_emptied s' scope) (λ s'.
-    and_then (request_answered (with_dropped s' scope) r (LogOut 0)) (λ s'.
+    and_then (request_answered (record s' { waiting = filter (λ w. not (is_asked scope (connection_of w.request))) s'.waiting }) r (LogOut 0)) (λ s'.
     and_then (conns_closed s' scope) all_told)))
 
 -- ---- how many effects may be to come

@@ -1,10 +1,10 @@
 //! The completion of a command by its unit.
 
-ghost use Rattle.std.specs.Prelude.{IfSome, ℕ, ◌≡◌, ◌==◌, ◌&&◌, ◌+◌, ◌<◌, ◌≤◌, true, false, if◌then◌else◌, length, nat_lt, vec_len, vec_capacity};
+ghost use Rattle.std.specs.Prelude.{IfSome, MatchOption, ℕ, ◌≡◌, ◌==◌, ◌&&◌, ◌+◌, ◌<◌, ◌≤◌, true, false, if◌then◌else◌, length, nat_lt, vec_len, vec_capacity};
 ghost use Rattle.std.specs.List.{list_all};
 ghost use Rattle.iscsi_history.specs.rules.Settings.{is_known as known_in};
 ghost use Rattle.iscsi_history.specs.rules.Execution.{sense_of_status};
-ghost use Rattle.iscsi_session.specs.private.Steps.{counted_on, Takes, enabled_in, finished, sets_left, command_left, completed, owed};
+ghost use Rattle.iscsi_session.specs.private.Steps.{counted_on, unchanged, Takes, enabled_in, finished, commands_left, covers_ticket, sets_left, completed, owed};
 
 use crate::session::Session;
 use crate::session::leaving::end_command;
@@ -52,7 +52,8 @@ impl Session {
         requires room { vec_len out.old + owed self.old.live self.old.sets ≤ vec_capacity out.old }
         ensures command { result ≡ enabled_in self.old.sets self.old.live ticket }
         ensures unit { IfSome result (λ l. l.unit < length self.new.sets) }
-        ensures done { Takes (command_left self.old result) self.new out.old out.new }
+        ensures done { MatchOption result (Takes (unchanged self.old) self.new out.old out.new)
+            (λ l. Takes (commands_left self.old l.unit (covers_ticket l.ticket)) self.new out.old out.new) }
         ensures spent { vec_len out.new + owed self.new.live self.new.sets ≤ vec_len out.old
             + owed self.old.live self.old.sets }
     {

@@ -135,6 +135,8 @@ impl Session {
     }
 
     /// A reply goes out on a connection.
+    // It is inlined, so that the reply is made where the effect keeps it.
+    #[inline(always)]
     pub(crate) fn reply(&mut self, conn: u16, reply: Reply, out: &mut Vec<Effect>)
         requires room { vec_len out.old + 1 ≤ vec_capacity out.old }
         ensures done { Takes (replied self.old conn reply) self.new out.old out.new }

@@ -4,7 +4,7 @@ ghost use Rattle.std.specs.Prelude.{Some, ◌≡◌, ◌+◌, ◌<◌, ◌≤◌
 ghost use Rattle.std.specs.List.{AllPairs};
 ghost use Rattle.iscsi_tasks.specs.Sets.{opened, is_covered};
 ghost use Rattle.iscsi_session.specs.private.Standing.{are_ascending, are_known, tickets_of, tickets_in};
-ghost use Rattle.iscsi_session.specs.private.Steps.{set_staying, find_ticket, without_ticket, Appends, Takes, unit_told, AreCounted, is_numbered, finished_by, commands_left, tickets_covered, without_tickets, leave_each, covers_ticket, has_covered, owed};
+ghost use Rattle.iscsi_session.specs.private.Steps.{set_staying, covered_tickets, find_ticket, without_ticket, Appends, Takes, unit_told, AreCounted, is_numbered, finished_by, leave_each, commands_left, without_tickets, covers_ticket, has_covered, owed};
 ghost use Rattle.iscsi_history.specs.declared.effect.Effect.{Effect};
 
 use crate::session::completion::finish;
@@ -74,8 +74,8 @@ fn dequeue_covered(sets: &mut [LinkedTaskSet], unit: u16, cover: &Cover, left: &
     requires room { length (slice_index_or sets.old unit (opened 0)).list ≤ vec_capacity left.old }
     ensures sets { sets.new ≡ slice_set sets.old unit
         (set_staying (is_covered cover.now) (slice_index_or sets.old unit (opened 0))) }
-    ensures left { left.new.items ≡ tickets_covered (is_covered cover.now)
-        (slice_index_or sets.old unit (opened 0)) }
+    ensures left { left.new.items ≡ covered_tickets (is_covered cover.now)
+        (slice_index_or sets.old unit (opened 0)).list }
     ensures capacity { vec_capacity left.new ≡ vec_capacity left.old }
 {
     left.clear();

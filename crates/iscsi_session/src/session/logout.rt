@@ -1,9 +1,10 @@
 //! Logout, and the closing of connections and of the session (RFC 7143 sections 11.14 and 11.15).
 
-ghost use Rattle.std.specs.Prelude.{◌≡◌, ◌+◌, ◌≤◌, ◌<◌, ◌++◌, length, true, count_by, vec_len, vec_capacity};
+ghost use Rattle.std.specs.Prelude.{not, filter, ◌≡◌, ◌+◌, ◌≤◌, ◌<◌, ◌++◌, length, true, count_by, vec_len, vec_capacity};
+ghost use Rattle.iscsi_wire.specs.Fields.{connection_of};
 ghost use Rattle.iscsi_window.specs.Windows.{is_asked};
 ghost use Rattle.iscsi_session.specs.private.Standing.{is_held};
-ghost use Rattle.iscsi_session.specs.private.Steps.{is_among_open, Takes, units_of, all_told, all_commands_left, cover_of as cover_named, covers_of, is_clear_below, all_emptied, with_dropped, ended_if, conns_closed, logged_out, owed};
+ghost use Rattle.iscsi_session.specs.private.Steps.{is_among_open, Takes, units_of, all_told, all_commands_left, cover_of as cover_named, covers_of, is_clear_below, all_emptied, waiting_then, session_closes, conns_closed, logged_out, owed};
 
 use crate::closing::LogoutResponse;
 use crate::session::Session;
@@ -88,7 +89,9 @@ impl Session {
 
     /// The functions of a connection that wait, or of all for None, are dropped.
     fn drop_waiting(&mut self, scope: Option<u16>)
-        ensures session { self.new ≡ with_dropped self.old scope }
+        ensures session { self.new ≡ record self.old {
+          waiting = filter (λ w. not (is_asked scope (connection_of w.request))) self.old.waiting;
+        } }
     {
         self.waiting.drop_of(scope);
     }
@@ -109,7 +112,10 @@ impl Session {
     /// Where no connection is open, the session is closed, and no function waits any more.
     fn end_if_last(&mut self, out: &mut Vec<Effect>)
         requires room { vec_len out.old + 1 ≤ vec_capacity out.old }
-        ensures done { Takes (ended_if self.old) self.new out.old out.new }
+        ensures done { Takes (record {
+          core = record self.old { waiting = waiting_then self.old.open_conns self.old.waiting };
+          effects = session_closes self.old.open_conns;
+        }) self.new out.old out.new }
         ensures spent { vec_len out.new ≤ vec_len out.old + 1 }
     {
         if !self.connections.are_closed() {

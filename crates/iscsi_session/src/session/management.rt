@@ -8,7 +8,7 @@ ghost use Rattle.iscsi_tasks.specs.Sets.{is_covered};
 ghost use Rattle.iscsi_history.specs.rules.Settings.{is_known as known_in};
 ghost use Rattle.iscsi_session.specs.private.Standing.{is_held};
 ghost use Rattle.iscsi_session.specs.private.Steps.{KeepsPace, Takes, covers_ticket, aborted, number_voided, number_emptied, owed};
-ghost use Rattle.iscsi_session.specs.private.Deeds.{arrival_by, Fits, IsReady, most_emptied, next_waiting, function_taken, done_at_once, waits_for_turn, immediate_taken};
+ghost use Rattle.iscsi_session.specs.private.Deeds.{arrival_by, Fits, IsReady, most_emptied, next_waiting, function_taken, done_at_once, immediate_taken};
 
 use crate::response::Response;
 use crate::session::Session;
@@ -68,7 +68,7 @@ impl Session {
         requires taken { 0 < self.old.taken }
         requires waited { list_all (λ w. nat_lt (w.event + 1) self.old.taken) self.old.waiting ≡ true }
         requires room { vec_len out.old + 1 ≤ vec_capacity out.old }
-        ensures done { Takes (waits_for_turn self.old request) self.new out.old out.new }
+        ensures done { Takes (immediate_taken self.old request Deed.Wait) self.new out.old out.new }
         ensures len { vec_len out.new ≡ vec_len out.old + 1 }
     {
         out.push_reserved(Effect::Wait { request });

@@ -3,7 +3,7 @@ use Rattle.iscsi_session.proofs.session.Session.complete.Goals as goal
 
 pub returns-clause-done : goal.returns-clause-done
 returns-clause-done c =
-    let left = rw c.in-Some.is at c.leave_enabled.ensures.done in
+    let left = c.in-Some.ensures.done in
     let reply = c.reply.ensures.done in
     let told = c.announce_enabled.ensures.done in
     rw (sym c.leave_enabled.ensures.command ∙ c.in-Some.is) (record {
