@@ -22,6 +22,7 @@ use Rattle.iscsi_history.proofs.BoolLemmas.{and_parts}
 use Rattle.iscsi_history.proofs.ListLemmas.{list_all-filter, is_known-cids}
 use Rattle.iscsi_session.proofs.OpenConns.{open_of-same}
 use Rattle.iscsi_history.proofs.TraceLemmas.{weaker}
+use Rattle.iscsi_history.proofs.ReceivedItems.{ignored_receives}
 use Rattle.iscsi_history.proofs.DeliveryLemmas.{IsQuiet, quiet-ignored}
 use Rattle.iscsi_session.proofs.WindowParts.{next_expected, WindowAgrees-quiet, with_held, WindowAgrees-admitted}
 use Rattle.iscsi_history.proofs.ClosingItems.{ClosesNone}
@@ -70,10 +71,11 @@ settled_numbers o s t h = cc (settled_expected o s t h, settled_max o s t h)
 pub record Stepped (o : Setting) (x : Step) (t : Trace) (items : List (List Mark)) : Type 0 where
   pub settled : Settled o x.core (after_items items t)
   pub effects_are : x.effects ≡ effects_of o t items
+  pub receives : HasOneMore (received t) (received (after_items items t))
 
 -- and what becomes of a session that takes it
-pub handled : (o : Setting) (x : Step) (t : Trace) (items : List (List Mark)) (now : Core) (out out' : List Effect) → Stepped o x t items → HasOneMore (received t) (received (after_items items t)) → now ≡ x.core → out' ≡ out ++ x.effects → Handles o t items HasOneMore now out out'
-handled o x t items now out out' h receives core effects = record { settled = rw core h.settled; effects = effects ∙ ap (λ es. out ++ es) h.effects_are; receives = receives }
+pub handled : (o : Setting) (x : Step) (t : Trace) (items : List (List Mark)) (now : Core) (out out' : List Effect) → Stepped o x t items → now ≡ x.core → out' ≡ out ++ x.effects → Handles o t items HasOneMore now out out'
+handled o x t items now out out' h core effects = record { settled = rw core h.settled; effects = effects ∙ ap (λ es. out ++ es) h.effects_are; receives = h.receives }
 
 -- an event is ignored
 abbrev pub step_ignored : Core → Why → Step
@@ -127,6 +129,7 @@ Stepped-ignored o s t why h =
         none_due = h.none_due;
       };
       effects_are = cc (newly-untouched o t item u);
+      receives = ignored_receives t (ignored why) why refl;
     }
 
 -- ---- an admission

@@ -13,7 +13,7 @@ use Rattle.iscsi_history.specs.declared.effect.Effect.TheVariants.{Send}
 use Rattle.iscsi_history.specs.declared.effect.Why.TheVariants.{Closed, Data}
 use Rattle.iscsi_history.specs.declared.kind.Kind.TheVariants.{PassedOver, Unknown, Executes as ExecutesKind}
 use Rattle.iscsi_history.specs.rules.Settings.{Setting, is_known}
-use Rattle.iscsi_history.specs.rules.Trace.{Arrival, Mark, Admits, Trace, after_items, received, is_closed}
+use Rattle.iscsi_history.specs.rules.Trace.{Arrival, Mark, Admits, Trace, received, is_closed}
 use Rattle.iscsi_history.specs.promises.Flow.{HasOneMore}
 use Rattle.iscsi_history.specs.rules.Execution.{exp_of, rejected, ignored}
 use Rattle.iscsi_history.specs.rules.Agenda.{with_turns, numbered, kind_of, arrival_as, arrival_open, arrival, arrival_of}
@@ -30,7 +30,7 @@ use Rattle.iscsi_session.proofs.ReplyParts.{RepliesAgree-sent}
 use Rattle.iscsi_history.proofs.NewlyLemmas.{Untouched}
 use Rattle.iscsi_history.proofs.NewlyLemmas.{newly-untouched}
 use Rattle.iscsi_history.proofs.MomentLemmas.{enables}
-use Rattle.iscsi_history.proofs.ReceivedItems.{immediate_receives_one, ignored_receives}
+use Rattle.iscsi_history.proofs.ReceivedItems.{immediate_receives_one}
 use Rattle.iscsi_history.proofs.BoolLemmas.{not_flip}
 use Rattle.iscsi_session.proofs.AgreeLemmas.{settled_expected, Stepped, Stepped-ignored, step_ignored, known_of, lasting, Agrees-untouched}
 use Rattle.iscsi_session.specs.declared.session.waiting.Waiting.{Waiting}
@@ -104,6 +104,7 @@ rejected_opcode o s index t r h kind known =
         none_due = h.none_due;
       };
       effects_are = ap (λ n. Send conn n reply ∷ []) (a.replies.stat_sns conn known) ∙ sym (ap (λ cs. ((Send conn (stat_sn_of o t conn) reply ∷ []) ++ enables cs) ++ []) (newly-untouched o t item u));
+      receives = inl (append-nil (received t));
     })
 
 -- an immediate request executes, waits or is refused, and the agenda follows
@@ -147,7 +148,3 @@ closed_is o s index t r h known gone =
 pub closed_arrival : (o : Setting) (s : Core) (index : ℕ) (t : Trace) (r : Request) → Settled o s t → is_known (connection_of r) o.conns ≡ true → is_among_open (connection_of r) s.open_conns ≡ false
     → Stepped o (step_ignored s Closed) t (arrival o t (arrival_of o index t r))
 closed_arrival o s index t r h known gone = subst (λ items. Stepped o (step_ignored s Closed) t items) (sym (closed_is o s index t r h.agrees known gone)) (Stepped-ignored o s t Closed h)
-
-pub closed_receives : (o : Setting) (s : Core) (index : ℕ) (t : Trace) (r : Request) → Agrees o s t → is_known (connection_of r) o.conns ≡ true → is_among_open (connection_of r) s.open_conns ≡ false
-    → HasOneMore (received t) (received (after_items (arrival o t (arrival_of o index t r)) t))
-closed_receives o s index t r h known gone = ignored_receives t (arrival o t (arrival_of o index t r)) Closed (closed_is o s index t r h known gone)

@@ -16,7 +16,7 @@ use Rattle.iscsi_history.specs.declared.event.Event.{Event}
 use Rattle.iscsi_history.specs.declared.event.Event.TheVariants.{Arrive, Done}
 use Rattle.iscsi_session.specs.declared.fault.SessionFault.TheVariants.{UnknownConnection, Exhausted}
 use Rattle.iscsi_history.specs.rules.Settings.{Setting, is_known}
-use Rattle.iscsi_history.specs.rules.Trace.{Arrival, Command, Mark, Admits, Trace, first_of, is_received, live, live_in, was_free, is_among, received, after_items}
+use Rattle.iscsi_history.specs.rules.Trace.{Arrival, Command, Mark, Admits, Trace, first_of, is_received, live, live_in, was_free, is_among, received}
 use Rattle.iscsi_history.specs.rules.Execution.{exp_of, max_of, unfinished, ignored, completion, sense_of_status}
 use Rattle.iscsi_history.specs.rules.Agenda.{with_turns, numbered, arrival_of, command_of, items_of, belongs}
 use Rattle.iscsi_history.specs.rules.Items.{agenda}
@@ -26,7 +26,6 @@ use Rattle.iscsi_session.specs.private.Standing.{Core, place_of, kept, is_regula
 use Rattle.iscsi_session.specs.private.Steps.{find_ticket, comes_on, refusal_by, set_at, with_offered, enabled_of, enabled_in, covers_ticket, left_answered, completed}
 use Rattle.iscsi_history.proofs.BoolLemmas.{and_both}
 use Rattle.iscsi_history.proofs.ListLemmas.{list_any-map, is_known-cids}
-use Rattle.iscsi_history.specs.promises.Flow.{HasOneMore}
 use Rattle.iscsi_session.proofs.WindowParts.{WindowAgrees-quiet, with_held}
 use Rattle.iscsi_history.proofs.MomentLemmas.{enables}
 use Rattle.iscsi_session.proofs.CommandParts.{find_kept}
@@ -67,12 +66,8 @@ Stepped-completed o s t c ticket status h found =
     record {
       settled = record { agrees = leaving-agrees o s t item c.unit covers conn reply leaving; none_due = h.none_due };
       effects_are = rw (leaving-effects o s t item c.unit covers conn reply leaving, gone, append-nil (enables (newly_enabled o t item)));
+      receives = inl (append-nil (received t));
     }
-
--- it receives no number
-pub completion_receives : (status : ℕ) (x : Option Command) (t : Trace) → HasOneMore (received t) (received (after_items (completion status x) t))
-completion_receives status None t = inl (append-nil (received t))
-completion_receives status (Some c) t = inl (append-nil (received t))
 
 -- what a session finds by the ticket
 enabled_in_set : (o : Setting) (s : Core) (t : Trace) (ticket : ℕ) (c : Command) → Agrees o s t → c.unit < o.units → is_enabled_in ticket (set_at s c.unit).list ≡ list_any (λ d. d.ticket == ticket && was_free d t) (live_in c.unit t)
@@ -157,8 +152,6 @@ answered o s t a h number event = by_tests (nat_le (number_expected s.window) a.
 pub record Offered (o : Setting) (s : Core) (event : ℕ) (t : Trace) (r : Request) : Type 0 where
   pub outside : offer_to s.window r ≡ OutsideWindow → Stepped o (step_ignored (with_offered s r) Outside) t (numbered o t (arrival_of o event t r))
   pub known : offer_to s.window r ≡ Known → Stepped o (step_ignored (with_offered s r) Duplicate) t (numbered o t (arrival_of o event t r))
-  pub outside_is : offer_to s.window r ≡ OutsideWindow → numbered o t (arrival_of o event t r) ≡ ignored Outside
-  pub known_is : offer_to s.window r ≡ Known → numbered o t (arrival_of o event t r) ≡ ignored Duplicate
   pub taken : offer_to s.window r ≡ Held → Agrees o (with_offered s r) ((Admits (arrival_of o event t r) ∷ []) ∷ t)
       × ((numbered o t (arrival_of o event t r) ≡ (Admits (arrival_of o event t r) ∷ []) ∷ agenda o (number_expected (with_offered s r).window) (exp_of o ((Admits (arrival_of o event t r) ∷ []) ∷ t) - number_expected (with_offered s r).window) ((Admits (arrival_of o event t r) ∷ []) ∷ t))
       × ((rest : List (List Mark)) → effects_of o t ((Admits (arrival_of o event t r) ∷ []) ∷ rest) ≡ effects_of o ((Admits (arrival_of o event t r) ∷ []) ∷ t) rest))
@@ -174,8 +167,6 @@ offered o s event t r h not_immediate known taken =
     record {
       outside = λ said. let f = x.outside said in rw (f.0, f.1) (Stepped-ignored o s t Outside h);
       known = λ said. let f = x.known said in rw (f.0, f.1) (Stepped-ignored o s t Duplicate h);
-      outside_is = λ said. (x.outside said).1;
-      known_is = λ said. (x.known said).1;
       taken = λ said.
           let f = x.taken said in
           let start : exp_of o t ≡ number_expected (with_offered s r).window = same_exp ∙ ap (λ (c : Core). number_expected c.window) (sym f.core_is) in (

@@ -176,7 +176,8 @@ next_position s = pos (number_expected s.window) -ℤ pos (number_of_first s.win
 -- it executes, if there is one
 abbrev pub function_taken : Core → Option Waiting → Step
 function_taken s None = unchanged s
-function_taken s (Some w) = after_effect (Immediate w.request) (carried (without_waiting s w) w.request (next_position s) w.event (function_deed (facts_by (without_waiting s w) w.request) w.request))
+function_taken s (Some w) =
+    let rest = without_waiting s w in after_effect (Immediate w.request) (carried rest w.request (next_position s) w.event (function_deed (facts_by rest w.request) w.request))
 
 -- ---- an arrival
 

@@ -279,7 +279,10 @@ aborted s r unit covers = left_answered s unit covers (connection_of r) (reply_o
 
 -- a number is received without a request, if it wasn't received before
 abbrev pub number_voided : Core → ℕ → Step
-number_voided s w = record { core = record s { window = voided s.window w }; effects = if is_received_at s.window (place_in s.window w) then [] else Void (wire w) ∷ [] }
+number_voided s w = record {
+  core = record s { window = voided s.window w };
+  effects = if is_received_at s.window (place_in s.window w) then [] else Void (wire w) ∷ [];
+}
 
 -- the request that is held for this number is taken out
 abbrev pub number_emptied : Core → ℕ → Step
@@ -308,7 +311,10 @@ is_clear_below scope k ps = list_all (λ p. not (holds_from scope p)) (take k ps
 
 -- the held requests are taken out
 abbrev pub all_emptied : Core → Option ℕ → Step
-all_emptied s scope = record { core = record s { window = record s.window { places = map (emptied_place scope) s.window.places } }; effects = emptied_from (number_expected s.window) scope s.window.places }
+all_emptied s scope = record {
+  core = record s { window = record s.window { places = map (emptied_place scope) s.window.places } };
+  effects = emptied_from (number_expected s.window) scope s.window.places;
+}
 
 -- where no connection is open, nothing waits, and the session is closed
 abbrev pub waiting_then : List ℕ → List Waiting → List Waiting
@@ -324,7 +330,10 @@ closing_effects None = []
 closing_effects (Some conn) = CloseConn conn ∷ []
 
 abbrev pub conns_closed : Core → Option ℕ → Step
-conns_closed s scope = let left = still_open scope s.open_conns in record { core = record s { open_conns = left; waiting = waiting_then left s.waiting }; effects = closing_effects scope ++ session_closes left }
+conns_closed s scope = let left = still_open scope s.open_conns in record {
+  core = record s { open_conns = left; waiting = waiting_then left s.waiting };
+  effects = closing_effects scope ++ session_closes left;
+}
 
 -- what is live, is held or waits is taken out, the request is answered, and the connection or the session is closed
 abbrev pub logged_out : Core → Request → Option ℕ → Step

@@ -57,7 +57,8 @@ impl Session {
         requires room { vec_len out.old + owed self.old.live self.old.sets
             + 6 * (count_by is_held self.old.window.places + length self.old.waiting + 1) + 1 ≤ vec_capacity out.old }
         ensures items { (o : Setting) (index : ℕ) (t : Trace) → self.old.taken ≡ index + 1 → Settled o self.old t →
-            Handles o t (arrival_open o t (arrival_of o index t request)) HasOneMore self.new out.old.items out.new.items }
+            Handles o t (arrival_open o t (arrival_of o index t request)) HasOneMore self.new out.old.items
+            out.new.items }
         ensures taken { self.new.taken ≡ self.old.taken }
         ensures pace { KeepsPace self.old.window self.new.window }
         ensures spent { vec_len out.new ≤ vec_len out.old + owed self.old.live self.old.sets
@@ -225,7 +226,8 @@ impl Session {
         requires known { known_in (connection_of request) self.old.conns ≡ true }
         requires room { vec_len out.old + owed self.old.live self.old.sets + 6 * count_by is_held self.old.window.places
             + 6 ≤ vec_capacity out.old }
-        ensures done { Takes (after_effect (Effect.Deliver request) (executed self.old request event)) self.new out.old out.new }
+        ensures done { Takes (after_effect (Effect.Deliver request) (executed self.old request event)) self.new
+            out.old out.new }
         ensures spent { vec_len out.new + owed self.new.live self.new.sets + 6 * count_by is_held self.new.window.places
             ≤ vec_len out.old + owed self.old.live self.old.sets + 6 * count_by is_held self.old.window.places + 6 }
         ensures waiting { length self.new.waiting ≤ length self.old.waiting }

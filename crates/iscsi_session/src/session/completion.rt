@@ -29,8 +29,8 @@ impl Session {
     /// Rules: `completion/stale`, `completion/status`.
     pub(crate) fn complete(&mut self, ticket: u64, status: u8, out: &mut Vec<Effect>)
         requires room { vec_len out.old + owed self.old.live self.old.sets + 1 ≤ vec_capacity out.old }
-        ensures done { Takes (completed self.old (enabled_in self.old.sets self.old.live ticket) status) self.new out.old
-            out.new }
+        ensures done { Takes (completed self.old (enabled_in self.old.sets self.old.live ticket) status) self.new
+            out.old out.new }
         ensures spent { vec_len out.new ≤ vec_len out.old + owed self.old.live self.old.sets + 1 }
     {
         let Some(command) = self.leave_enabled(ticket, out) else {

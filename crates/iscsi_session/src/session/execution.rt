@@ -42,7 +42,8 @@ impl Session {
         requires known { known_in (connection_of request) self.old.conns ≡ true }
         requires room { vec_len out.old + owed self.old.live self.old.sets + 6 * count_by is_held self.old.window.places
             + 6 ≤ vec_capacity out.old }
-        ensures done { Takes (after_effect (Effect.Deliver request) (executed self.old request event)) self.new out.old out.new }
+        ensures done { Takes (after_effect (Effect.Deliver request) (executed self.old request event)) self.new
+            out.old out.new }
         ensures spent { vec_len out.new + owed self.new.live self.new.sets + 6 * count_by is_held self.new.window.places
             ≤ vec_len out.old + owed self.old.live self.old.sets + 6 * count_by is_held self.old.window.places + 6 }
         ensures waiting { length self.new.waiting ≤ length self.old.waiting }

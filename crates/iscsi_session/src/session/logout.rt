@@ -43,7 +43,8 @@ impl Session {
     /// The live commands of a connection, or of all for None, leave: units ascending, the oldest first.
     fn leave_all(&mut self, scope: Option<u16>, out: &mut Vec<Effect>)
         requires room { vec_len out.old + owed self.old.live self.old.sets ≤ vec_capacity out.old }
-        ensures done { Takes (all_commands_left self.old (units_of self.old) (covers_of scope)) self.new out.old out.new }
+        ensures done { Takes (all_commands_left self.old (units_of self.old) (covers_of scope)) self.new out.old
+            out.new }
         ensures spent { vec_len out.new + owed self.new.live self.new.sets ≤ vec_len out.old
             + owed self.old.live self.old.sets }
         ensures places { self.new.window.places ≡ self.old.window.places }

@@ -53,7 +53,8 @@ pub(crate) fn enter(sets: &mut [LinkedTaskSet], unit: u16, task: Task, out: &mut
     requires room { vec_len out.old + 1 ≤ vec_capacity out.old }
     ensures sets { sets.new ≡ slice_set sets.old unit
         (given_by (entered_to (slice_index_or sets.old unit (opened 0)) task)) }
-    ensures effects { Appends (enable_effect unit (next_in (entered_to (slice_index_or sets.old unit (opened 0)) task).list)) out.old out.new }
+    ensures effects { Appends (enable_effect unit
+        (next_in (entered_to (slice_index_or sets.old unit (opened 0)) task).list)) out.old out.new }
     ensures spent { vec_len out.new ≤ vec_len out.old + 1 }
 {
     let set = &mut sets[usize::from(unit)];

@@ -1,7 +1,6 @@
-use Rattle.iscsi_history.specs.rules.Agenda.{command_of}
 use Rattle.iscsi_session.proofs.AgreeLemmas.{handled}
 use Rattle.iscsi_session.proofs.PaceLemmas.{pace-completed}
-use Rattle.iscsi_session.proofs.StepLemmas.{Stepped-completion, completion_receives}
+use Rattle.iscsi_session.proofs.StepLemmas.{Stepped-completion}
 use Rattle.iscsi_session.proofs.session.Session.apply.Goals as goal
 
 pub returns-in-Arrive-clause-items : goal.returns-in-Arrive-clause-items
@@ -9,7 +8,7 @@ returns-in-Arrive-clause-items c = λ o index t taken h. rw c.in-Arrive.is (rw c
 
 pub returns-in-Done-clause-items : goal.returns-in-Done-clause-items
 returns-in-Done-clause-items c = λ o index t taken h.
-    rw c.in-Done.is (handled o _ t _ _ _ _ (Stepped-completion o c.args.self.now t index c.in-Done.ticket c.in-Done.status h) (completion_receives c.in-Done.status (command_of t c.in-Done.ticket) t) c.complete.ensures.done.core c.complete.ensures.done.effects)
+    rw c.in-Done.is (handled o _ t _ _ _ _ (Stepped-completion o c.args.self.now t index c.in-Done.ticket c.in-Done.status h) c.complete.ensures.done.core c.complete.ensures.done.effects)
 
 pub returns-in-Done-clause-pace : goal.returns-in-Done-clause-pace
 returns-in-Done-clause-pace c = rw c.complete.ensures.done.core (pace-completed c.args.self.now _ c.in-Done.status)

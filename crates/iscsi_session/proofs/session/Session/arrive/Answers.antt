@@ -5,7 +5,7 @@ use Rattle.iscsi_history.specs.promises.Flow.{HasOneMore}
 use Rattle.iscsi_session.specs.private.Standing.{Core}
 use Rattle.iscsi_session.specs.private.Steps.{is_among_open, Handles}
 use Rattle.iscsi_session.proofs.AgreeLemmas.{handled, known_of}
-use Rattle.iscsi_session.proofs.ArriveLemmas.{opened_arrival, closed_arrival, closed_receives}
+use Rattle.iscsi_session.proofs.ArriveLemmas.{opened_arrival, closed_arrival}
 use Rattle.iscsi_session.proofs.session.Session.arrive.Goals as goal
 
 pub returns-then-is_open-clause-items : goal.returns-then-is_open-clause-items
@@ -19,4 +19,4 @@ returns-else-is_open-clause-items c = λ o index t taken h.
     let s : Core = c.args.self.now in
     let known = known_of o s t _ h.agrees c.requires.known in
     let gone : is_among_open (connection_of c.args.request) s.open_conns ≡ false = ap (λ n. is_among_open n s.open_conns) (sym c.conn.ensures) ∙ sym c.is_open.ensures ∙ c.if-is_open.false in
-    handled o _ t _ s c.args.out.now.items _ (closed_arrival o s index t c.args.request h known gone) (closed_receives o s index t c.args.request h.agrees known gone) refl c.push_reserved.ensures.items
+    handled o _ t _ s c.args.out.now.items _ (closed_arrival o s index t c.args.request h known gone) refl c.push_reserved.ensures.items

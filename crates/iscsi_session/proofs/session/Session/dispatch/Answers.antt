@@ -1,10 +1,9 @@
 use Rattle.std.proofs.Common.{◌∙◌, ap, sym, subst, refl, List, arith}
 use Rattle.iscsi_history.specs.rules.Trace.{Mark}
 use Rattle.iscsi_history.specs.promises.Flow.{HasOneMore}
-use Rattle.iscsi_history.specs.rules.Agenda.{arrival_of}
 use Rattle.iscsi_session.specs.private.Standing.{Core}
 use Rattle.iscsi_session.specs.private.Steps.{Handles}
-use Rattle.iscsi_history.proofs.ReceivedItems.{passed_receives, rejected_receives, is_numbered_arrival}
+use Rattle.iscsi_history.proofs.ReceivedItems.{is_numbered_arrival}
 use Rattle.iscsi_session.proofs.AgreeLemmas.{handled, known_of}
 use Rattle.iscsi_session.proofs.ArriveLemmas.{passed_over, rejected_opcode, at_once}
 use Rattle.iscsi_session.proofs.PaceLemmas.{immediate_same}
@@ -13,13 +12,13 @@ use Rattle.iscsi_session.proofs.session.Session.dispatch.Goals as goal
 pub returns-in-PassedOver-clause-items : goal.returns-in-PassedOver-clause-items
 returns-in-PassedOver-clause-items c = λ o index t taken h.
     let kind = sym c.kind_of.ensures ∙ c.in-PassedOver.is in
-    handled o _ t _ c.args.self.now c.args.out.now.items _ (passed_over o c.args.self.now index t c.args.request h kind) (passed_receives o t (arrival_of o index t c.args.request) kind) refl c.push_reserved.ensures.items
+    handled o _ t _ c.args.self.now c.args.out.now.items _ (passed_over o c.args.self.now index t c.args.request h kind) refl c.push_reserved.ensures.items
 
 pub returns-in-Unknown-clause-items : goal.returns-in-Unknown-clause-items
 returns-in-Unknown-clause-items c = λ o index t taken h.
     let kind = sym c.kind_of.ensures ∙ c.in-Unknown.is in
     let x = c.reject_opcode.ensures.done in
-    handled o _ t _ c.reject_opcode.new.self c.args.out.now.items _ (rejected_opcode o c.args.self.now index t c.args.request h kind (known_of o c.args.self.now t _ h.agrees c.requires.known)) (rejected_receives o t (arrival_of o index t c.args.request) kind) x.core x.effects
+    handled o _ t _ c.reject_opcode.new.self c.args.out.now.items _ (rejected_opcode o c.args.self.now index t c.args.request h kind (known_of o c.args.self.now t _ h.agrees c.requires.known)) x.core x.effects
 
 pub returns-then-immediate-clause-items : goal.returns-then-immediate-clause-items
 returns-then-immediate-clause-items c = λ o index t taken h.

@@ -2,10 +2,7 @@ use Rattle.std.proofs.Common.{◌≡◌, ◌∙◌, true, Some, ap, sym, subst, 
 use Rattle.iscsi_wire.specs.declared.request.Request.{Request}
 use Rattle.iscsi_window.specs.declared.answer.Offer.TheVariants.{Held}
 use Rattle.iscsi_window.specs.Windows.{offer_to, is_next}
-use Rattle.iscsi_history.specs.declared.effect.Why.TheVariants.{Outside, Duplicate}
-use Rattle.iscsi_history.specs.rules.Agenda.{numbered, arrival_of}
 use Rattle.iscsi_session.specs.private.Standing.{Core}
-use Rattle.iscsi_history.proofs.ReceivedItems.{ignored_receives}
 use Rattle.iscsi_session.proofs.AgreeLemmas.{handled}
 use Rattle.iscsi_session.proofs.ArriveLemmas.{offered_known, carried_at_once, held_handled}
 use Rattle.iscsi_session.specs.private.Steps.{KeepsPace, with_offered}
@@ -29,13 +26,13 @@ pub returns-in-Outside-clause-items : goal.returns-in-Outside-clause-items
 returns-in-Outside-clause-items c = λ o index t now h.
     let x = offered_known o c.args.self.now index t c.args.request h c.requires.regular c.requires.known now in
     let said = sym c.offer.ensures.answer ∙ c.in-Outside.is in
-    handled o _ t _ c.offer.new.self c.args.out.now.items _ (x.outside said) (ignored_receives t (numbered o t (arrival_of o index t c.args.request)) Outside (x.outside_is said)) c.offer.ensures.session c.push_reserved.ensures.items
+    handled o _ t _ c.offer.new.self c.args.out.now.items _ (x.outside said) c.offer.ensures.session c.push_reserved.ensures.items
 
 pub returns-in-Duplicate-clause-items : goal.returns-in-Duplicate-clause-items
 returns-in-Duplicate-clause-items c = λ o index t now h.
     let x = offered_known o c.args.self.now index t c.args.request h c.requires.regular c.requires.known now in
     let said = sym c.offer.ensures.answer ∙ c.in-Duplicate.is in
-    handled o _ t _ c.offer.new.self c.args.out.now.items _ (x.known said) (ignored_receives t (numbered o t (arrival_of o index t c.args.request)) Duplicate (x.known_is said)) c.offer.ensures.session c.push_reserved-in-Duplicate.ensures.items
+    handled o _ t _ c.offer.new.self c.args.out.now.items _ (x.known said) c.offer.ensures.session c.push_reserved-in-Duplicate.ensures.items
 
 pub returns-then-comes_next-clause-items : goal.returns-then-comes_next-clause-items
 returns-then-comes_next-clause-items c = λ o index t now h.
