@@ -56,6 +56,7 @@ impl Session {
     }
 
     /// The commands that became enabled are announced to their unit.
+    #[inline(always)]
     pub(crate) fn announce_enabled(&mut self, unit: u16, out: &mut Vec<Effect>)
         requires unit { unit < length self.old.sets }
         requires room { vec_len out.old + owed self.old.live self.old.sets ≤ vec_capacity out.old }
