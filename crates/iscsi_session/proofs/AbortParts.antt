@@ -1,5 +1,5 @@
 -- What ABORT TASK comes to, by what a session keeps, and by the definitions.
-use Rattle.std.proofs.Common.{◌≡◌, ℕ, ◌+◌, ◌-◌, ◌<◌, ◌≤◌, ◌&&◌, ◌^◌, not, Bool, true, false, nat_lt, nat_le, List, [], ◌∷◌, length, map, filter_map, Some, None, option_map, refl, ap, sym, ◌∙◌, arith}
+use Rattle.std.proofs.Common.{◌≡◌, ℕ, ◌+◌, ◌-◌, ◌<◌, ◌≤◌, ◌&&◌, ◌^◌, not, Bool, true, false, nat_lt, nat_le, List, [], ◌∷◌, length, map, Some, None, option_map, refl, ap, sym, ◌∙◌, arith}
 use Rattle.std.proofs.lemmas.Bool.{false≢true}
 use Rattle.std.proofs.lemmas.Bool.Decides.{nat_tests}
 use Rattle.iscsi_wire.specs.declared.request.Request.{Request}
@@ -12,28 +12,18 @@ use Rattle.iscsi_window.specs.Windows.{Arrived, number_expected, number_shown, r
 use Rattle.iscsi_history.specs.declared.deed.Deed.{Deed}
 use Rattle.iscsi_history.specs.declared.deed.Deed.TheVariants.{Void, Empty}
 use Rattle.iscsi_history.specs.rules.Deeds.{facts_of}
-use Rattle.iscsi_session.specs.declared.session.waiting.Waiting.{Waiting}
 use Rattle.iscsi_history.specs.rules.Settings.{Setting, is_known}
-use Rattle.iscsi_history.specs.rules.Trace.{Arrival, Mark, Delivers, Executes, Trace, sent_on, waiting, held}
+use Rattle.iscsi_history.specs.rules.Trace.{Arrival, Mark, Delivers, Executes, Trace, waiting, held}
 use Rattle.iscsi_history.specs.rules.Execution.{exp_of, max_of}
 use Rattle.iscsi_history.specs.rules.Management.{held_command}
 use Rattle.iscsi_history.specs.rules.Agenda.{arrival_of}
-use Rattle.iscsi_session.specs.private.Standing.{WaitingAgrees, Core, arrival_waiting, WindowAgrees, Agrees, Settled}
+use Rattle.iscsi_session.specs.private.Standing.{Core, arrival_waiting, WindowAgrees, Agrees, Settled}
 use Rattle.iscsi_session.specs.private.Deeds.{missing_at, missing_by, Fits}
-use Rattle.iscsi_session.proofs.OpenConns.{open_of-same}
 use Rattle.iscsi_history.proofs.BoolLemmas.{and_parts, not_true}
-use Rattle.iscsi_history.proofs.ClosingItems.{ClosesNone}
 use Rattle.iscsi_history.proofs.HeldLemmas.{held-number, admitted_of_held, held_command-below, held_command-held, held_command-none}
-use Rattle.iscsi_history.proofs.DeliveryLemmas.{IsQuiet}
-use Rattle.iscsi_session.proofs.WindowParts.{Next, turned_window, WindowAgrees-quiet, WindowAgrees-turned, expected_past_next}
-use Rattle.iscsi_history.proofs.NewlyLemmas.{Untouched}
+use Rattle.iscsi_session.proofs.WindowParts.{Next, turned_window, WindowAgrees-turned, expected_past_next}
 use Rattle.iscsi_history.proofs.NumberLemmas.{last_number, within_window}
-use Rattle.iscsi_history.proofs.EnabledItems.{EnabledSoFar-untouched}
-use Rattle.iscsi_history.proofs.CommandItems.{unfinished-untouched}
-use Rattle.iscsi_session.proofs.CommandParts.{CommandsAgree-untouched}
-use Rattle.iscsi_session.proofs.ReplyParts.{RepliesAgree-quiet}
-use Rattle.iscsi_session.proofs.SetParts.{SetsAgree-untouched}
-use Rattle.iscsi_session.proofs.AgreeLemmas.{settled_expected, settled_max}
+use Rattle.iscsi_session.proofs.AgreeLemmas.{settled_expected, settled_max, Agrees-waits}
 use Rattle.iscsi_session.proofs.DeedLemmas.{is_of_number, missing_parts}
 use Rattle.iscsi_session.proofs.FindLemmas.{held_command-is}
 
@@ -88,21 +78,6 @@ missing_is o s t a h exp max own =
 numbered_missing : (s : Core) (r : Request) (p : Place) → is_immediate r ≡ false → false ≡ missing_at s r p
 numbered_missing s r NoPlace later = refl
 numbered_missing s r (Inside k) later = rw later
-
--- an item that changes nothing but which functions wait
-pub Agrees-waits : (o : Setting) (s : Core) (t : Trace) (item : List Mark) (waits : List Waiting) → IsQuiet item → Untouched item → ClosesNone item → filter_map sent_on item ≡ [] → Agrees o s t → WaitingAgrees o waits (item ∷ t) → Agrees o (record s { waiting = waits }) (item ∷ t)
-Agrees-waits o s t item waits q u closes sends h w = record {
-  events = h.events;
-  window = WindowAgrees-quiet o s.window t item q h.window;
-  replies = RepliesAgree-quiet o s.conns t item sends h.replies;
-  commands = CommandsAgree-untouched o s.live s.entered t item u h.commands;
-  sets = SetsAgree-untouched o s.sets t item u h.sets;
-  unfinished = h.unfinished ∙ sym (unfinished-untouched item t u);
-  enabled = EnabledSoFar-untouched o item t u h.enabled;
-  level = h.level;
-  waiting = w;
-  open_conns = h.open_conns ∙ sym (open_of-same o item t closes);
-}
 
 -- an immediate request, at its arrival
 pub Found-arrived : (o : Setting) (s : Core) (index : ℕ) (t : Trace) (r : Request) → Settled o s t → waiting ((Executes (arrival_of o index t r) ∷ []) ∷ t) ≡ map (arrival_waiting o.first) s.waiting

@@ -104,10 +104,10 @@ module _ (o : Setting) (s : Core) (t : Trace) (m : Mark) (e : Effect) (a : Arriv
   untouched = untouched-begun o s t m e a b [] (search)
 
   pub commands : CommandsAgree o s.live s.entered t'
-  commands = CommandsAgree-untouched o s.live s.entered t (m ∷ []) untouched b.commands
+  commands = CommandsAgree-untouched o s.live s.entered t (m ∷ []) untouched b.lasts.commands
 
   sets : SetsAgree o s.sets t'
-  sets = SetsAgree-untouched o s.sets t (m ∷ []) untouched b.sets
+  sets = SetsAgree-untouched o s.sets t (m ∷ []) untouched b.lasts.sets
 
   -- a live command passes
   asked : (p : Command → Bool) (q : Live → Bool) → ((c : Command) → q (kept c) ≡ p c) → list_any q s.live ≡ list_any p (live t')
@@ -115,13 +115,13 @@ module _ (o : Setting) (s : Core) (t : Trace) (m : Mark) (e : Effect) (a : Arriv
 
   alike : Alike (facts_of o t' a) (facts_by s a.request)
   alike = record {
-    level = sym b.level;
-    unit = rw b.sets.units;
+    level = sym b.lasts.level;
+    unit = rw b.lasts.sets.units;
     is_used = sym (asked (λ c. itt c.arrival.request == itt a.request) (λ l. l.itt == itt a.request) (λ c. refl));
     is_crowded = sym (crowded_is s t' a.request commands.commands);
-    is_full = rw b.sets.units (of_unit-same (unit_named o.units a.request) false _ _ (λ unit is. sym (full_is o s t' unit sets (named_below o.units a.request unit is))));
-    has_commands = rw b.sets.units (of_unit-same (unit_named o.units a.request) false _ _ (λ unit is. has unit));
-    live = rw b.sets.units (of_unit-same (unit_named o.units a.request) None _ _ (λ unit is. ticket_kept (live_with_tag t' (rtt a.request) unit) ∙ ap (option_map (λ (l : Live). l.ticket)) (sym (tagged_in-is s t' (rtt a.request) unit commands.commands))));
+    is_full = rw b.lasts.sets.units (of_unit-same (unit_named o.units a.request) false _ _ (λ unit is. sym (full_is o s t' unit sets (named_below o.units a.request unit is))));
+    has_commands = rw b.lasts.sets.units (of_unit-same (unit_named o.units a.request) false _ _ (λ unit is. has unit));
+    live = rw b.lasts.sets.units (of_unit-same (unit_named o.units a.request) None _ _ (λ unit is. ticket_kept (live_with_tag t' (rtt a.request) unit) ∙ ap (option_map (λ (l : Live). l.ticket)) (sym (tagged_in-is s t' (rtt a.request) unit commands.commands))));
     is_open = sym (open_same o s t m e a b (cid a.request));
   }
     where
@@ -130,7 +130,7 @@ module _ (o : Setting) (s : Core) (t : Trace) (m : Mark) (e : Effect) (a : Arriv
 
   finds : Found o s t' a → Finds (facts_of o t' a) (facts_by s a.request)
   finds x = record {
-    held = rw b.sets.units (of_unit-same (unit_named o.units a.request) None _ _ (λ unit is. number_shown-is (number_expected s.window) (held_command o t' (rtt a.request) unit a.number) (find_held s.window (rtt a.request) unit (cmd_sn a.request)) (x.held_same unit (named_below o.units a.request unit is))));
+    held = rw b.lasts.sets.units (of_unit-same (unit_named o.units a.request) None _ _ (λ unit is. number_shown-is (number_expected s.window) (held_command o t' (rtt a.request) unit a.number) (find_held s.window (rtt a.request) unit (cmd_sn a.request)) (x.held_same unit (named_below o.units a.request unit is))));
     is_missing = x.missing_same;
   }
 

@@ -1,7 +1,7 @@
 -- The live commands that are kept agree with what has happened after one item more.
-use Rattle.std.proofs.Common.{◌≡◌, ℕ, ◌+◌, ◌<◌, ◌==◌, not, ⊎_elim, Bool, true, false, List, [], ◌∷◌, ◌++◌, length, map, filter, option_map, refl, ap, sym, ◌∙◌, arith, eq-eqb}
+use Rattle.std.proofs.Common.{◌≡◌, ℕ, ◌+◌, ◌<◌, ◌==◌, not, Bool, true, false, List, [], ◌∷◌, ◌++◌, length, map, filter, option_map, refl, ap, sym, ◌∙◌, arith, eq-eqb}
 use Rattle.std.specs.List.{list_all}
-use Rattle.std.proofs.lemmas.Bool.{cases_lt, ne_eqb}
+use Rattle.std.proofs.lemmas.Bool.{ne_eqb}
 use Rattle.std.proofs.lemmas.List.{append-nil, length_push, map-append}
 use Rattle.std.proofs.lemmas.List.Elements.{filter-append}
 use Rattle.std.proofs.lemmas.List.Folds.{list_any-append}
@@ -74,12 +74,6 @@ CommandsAgree-left o lives n t item out a l early =
       fresh = λ k lt. cc (a.fresh k (rw entries at lt));
       unleft = λ k lt. let late = rw entries at lt in cc (l.some k, early k late, a.unleft k late);
     }
-
--- a live command has no ticket that is yet to come
-pub live_early : (o : Setting) (lives : List Live) (n : ℕ) (t : Trace) (ticket : ℕ) → CommandsAgree o lives n t → is_among ticket (live t) ≡ true → (k : ℕ) → length (entered t) < k → (k == ticket) ≡ false
-live_early o lives n t ticket a among k late =
-    let low = ⊎_elim (λ later. absurd (cc (unamong-filter (λ (d : Command). not (has (leaves_ticket d.ticket) t)) ticket (entered t) (a.fresh ticket later)))) (λ low. low) (cases_lt (length (entered t)) ticket) in
-    ne_eqb k ticket (omega (arith, low))
 
 -- ---- the command with a ticket
 

@@ -9,7 +9,7 @@ use Rattle.std.proofs.lemmas.List.Sums.{length-filter}
 use Rattle.iscsi_commands.specs.declared.live.Live.{Live}
 use Rattle.iscsi_history.specs.rules.Settings.{is_known}
 use Rattle.iscsi_session.specs.private.Standing.{are_known, are_ascending}
-use Rattle.iscsi_session.specs.private.Steps.{count_reply, find_ticket, without_ticket, is_immediate_on, immediate_in, counted_on, AreCounted, is_numbered}
+use Rattle.iscsi_session.specs.private.Steps.{find_ticket, without_ticket, count_reply, counted_on, is_immediate_on, immediate_in, AreCounted, is_numbered}
 use Rattle.iscsi_history.proofs.BoolLemmas.{and_comm, and_parts}
 use Rattle.iscsi_history.proofs.CountLemmas.{count-cons, count-filter, count-split}
 use Rattle.iscsi_history.proofs.NewlyLemmas.{both_all, filter_all}

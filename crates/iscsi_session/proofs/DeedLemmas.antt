@@ -19,16 +19,14 @@ use Rattle.iscsi_history.specs.rules.Settings.{is_known}
 use Rattle.iscsi_history.specs.rules.Execution.{unit_named}
 use Rattle.iscsi_history.specs.rules.Management.{may_wait, MOST_WAITING}
 use Rattle.iscsi_history.specs.rules.Deeds.{Facts, of_unit, unit_deed, function_deed}
-use Rattle.iscsi_session.specs.private.Standing.{Core, is_held}
-use Rattle.iscsi_session.specs.private.Steps.{set_at, is_set_full, is_numbered, waiting_in}
-use Rattle.iscsi_session.specs.private.Functions.{is_gone, covers_ticket, aborted}
-use Rattle.iscsi_session.specs.private.Closing.{logged_out}
-use Rattle.iscsi_session.specs.private.Deeds.{live_by, held_by, missing_at, missing_by, facts_by, deed_by, refusal_by, waits_by, arrival_by, Fits, IsReady, most_emptied, carried}
+use Rattle.iscsi_session.specs.private.Standing.{Core}
+use Rattle.iscsi_session.specs.private.Steps.{set_at, is_set_full, waiting_in, is_numbered, is_gone, covers_ticket, aborted}
+use Rattle.iscsi_session.specs.private.Deeds.{refusal_by, live_by, held_by, missing_at, missing_by, facts_by, deed_by, waits_by, arrival_by, Fits, IsReady, most_emptied, carried}
 use Rattle.iscsi_history.proofs.BoolLemmas.{and_first, and_second}
 use Rattle.iscsi_history.proofs.ListLemmas.{fewer_counted}
 use Rattle.iscsi_history.proofs.DeedTable.{named_below, Befits, befits_function, befits_deed}
 use Rattle.iscsi_history.proofs.ReceivedItems.{no_abort_task}
-use Rattle.iscsi_session.proofs.LoggedOutLemmas.{logged_out_parts}
+use Rattle.iscsi_session.proofs.LoggedOutLemmas.{Stays, logged_out_parts}
 use Rattle.iscsi_session.proofs.WindowLemmas.{emptied_changes, voided_changes}
 
 -- ---- what it does fits
@@ -118,7 +116,7 @@ whole_function f r may = by_unit f.unit
 pub record Whole (s : Core) (r : Request) (number : ℤ) (event : ℕ) (d : Deed) : Type 0 where
   pub ready : IsReady s r d
   pub none_emptied : most_emptied s d ≡ 0
-  pub places : (carried s r number event d).window.places ≡ s.window.places
+  pub places : (carried s r number event d).core.window.places ≡ s.window.places
   pub of_no_number : is_of_number d ≡ false
 
 pub whole : (s : Core) (r : Request) (number : ℤ) (event : ℕ) (d : Deed) → is_whole d ≡ true → Whole s r number event d
@@ -130,15 +128,6 @@ whole s r number event _ is = absurd (false≢true is)
 
 -- ---- what stays
 
--- no number turns, no event is counted, no request more is held or waits, and so many commands more are unfinished at the most
-pub record Stays (more : ℕ) (s s' : Core) : Type 0 where
-  pub first : s'.window.first ≡ s.window.first
-  pub turned : s'.window.turned ≡ s.window.turned
-  pub unfinished : s'.window.unfinished ≤ s.window.unfinished + more
-  pub taken : s'.taken ≡ s.taken
-  pub held : count_by is_held s'.window.places ≤ count_by is_held s.window.places
-  pub waiting : length s'.waiting ≤ length s.waiting
-
 -- a numbered command begins
 abbrev pub begins : Request → Deed → ℕ
 begins r (Enter unit) = cond (is_immediate r) 0 1
@@ -147,13 +136,10 @@ begins r _ = 0
 pub begins_one : (r : Request) (d : Deed) → begins r d ≤ 1
 begins_one r d = grind arith
 
-aborted_stays : (s : Core) (r : Request) (unit : ℕ) (covers : Task → Bool) → Stays 0 s (aborted s r unit covers)
+aborted_stays : (s : Core) (r : Request) (unit : ℕ) (covers : Task → Bool) → Stays 0 s (aborted s r unit covers).core
 aborted_stays s r unit covers = omega (arith, fewer_counted is_numbered (λ l. not (is_gone covers (set_at s unit) l.ticket)) s.live)
 
-logged_out_stays : (s : Core) (r : Request) (scope : Option ℕ) → Stays 0 s (logged_out s r scope)
-logged_out_stays s r scope = let h = logged_out_parts s r scope in omega (arith, h)
-
-pub carried_stays : (s : Core) (r : Request) (number : ℤ) (event : ℕ) (d : Deed) → Fits s r d → Stays (begins r d) s (carried s r number event d)
+pub carried_stays : (s : Core) (r : Request) (number : ℤ) (event : ℕ) (d : Deed) → Fits s r d → Stays (begins r d) s (carried s r number event d).core
 carried_stays s r number event Nothing fits = omega arith
 carried_stays s r number event Wait fits = omega arith
 carried_stays s r number event (Reply x) fits = omega arith
@@ -173,11 +159,11 @@ carried_stays s r number event (Empty unit sn) fits =
 carried_stays s r number event (Abort unit ticket) fits = aborted_stays s r unit (covers_ticket ticket)
 carried_stays s r number event (AbortEarlier unit) fits = aborted_stays s r unit (is_covered (Below number event))
 carried_stays s r number event (AbortAll unit) fits = aborted_stays s r unit (is_covered AllOfThem)
-carried_stays s r number event (CloseConn closing) fits = logged_out_stays s r (Some closing)
-carried_stays s r number event CloseSession fits = logged_out_stays s r None
+carried_stays s r number event (CloseConn closing) fits = (logged_out_parts s r (Some closing)).stays
+carried_stays s r number event CloseSession fits = (logged_out_parts s r None).stays
 
 -- a numbered request voids no number
-pub carried_counted : (s : Core) (r : Request) (number : ℤ) (event : ℕ) (d : Deed) → Fits s r d → is_immediate r ≡ false → count_by is_some (carried s r number event d).window.places ≡ count_by is_some s.window.places
+pub carried_counted : (s : Core) (r : Request) (number : ℤ) (event : ℕ) (d : Deed) → Fits s r d → is_immediate r ≡ false → count_by is_some (carried s r number event d).core.window.places ≡ count_by is_some s.window.places
 carried_counted s r number event Void fits numbered = absurd (false≢true (sym numbered ∙ (missing_parts s r fits).0))
 carried_counted s r number event (Enter unit) fits numbered = grind arith
 carried_counted s r number event (Empty unit sn) fits numbered = let g = emptied_changes s.window sn in omega (arith, g.counted)

@@ -8,7 +8,7 @@ use Rattle.iscsi_wire.specs.Serial.{wire}
 use Rattle.iscsi_window.specs.Windows.{holds_from}
 use Rattle.iscsi_history.specs.declared.effect.Effect.TheVariants.{Empty}
 use Rattle.iscsi_session.specs.private.Standing.{is_held, is_place_known}
-use Rattle.iscsi_session.specs.private.Closing.{emptied_place, emptied_from, is_clear_below}
+use Rattle.iscsi_session.specs.private.Steps.{emptied_place, emptied_from, is_clear_below}
 use Rattle.iscsi_history.proofs.BoolLemmas.{and_parts}
 
 -- the first place that is concerned is given up, and what is left to do after it: the first place stands for number n

@@ -15,7 +15,7 @@ use Rattle.iscsi_history.specs.rules.Execution.{exp_of}
 use Rattle.iscsi_history.specs.promises.Executed.{delivers, request_at}
 use Rattle.iscsi_history.specs.rules.Logout.{all_held}
 use Rattle.iscsi_session.specs.private.Standing.{place_of, WindowAgrees}
-use Rattle.iscsi_session.specs.private.Closing.{emptied_place, emptied_from}
+use Rattle.iscsi_session.specs.private.Steps.{emptied_place, emptied_from}
 use Rattle.iscsi_history.proofs.HeldLemmas.{held-number, unreceived_unheld}
 use Rattle.iscsi_history.proofs.DeliveryLemmas.{IsQuiet, same_range}
 use Rattle.iscsi_history.proofs.EmptyingMarks.{EmptiesThese, SameNumbers, empties-these, held_from, held_from-none, held_from-parts, is_number_of, joined-same}

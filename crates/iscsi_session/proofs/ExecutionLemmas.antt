@@ -1,6 +1,5 @@
 -- A request executes: it is answered, a command enters, or nothing more happens.
 use Rattle.std.proofs.Common.{◌≡◌, ℕ, ◌+◌, ◌<◌, not, cond, Bool, true, false, List, [], ◌∷◌, length, map, count_by, get_or, None, refl, ap, sym, ◌∙◌, arith}
-use Rattle.std.specs.List.{list_all}
 use Rattle.std.proofs.lemmas.Bool.{cond_both, lt-ltb}
 use Rattle.std.proofs.lemmas.List.{append-nil, length-map}
 use Rattle.iscsi_wire.specs.declared.request.Request.{Request}
@@ -12,11 +11,9 @@ use Rattle.iscsi_history.specs.declared.effect.Effect.{Effect}
 use Rattle.iscsi_history.specs.rules.Settings.{Setting, is_known}
 use Rattle.iscsi_history.specs.rules.Trace.{Arrival, Command, Mark, Enters, Sends, Trace, waiting, waiting_by, enters, leaves_ticket, sent_on, entered, live, live_in}
 use Rattle.iscsi_history.specs.rules.Execution.{unfinished, is_crowded, is_full, reply_on, next_command}
-use Rattle.iscsi_history.specs.rules.Management.{may_wait}
 use Rattle.iscsi_history.specs.rules.Run.{effects_of_mark, effects_of_item}
-use Rattle.iscsi_session.specs.private.Standing.{open_of, Core, kept, is_regular, task_of, member_of, WindowAgrees, RepliesAgree, CommandsAgree, SetsAgree, arrival_waiting, Agrees}
-use Rattle.iscsi_history.specs.promises.Enabling.{EnabledSoFar}
-use Rattle.iscsi_session.specs.private.Steps.{new_live, new_task, number_by, event_by, started, is_immediate_on, is_crowded_by, is_set_full, count_reply, with_command, entry_effects, with_reply, reply_effects}
+use Rattle.iscsi_session.specs.private.Standing.{Core, kept, is_regular, task_of, member_of, WindowAgrees, RepliesAgree, SetsAgree, WaitingAgrees, Agrees}
+use Rattle.iscsi_session.specs.private.Steps.{count_reply, Step, unchanged, after_effect, is_set_full, is_immediate_on, is_crowded_by, replied, new_live, number_by, event_by, new_task, started, command_entered}
 use Rattle.iscsi_history.proofs.BoolLemmas.{and_both}
 use Rattle.iscsi_session.proofs.OpenConns.{open_of-same}
 use Rattle.iscsi_history.proofs.ListLemmas.{count_by-map, count_by-push}
@@ -25,11 +22,11 @@ use Rattle.iscsi_session.proofs.WindowParts.{Turned, WindowAgrees-started}
 use Rattle.iscsi_session.proofs.ReplyParts.{RepliesAgree-quiet, RepliesAgree-sent}
 use Rattle.iscsi_history.proofs.NewlyLemmas.{never_free, Untouched, newly-untouched}
 use Rattle.iscsi_session.proofs.EnablingLemmas.{EnabledSoFar-entered}
-use Rattle.iscsi_session.proofs.CommandParts.{CommandsAgree-untouched, live-entered, CommandsAgree-entered}
-use Rattle.iscsi_session.proofs.SetParts.{SetsAgree-untouched, SetEntry, SetsAgree-entered}
+use Rattle.iscsi_session.proofs.CommandParts.{live-entered, CommandsAgree-entered}
+use Rattle.iscsi_session.proofs.AgreeLemmas.{Lasting, Agrees-untouched}
+use Rattle.iscsi_session.proofs.SetParts.{SetEntry, SetsAgree-entered}
 use Rattle.iscsi_history.proofs.ClosingItems.{ClosesNone, closes-more}
-use Rattle.iscsi_history.proofs.EnabledItems.{EnabledSoFar-untouched}
-use Rattle.iscsi_history.proofs.CommandItems.{EntersOne, unfinished-untouched}
+use Rattle.iscsi_history.proofs.CommandItems.{EntersOne}
 use Rattle.iscsi_history.proofs.EmptyingMarks.{quiet_none, quiet_sends, quiet_enters}
 
 -- what the session says is what the definitions say
@@ -46,30 +43,22 @@ unfinished-started w r = grind arith
 
 -- a request begins to execute. This is kept by then, and its item begins with this mark and this effect
 pub record Begun (o : Setting) (s : Core) (t : Trace) (m : Mark) (e : Effect) (a : Arrival) : Type 0 where
-  pub events : s.events ≡ o.events
+  pub lasts : Lasting o s t
   pub window : (ms : List Mark) → IsQuiet ms → WindowAgrees o s.window ((m ∷ ms) ∷ t)
   pub room : is_immediate a.request ≡ false → (ms : List Mark) → IsQuiet ms → Turned o s.window ((m ∷ ms) ∷ t)
   pub replies : RepliesAgree o s.conns t
-  pub commands : CommandsAgree o s.live s.entered t
-  pub sets : SetsAgree o s.sets t
-  pub unfinished_is : s.window.unfinished ≡ unfinished t
-  pub enabled : EnabledSoFar o t
   pub known : is_known (connection_of a.request) o.conns ≡ true
   pub first : s.window.first ≡ o.first
-  pub level : s.level ≡ o.level
-  pub waiting : waiting_by m (waiting t) ≡ map (arrival_waiting o.first) s.waiting
-  pub may : list_all (λ w. may_wait w.request) s.waiting ≡ true
-  pub waiting_known : list_all (λ w. is_known (connection_of w.request) o.conns) s.waiting ≡ true
+  pub waits : WaitingAgrees o s.waiting ((m ∷ []) ∷ t)
   pub enters_no : enters m ≡ None
   pub leaves_no : (k : ℕ) → leaves_ticket k m ≡ false
   pub sends_no : sent_on m ≡ None
   pub closes_no : ClosesNone (m ∷ [])
-  pub open_is : s.open_conns ≡ open_of o t
   pub shows : effects_of_mark o t m ≡ e ∷ []
 
--- the session that an item leads to, and its effects
-abbrev pub Follows : Setting → Trace → List Mark → Core → List Effect → Type 0
-Follows o t item s es = Agrees o s (item ∷ t) × (es ≡ effects_of_item o t item)
+-- what an item leads to
+abbrev pub Follows : Setting → Trace → List Mark → Step → Type 0
+Follows o t item x = Agrees o x.core (item ∷ t) × (x.effects ≡ effects_of_item o t item)
 
 module _ (o : Setting) (s : Core) (t : Trace) (m : Mark) (e : Effect) (a : Arrival) (b : Begun o s t m e a) where
   pub untouched-begun : (ms : List Mark) → Untouched ms → Untouched (m ∷ ms)
@@ -79,22 +68,10 @@ module _ (o : Setting) (s : Core) (t : Trace) (m : Mark) (e : Effect) (a : Arriv
   begun-untouched : (ms : List Mark) (conns : List (ℕ × ℕ)) → IsQuiet ms → Untouched ms → ClosesNone ms → RepliesAgree o conns ((m ∷ ms) ∷ t) → waiting ((m ∷ ms) ∷ t) ≡ waiting_by m (waiting t)
       → Agrees o (record s { conns = conns }) ((m ∷ ms) ∷ t)
   begun-untouched ms conns q none closes_none replies waits =
-      let u : Untouched (m ∷ ms) = untouched-begun ms none in
-      record {
-        events = b.events;
-        window = b.window ms q;
-        replies = replies;
-        commands = CommandsAgree-untouched o s.live s.entered t (m ∷ ms) u b.commands;
-        sets = SetsAgree-untouched o s.sets t (m ∷ ms) u b.sets;
-        unfinished = b.unfinished_is ∙ sym (unfinished-untouched (m ∷ ms) t u);
-        enabled = EnabledSoFar-untouched o (m ∷ ms) t u b.enabled;
-        level = b.level;
-        waiting = record { list = waits ∙ b.waiting; may = b.may; known = b.waiting_known };
-        open_conns = b.open_is ∙ sym (open_of-same o (m ∷ ms) t (closes-more m ms b.closes_no closes_none));
-      }
+      Agrees-untouched o s t (m ∷ ms) s.window conns s.waiting (untouched-begun ms none) (closes-more m ms b.closes_no closes_none) b.lasts refl (b.window ms q) replies (record { list = waits ∙ b.waits.list; may = b.waits.may; known = b.waits.known })
 
   -- nothing more happens
-  pub nothing_more : Follows o t (m ∷ []) s (e ∷ [])
+  pub nothing_more : Follows o t (m ∷ []) (after_effect e (unchanged s))
   nothing_more =
       let none : Untouched [] = record { enters_none = refl; leaves_no = λ k. refl } in (
         begun-untouched [] s.conns quiet_none none (record { session = refl; conns = λ k. refl }) (RepliesAgree-quiet o s.conns t (m ∷ []) (cc b.sends_no) b.replies) refl,
@@ -102,7 +79,7 @@ module _ (o : Setting) (s : Core) (t : Trace) (m : Mark) (e : Effect) (a : Arriv
       )
 
   -- a reply goes out
-  pub answered : (reply : Reply) → Follows o t (m ∷ reply_on a reply) (with_reply s (connection_of a.request)) (e ∷ reply_effects s (connection_of a.request) reply)
+  pub answered : (reply : Reply) → Follows o t (m ∷ reply_on a reply) (after_effect e (replied s (connection_of a.request) reply))
   answered reply =
       let conn : ℕ = connection_of a.request in
       let sends : List Mark = Sends conn reply ∷ [] in
@@ -113,32 +90,32 @@ module _ (o : Setting) (s : Core) (t : Trace) (m : Mark) (e : Effect) (a : Arriv
 
   -- a command enters
   pub enters_unit : number_by s a.request ≡ a.number → event_by s a.request ≡ cond (is_immediate a.request) a.event 0 → (unit : ℕ) → unit < o.units
-      → Follows o t (m ∷ Enters (next_command ((m ∷ []) ∷ t) a unit) ∷ []) (with_command s a.request unit) (e ∷ entry_effects s a.request unit)
+      → Follows o t (m ∷ Enters (next_command ((m ∷ []) ∷ t) a unit) ∷ []) (after_effect e (command_entered s a.request unit))
   enters_unit number_is event_is unit inside =
       let c : Command = next_command ((m ∷ []) ∷ t) a unit in
       let ms : List Mark = Enters c ∷ [] in
       let item : List Mark = m ∷ ms in
       let q : IsQuiet ms = quiet_enters c in
       let entered_is : length (entered ((m ∷ []) ∷ t)) ≡ length (entered t) = cc (b.enters_no, append-nil (entered t)) in
-      let count : s.entered ≡ length (entered ((m ∷ []) ∷ t)) = b.commands.count_is ∙ sym entered_is in
+      let count : s.entered ≡ length (entered ((m ∷ []) ∷ t)) = b.lasts.commands.count_is ∙ sym entered_is in
       let en : EntersOne item t c = record { one = cc b.enters_no; leaves_no = λ k. cc (b.leaves_no k); ticket = omega (arith, entered_is) } in
       let task_is : new_task s a.request ≡ task_of o c = cc (count, number_is, b.first, event_is) in
       let live_is : new_live s a.request unit ≡ kept c = cc count in
-      let entry : SetEntry o s.sets t item c (new_task s a.request) = SetsAgree-entered o s.live s.entered s.sets t item c (new_task s a.request) b.commands b.sets en inside task_is in
+      let entry : SetEntry o s.sets t item c (new_task s a.request) = SetsAgree-entered o s.live s.entered s.sets t item c (new_task s a.request) b.lasts.commands b.lasts.sets en inside task_is in
       let regular : is_regular o c ≡ true = and_both _ _ (lt-ltb unit o.units inside) b.known in
       let numbered : Command → Bool = λ d. not (is_immediate d.arrival.request) in
-      let lives : unfinished (item ∷ t) ≡ unfinished t + cond (numbered c) 1 0 = ap (count_by numbered) (live-entered o s.live s.entered item t c b.commands en) ∙ count_by-push numbered (live t) c in (
+      let lives : unfinished (item ∷ t) ≡ unfinished t + cond (numbered c) 1 0 = ap (count_by numbered) (live-entered o s.live s.entered item t c b.lasts.commands en) ∙ count_by-push numbered (live t) c in (
         record {
-          events = b.events;
+          events = b.lasts.events;
           window = cond_both (is_immediate a.request) _ _ (λ v. WindowAgrees o v (item ∷ t)) (λ is. b.window ms q) (λ is. WindowAgrees-started o s.window (item ∷ t) (b.room is ms q));
           replies = RepliesAgree-quiet o s.conns t item (cc b.sends_no) b.replies;
-          commands = rw live_is (CommandsAgree-entered o s.live s.entered t item c b.commands en regular);
+          commands = rw live_is (CommandsAgree-entered o s.live s.entered t item c b.lasts.commands en regular);
           sets = entry.agrees;
-          unfinished = unfinished-started s.window a.request ∙ ap (λ n. n + cond (not (is_immediate a.request)) 1 0) b.unfinished_is ∙ sym lives;
-          enabled = EnabledSoFar-entered o s.live s.entered item t c b.commands en inside (never_free c t (b.commands.fresh c.ticket (omega (arith, en.ticket)))) b.enabled;
-          level = b.level;
-          waiting = record { list = b.waiting; may = b.may; known = b.waiting_known };
-          open_conns = b.open_is ∙ sym (open_of-same o item t (closes-more m ms b.closes_no (record { session = refl; conns = λ k. refl })));
+          unfinished = unfinished-started s.window a.request ∙ ap (λ n. n + cond (not (is_immediate a.request)) 1 0) b.lasts.unfinished_is ∙ sym lives;
+          enabled = EnabledSoFar-entered o s.live s.entered item t c b.lasts.commands en inside (never_free c t (b.lasts.commands.fresh c.ticket (omega (arith, en.ticket)))) b.lasts.enabled;
+          level = b.lasts.level;
+          waiting = record { list = b.waits.list; may = b.waits.may; known = b.waits.known };
+          open_conns = b.lasts.open_is ∙ sym (open_of-same o item t (closes-more m ms b.closes_no (record { session = refl; conns = λ k. refl })));
         },
         cc (entry.effects, count, b.shows),
       )

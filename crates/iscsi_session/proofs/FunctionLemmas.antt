@@ -20,9 +20,8 @@ use Rattle.iscsi_history.specs.rules.Settings.{Setting, is_known}
 use Rattle.iscsi_history.specs.rules.Trace.{Arrival, Command, Mark, Executes, Delivers, Voids, Empties, Waits, Leaves, Trace, admits_at, contains, is_received, held, waiting, waiting_by, waiting_through, live, live_in, sent_on}
 use Rattle.iscsi_history.specs.rules.Agenda.{arrival_of}
 use Rattle.iscsi_history.specs.rules.Items.{execution, waiting_item, immediate_item, item_of, function_item}
-use Rattle.iscsi_history.specs.rules.Run.{effects_of_mark, effects_of_item}
+use Rattle.iscsi_history.specs.rules.Run.{effects_of_mark}
 use Rattle.iscsi_session.specs.private.Standing.{Core, kept, task_of, WindowAgrees, CommandsAgree, arrival_waiting, WaitingAgrees, Agrees, Settled}
-use Rattle.iscsi_session.proofs.OpenConns.{open_of-same}
 use Rattle.iscsi_history.proofs.BoolLemmas.{and_parts}
 use Rattle.iscsi_history.proofs.ListLemmas.{count_by-map, list_all-filter, find-passes, find-found, filter-map}
 use Rattle.iscsi_history.proofs.TraceLemmas.{filter-same}
@@ -31,12 +30,9 @@ use Rattle.iscsi_history.proofs.HeldLemmas.{held-number, admitted_of_held}
 use Rattle.iscsi_session.proofs.WindowParts.{Next, turned_window, WindowAgrees-quiet}
 use Rattle.iscsi_history.proofs.NewlyLemmas.{Untouched, live_in-untouched, newly-untouched}
 use Rattle.iscsi_session.proofs.ReplyParts.{RepliesAgree-sent}
-use Rattle.iscsi_session.proofs.SetParts.{SetsAgree-untouched}
-use Rattle.iscsi_session.proofs.AgreeLemmas.{settled_expected, settled_max}
+use Rattle.iscsi_session.proofs.AgreeLemmas.{settled_expected, settled_max, Agrees-untouched, Agrees-waits}
 use Rattle.iscsi_history.proofs.ClosingItems.{ClosesNone, closes-more}
 use Rattle.iscsi_history.proofs.ReceivedItems.{no_abort_task, may_immediate}
-use Rattle.iscsi_history.proofs.EnabledItems.{EnabledSoFar-untouched}
-use Rattle.iscsi_history.proofs.CommandItems.{unfinished-untouched}
 use Rattle.iscsi_history.proofs.NumberLemmas.{position_eq, position_lt, wire-lift}
 use Rattle.iscsi_history.proofs.EmptyingMarks.{quiet_executes}
 use Rattle.iscsi_session.proofs.LeavingLemmas.{covered_in, leaving-item}
@@ -51,18 +47,15 @@ use Rattle.iscsi_history.specs.declared.deed.Deed.TheVariants.{Nothing, Wait, Re
 use Rattle.iscsi_history.specs.rules.Execution.{exp_of, max_of, reply_of, unit_named}
 use Rattle.iscsi_history.specs.rules.Management.{may_wait, waiting_on, answer, is_before, live_with_tag, held_command, refusal}
 use Rattle.iscsi_history.specs.rules.Deeds.{function_deed, if_found, deed_marks}
-use Rattle.iscsi_session.specs.private.Functions.{covers_ticket, response_effects}
-use Rattle.iscsi_session.specs.private.Steps.{with_reply, number_by, event_by, waiting_in}
-use Rattle.iscsi_session.specs.private.Deeds.{live_by, facts_by, deed_by, refusal_by, waits_by, arrival_by, Fits, carried, carried_effects}
-use Rattle.iscsi_session.specs.private.Turning.{position_by, next_position, without_waiting, waited_by, with_executed, executed_effects, next_waiting, function_if, function_effects, immediate_as, immediate_effects}
+use Rattle.iscsi_session.specs.private.Steps.{count_reply, and_then, after_effect, waiting_in, request_answered, number_by, event_by, covers_ticket}
+use Rattle.iscsi_session.specs.private.Deeds.{refusal_by, live_by, facts_by, deed_by, waits_by, arrival_by, Fits, position_by, carried, executed, turn_of, next_waiting, without_waiting, next_position, function_taken, immediate_taken}
 use Rattle.iscsi_history.proofs.ApartLemmas.{apart-filter}
 use Rattle.iscsi_history.proofs.CommandItems.{ticket_alone}
 use Rattle.iscsi_history.proofs.DeedTable.{never_waits}
-use Rattle.iscsi_session.proofs.CommandParts.{CommandsAgree-untouched}
 use Rattle.iscsi_session.proofs.FindLemmas.{tagged_in-is}
 use Rattle.iscsi_session.proofs.LogoutItem.{session_ends, conn_closes}
 use Rattle.iscsi_session.proofs.ExecutionLemmas.{Begun, Follows, nothing_more, answered, enters_unit, untouched-begun}
-use Rattle.iscsi_session.proofs.AbortParts.{Found, numbered_deed, Found-arrived, Found-turned, Agrees-waits}
+use Rattle.iscsi_session.proofs.AbortParts.{Found, numbered_deed, Found-arrived, Found-turned}
 use Rattle.iscsi_session.proofs.AlikeLemmas.{commands, deed_is, function_is}
 use Rattle.iscsi_session.proofs.DeedLemmas.{fits_deed, fits_function, is_of_number, missing_parts, is_whole, whole_function}
 use Rattle.iscsi_session.proofs.PaceLemmas.{immediate_is}
@@ -102,7 +95,7 @@ module _ (o : Setting) (s : Core) (t : Trace) (m : Mark) (e : Effect) (a : Arriv
 
   -- the number of a place is taken out of the window or put into it, and the function is answered
   windowed : (k : ℕ) (x : Mark) → Windowed o s t m → WindowAgrees o (with_place s.window k (Some None)) ((m ∷ x ∷ answer a 0) ∷ t) → IsMute a x
-      → Follows o t (m ∷ x ∷ answer a 0) (with_reply (record s { window = with_place s.window k (Some None) }) (connection_of a.request)) (e ∷ (effects_of_mark o t x ++ response_effects s a.request 0))
+      → Follows o t (m ∷ x ∷ answer a 0) (after_effect e (and_then (record { core = record s { window = with_place s.window k (Some None) }; effects = effects_of_mark o t x }) (λ s'. request_answered s' a.request (Respond 0))))
   windowed k x before window mute =
       let conn : ℕ = connection_of a.request in
       let ms : List Mark = x ∷ answer a 0 in
@@ -110,28 +103,18 @@ module _ (o : Setting) (s : Core) (t : Trace) (m : Mark) (e : Effect) (a : Arriv
       let long : length (set s.window.places k (Some None)) ≡ length s.window.places = length-set s.window.places k (Some None) in
       let u : Untouched item = untouched-begun o s t m e a b ms mute.untouched in
       let admits : (n : ℕ) → filter_map (admits_at n) item ≡ [] = λ n. filter_map-append (admits_at n) (m ∷ []) ms ∙ rw (before.quiet.admits n) (mute.admits n) in (
-        record {
-          events = b.events;
-          window = window;
-          replies = RepliesAgree-sent o s.conns t item conn (rw b.sends_no mute.sends) b.known b.replies;
-          commands = CommandsAgree-untouched o s.live s.entered t item u b.commands;
-          sets = SetsAgree-untouched o s.sets t item u b.sets;
-          unfinished = b.unfinished_is ∙ sym (unfinished-untouched item t u);
-          enabled = EnabledSoFar-untouched o item t u b.enabled;
-          level = b.level;
-          waiting = record { list = mute.waits (waiting_by m (waiting t)) ∙ b.waiting; may = b.may; known = b.waiting_known };
-          open_conns = b.open_is ∙ sym (open_of-same o item t (closes-more m ms b.closes_no mute.closes));
-        },
+        Agrees-untouched o s t item (with_place s.window k (Some None)) (count_reply conn s.conns) s.waiting u (closes-more m ms b.closes_no mute.closes) b.lasts refl window (RepliesAgree-sent o s.conns t item conn (rw b.sends_no mute.sends) b.known b.replies)
+            (record { list = mute.waits (waiting_by m (waiting t)) ∙ b.waits.list; may = b.waits.may; known = b.waits.known }),
         rw (newly-untouched o t item u, append-nil (flat_map (effects_of_mark o t) item), b.shows, b.replies.stat_sns conn b.known),
       )
 
   -- ---- what it does
 
   abbrev Does : ℤ → ℕ → Deed → Type 0
-  Does position event d = Follows o t (m ∷ deed_marks o t' a d) (carried s a.request position event d) (e ∷ carried_effects s a.request position event d)
+  Does position event d = Follows o t (m ∷ deed_marks o t' a d) (after_effect e (carried s a.request position event d))
 
   void_number : (position : ℤ) (event : ℕ) → Fits s a.request Void → Found o s t' a → Windowed o s t m → Does position event Void
-  void_number position event fits x before = subst (λ ms. Follows o t (m ∷ ms) (carried s a.request position event Void) (e ∷ carried_effects s a.request position event Void)) (sym marks) (by_known (is_received t n) refl)
+  void_number position event fits x before = subst (λ ms. Follows o t (m ∷ ms) (after_effect e (carried s a.request position event Void))) (sym marks) (by_known (is_received t n) refl)
     where
       marks : deed_marks o t' a Void ≡ cond (is_received t' n) [] (Voids n ∷ []) ++ answer a 0
       marks = ap (λ k. cond (is_received t' (lift k (ref_cmd_sn a.request))) [] (Voids (lift k (ref_cmd_sn a.request)) ∷ []) ++ answer a 0) (x.expected_is (missing_parts s a.request fits).0)
@@ -146,17 +129,17 @@ module _ (o : Setting) (s : Core) (t : Trace) (m : Mark) (e : Effect) (a : Arriv
       v = voided_at o s.window t (ref_cmd_sn a.request) n before.window bounds.0 bounds.1 refl
 
       by_known : (b : Bool) → is_received t n ≡ b
-          → Follows o t (m ∷ (cond (is_received t' n) [] (Voids n ∷ []) ++ answer a 0)) (carried s a.request position event Void) (e ∷ carried_effects s a.request position event Void)
+          → Follows o t (m ∷ (cond (is_received t' n) [] (Voids n ∷ []) ++ answer a 0)) (after_effect e (carried s a.request position event Void))
       by_known true there = rw (v.known there, v.received_is, same, there) (answered o s t m e a b (TaskReply (itt a.request) 0))
       by_known false gone = rw (v.new gone, v.received_is, same, gone, ← wire-lift (number_expected s.window) (ref_cmd_sn a.request))
           (windowed (n - number_expected s.window) (Voids n) before (WindowAgrees-voided o s.window t m n (answer a 0) before.window before.quiet quiet_answer bounds.0 bounds.1 gone) (search))
 
   empty_number : (position : ℤ) (event unit sn : ℕ) → Fits s a.request (Empty unit sn) → Found o s t' a → Windowed o s t m → Does position event (Empty unit sn)
-  empty_number position event unit sn fits x before = by_found (held_command o t' (rtt a.request) unit a.number) (find_held s.window (rtt a.request) unit (cmd_sn a.request)) refl refl (x.held_same unit (omega (arith, fits.0, b.sets.units)))
+  empty_number position event unit sn fits x before = by_found (held_command o t' (rtt a.request) unit a.number) (find_held s.window (rtt a.request) unit (cmd_sn a.request)) refl refl (x.held_same unit (omega (arith, fits.0, b.lasts.sets.units)))
     where
       by_found : (y : Option Arrival) (k : Option ℕ) → held_command o t' (rtt a.request) unit a.number ≡ y → find_held s.window (rtt a.request) unit (cmd_sn a.request) ≡ k
           → option_map (λ (h : Arrival). h.number) y ≡ option_map (λ i. number_expected s.window + i) k
-          → Follows o t (m ∷ (if_found Empties y ++ answer a 0)) (carried s a.request position event (Empty unit sn)) (e ∷ carried_effects s a.request position event (Empty unit sn))
+          → Follows o t (m ∷ (if_found Empties y ++ answer a 0)) (after_effect e (carried s a.request position event (Empty unit sn)))
       by_found y None is at same = absurd (let none : None ≡ Some sn = sym (ap (option_map (number_shown s.window)) at) ∙ fits.1 in cc)
       by_found None (Some k) is at same = absurd cc
       by_found (Some h) (Some k) is at same =
@@ -178,13 +161,13 @@ module _ (o : Setting) (s : Core) (t : Trace) (m : Mark) (e : Effect) (a : Arriv
       lives = ap (option_map (λ (l : Live). l.ticket)) (tagged_in-is s t' (rtt a.request) unit here.commands)
 
       by_live : (x : Option Command) → live_with_tag t' (rtt a.request) unit ≡ x
-          → Follows o t (m ∷ (if_found Leaves x ++ answer a 0)) (carried s a.request position event (Abort unit ticket)) (e ∷ carried_effects s a.request position event (Abort unit ticket))
+          → Follows o t (m ∷ (if_found Leaves x ++ answer a 0)) (after_effect e (carried s a.request position event (Abort unit ticket)))
       by_live None is = absurd (let none : None ≡ Some ticket = sym (lives ∙ ap (λ y. option_map (λ (l : Live). l.ticket) (option_map kept y)) is) ∙ fits.1 in cc)
       by_live (Some c) is =
           let ticket_is : c.ticket ≡ ticket = let z : Some c.ticket ≡ Some ticket = sym (lives ∙ ap (λ y. option_map (λ (l : Live). l.ticket) (option_map kept y)) is) ∙ fits.1 in cc in
           let one = (ticket_alone (λ d. itt d.arrival.request == rtt a.request) (live_in unit t') c (apart-filter (λ d. d.unit == unit) (live t') here.apart) is).0 in
           let gone : covered_in o t unit (covers_ticket ticket) ≡ c ∷ [] = rw (← ticket_is, ← same_live o s t m e a b unit) one in
-          rw gone at (leaving-item o s t m e a b unit (omega (arith, fits.0, b.sets.units)) (covers_ticket ticket))
+          rw gone at (leaving-item o s t m e a b unit (omega (arith, fits.0, b.lasts.sets.units)) (covers_ticket ticket))
 
   -- what is known where a request does this
   abbrev Meets : Deed → Type 0
@@ -197,17 +180,17 @@ module _ (o : Setting) (s : Core) (t : Trace) (m : Mark) (e : Effect) (a : Arriv
   does position event position_is event_is Nothing fits k = nothing_more o s t m e a b
   does position event position_is event_is Wait fits k = nothing_more o s t m e a b
   does position event position_is event_is (Reply x) fits k = answered o s t m e a b (reply_of a.request x)
-  does position event position_is event_is (Enter unit) fits k = enters_unit o s t m e a b k.0 k.1 unit (omega (arith, fits.inside, b.sets.units))
+  does position event position_is event_is (Enter unit) fits k = enters_unit o s t m e a b k.0 k.1 unit (omega (arith, fits.inside, b.lasts.sets.units))
   does position event position_is event_is Void fits k = void_number position event fits k.0 k.1
   does position event position_is event_is (Empty unit sn) fits k = empty_number position event unit sn fits k.0 k.1
   does position event position_is event_is (Abort unit ticket) fits k = abort_one position event unit ticket fits
   does position event position_is event_is (AbortEarlier unit) fits k =
-      let inside : unit < o.units = omega (arith, fits, b.sets.units) in
+      let inside : unit < o.units = omega (arith, fits, b.lasts.sets.units) in
       let before : filter (is_before a) (live_in unit t') ≡ covered_in o t unit (is_covered (Below position event)) =
       rw (position_is, event_is, same_live o s t m e a b unit) (filter-same (is_before a) (λ c. is_covered (Below (pos a.number -ℤ pos (number_of_first o.first)) a.event) (task_of o c)) (live_in unit t) (λ c. sym (covers_before o a c))) in
       rw before (leaving-item o s t m e a b unit inside (is_covered (Below position event)))
   does position event position_is event_is (AbortAll unit) fits k =
-      rw (same_live o s t m e a b unit) (leaving-item o s t m e a b unit (omega (arith, fits, b.sets.units)) (is_covered AllOfThem))
+      rw (same_live o s t m e a b unit) (leaving-item o s t m e a b unit (omega (arith, fits, b.lasts.sets.units)) (is_covered AllOfThem))
   does position event position_is event_is (CloseConn closing) fits k = conn_closes o s t m e a b closing
   does position event position_is event_is CloseSession fits k = session_ends o s t m e a b
 
@@ -224,17 +207,17 @@ position_of o s a first number = rw (number, first)
 
 -- a request of any kind executes
 executes : (o : Setting) (s : Core) (t : Trace) (m : Mark) (e : Effect) (a : Arrival) (event : ℕ) → Begun o s t m e a → number_by s a.request ≡ a.number → event_by s a.request ≡ cond (is_immediate a.request) a.event 0 → event ≡ a.event → Found o s ((m ∷ []) ∷ t) a
-    → (is_of_number (deed_by s a.request) ≡ true → Windowed o s t m) → Follows o t (execution o t m a) (with_executed s a.request event) (e ∷ executed_effects s a.request event)
+    → (is_of_number (deed_by s a.request) ≡ true → Windowed o s t m) → Follows o t (execution o t m a) (after_effect e (executed s a.request event))
 executes o s t m e a event b number_is event_is now x w =
     let d : Deed = deed_by s a.request in
     let done = does o s t m e a b (position_by s a.request) event (position_of o s a b.first number_is) now d (fits_deed s a.request) (meets o s t m e a b number_is event_is x d w) in
     let is : execution o t m a ≡ m ∷ deed_marks o ((m ∷ []) ∷ t) a d = ap (λ d. m ∷ deed_marks o ((m ∷ []) ∷ t) a d) (deed_is o s t m e a b (λ one. x)) in
-    subst (λ item. Follows o t item (with_executed s a.request event) (e ∷ executed_effects s a.request event)) (sym is) done
+    subst (λ item. Follows o t item (after_effect e (executed s a.request event))) (sym is) done
 
 -- ---- at its turn
 
 pub turned-item : (o : Setting) (s : Core) (t : Trace) (r : HeldRequest) → Agrees o s t → at_place s.window 0 ≡ Some (Some r) → (x : Next s.window t r)
-    → Agrees o (with_executed (turned_core s) r.request r.event) (item_of o t x.arrival ∷ t) × (Deliver r.request ∷ executed_effects (turned_core s) r.request r.event ≡ effects_of_item o t (item_of o t x.arrival))
+    → Follows o t (item_of o t x.arrival) (turn_of (turned_core s) (Some r))
 turned-item o s t r h place x =
     let a : Arrival = x.arrival in
     let b = turn-begun o s t r h place x in
@@ -243,7 +226,7 @@ turned-item o s t r h place x =
     let shows = h.window.numbers (number_expected s.window) a (admitted_of_held t (number_expected s.window) a x.held_is) ∙ ap wire (sym number) in
     let next : a.number + 1 ≡ number_expected (turned_window s.window) = omega (arith, number) in
     let never = numbered_deed (turned_core s) a.request a.number (deed_by (turned_core s) a.request) (numbered_held o s t r h x) next shows (fits_deed (turned_core s) a.request) in
-    subst (λ (q : HeldRequest). Follows o t (item_of o t a) (with_executed (turned_core s) q.request q.event) (Deliver q.request ∷ executed_effects (turned_core s) q.request q.event)) x.request_is
+    subst (λ (q : HeldRequest). Follows o t (item_of o t a) (turn_of (turned_core s) (Some q))) x.request_is
     (executes o (turned_core s) t (Delivers a) (Deliver a.request) a a.event b same (event_next o s t r h x) refl (Found-turned o s t r h place x) (λ said. absurd (false≢true (sym never ∙ said))))
 
 -- ---- an immediate request begins to execute
@@ -251,32 +234,24 @@ turned-item o s t r h place x =
 immediate_begun : (o : Setting) (s : Core) (t : Trace) (a : Arrival) (waits : List Waiting) → Agrees o s t → is_immediate a.request ≡ true → is_known (connection_of a.request) o.conns ≡ true → WaitingAgrees o waits ((Executes a ∷ []) ∷ t)
     → Begun o (record s { waiting = waits }) t (Executes a) (Immediate a.request) a
 immediate_begun o s t a waits h immediate known w = record {
-  events = h.events;
+  lasts = record { events = h.events; commands = h.commands; sets = h.sets; unfinished_is = h.unfinished; enabled = h.enabled; level = h.level; open_is = h.open_conns };
   window = λ ms q. WindowAgrees-quiet o s.window t (Executes a ∷ ms) (quiet_executes a ms q) h.window;
   room = λ no ms q. absurd (false≢true (sym no ∙ immediate));
   replies = h.replies;
-  commands = h.commands;
-  sets = h.sets;
-  unfinished_is = h.unfinished;
-  enabled = h.enabled;
   known = known;
   first = h.window.first;
-  level = h.level;
-  waiting = w.list;
-  may = w.may;
-  waiting_known = w.known;
+  waits = w;
   enters_no = refl;
   leaves_no = λ k. refl;
   sends_no = refl;
   closes_no = record { session = refl; conns = λ c. refl };
-  open_is = h.open_conns;
   shows = refl;
 }
 
 -- ---- once it has waited
 
 pub waited-item : (o : Setting) (s : Core) (t : Trace) (w : Waiting) → Agrees o s t → next_waiting s ≡ Some w
-    → Agrees o (function_if s (Some w)) (function_item o t (arrival_waiting o.first w) ∷ t) × (function_effects s (Some w) ≡ effects_of_item o t (function_item o t (arrival_waiting o.first w)))
+    → Follows o t (function_item o t (arrival_waiting o.first w)) (function_taken s (Some w))
 waited-item o s t w h found =
     let a : Arrival = arrival_waiting o.first w in
     let s' : Core = without_waiting s w in
@@ -292,11 +267,11 @@ waited-item o s t w h found =
     let turn : w.turn ≡ s.window.turned = eqb-true w.turn s.window.turned (find-found turns s.waiting w found) in
     let number : number_expected s.window ≡ a.number = omega (arith, h.window.first, turn) in
     let t' : Trace = (Executes a ∷ []) ∷ t in
-    let d : Deed = waited_by s w in
+    let d : Deed = function_deed (facts_by s' w.request) w.request in
     let done = does o s' t (Executes a) (Immediate a.request) a b (next_position s) w.event (rw (number, h.window.first)) refl d (fits_function s' w.request) (whole_meets o s' t a b d (whole_function (facts_by s' w.request) w.request may)) in
     let is : function_item o t a ≡ Executes a ∷ deed_marks o t' a d =
     ap (λ x. Executes a ∷ deed_marks o t' a x) (function_is o s' t (Executes a) (Immediate a.request) a b (λ one. absurd (false≢true (sym (no_abort_task w.request may) ∙ one)))) in
-    subst (λ item. Follows o t item (function_if s (Some w)) (function_effects s (Some w))) (sym is) done
+    subst (λ item. Follows o t item (function_taken s (Some w))) (sym is) done
   where
     whole_meets : (o : Setting) (s : Core) (t : Trace) (a : Arrival) (b : Begun o s t (Executes a) (Immediate a.request) a) (d : Deed) → is_whole d ≡ true → Meets o s t (Executes a) (Immediate a.request) a b d
     whole_meets o s t a b (Enter unit) is = absurd (false≢true is)
@@ -322,7 +297,7 @@ module _ (o : Setting) (s : Core) (index : ℕ) (t : Trace) (r : Request) (h : S
   a = arrival_of o index t r
 
   abbrev Becomes : List Mark → Deed → Type 0
-  Becomes item d = Follows o t item (immediate_as s r d) (immediate_effects s r d)
+  Becomes item d = Follows o t item (immediate_taken s r d)
 
   last : s.taken - 1 ≡ index
   last = omega (arith, taken)
@@ -341,8 +316,7 @@ module _ (o : Setting) (s : Core) (index : ℕ) (t : Trace) (r : Request) (h : S
   becomes_done d fits other =
       let now = h.agrees in
       let number : number_by s r ≡ a.number = rw (immediate, settled_expected o s t h) in
-      let is = immediate_is s r d other in
-      rw (is.0, is.1) (does o s t (Executes a) (Immediate r) a begun (position_by s r) (s.taken - 1) (position_of o s a now.window.first number) last d fits
+      rw (immediate_is s r d other) (does o s t (Executes a) (Immediate r) a begun (position_by s r) (s.taken - 1) (position_of o s a now.window.first number) last d fits
       (meets o s t (Executes a) (Immediate r) a begun number (rw (immediate, last)) found d (λ said. record { window = now.window; quiet = quiet_executes a [] (search) })))
 
   -- it executes
@@ -396,7 +370,7 @@ module _ (o : Setting) (s : Core) (index : ℕ) (t : Trace) (r : Request) (h : S
       by_tests false true true f g k = rw (far, near, many, f, g, k) (becomes_done (Reply (Reject 6)) tt (λ e. cc))
       by_tests false true false f g k = rw (far, near, many, f, g, k) (becomes_waiting may g)
 
-  pub immediate-item : Agrees o (immediate_as s r (arrival_by s r)) (immediate_item o t (arrival_of o index t r) ∷ t) × (immediate_effects s r (arrival_by s r) ≡ effects_of_item o t (immediate_item o t (arrival_of o index t r)))
+  pub immediate-item : Follows o t (immediate_item o t (arrival_of o index t r)) (immediate_taken s r (arrival_by s r))
   immediate-item = by_function (opcode r == 0x02 && may_wait r) refl
     where
       same : refusal o.level (unit_named o.units r) r ≡ refusal_by s r

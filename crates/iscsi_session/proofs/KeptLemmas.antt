@@ -1,41 +1,40 @@
 -- The live commands that a session keeps, beside its task sets.
-use Rattle.std.proofs.Common.{◌≡◌, ℕ, ◌+◌, ◌<◌, ◌≤◌, ◌==◌, ◌&&◌, not, ⊎_elim, cond, Bool, true, false, nat_lt, nat_le, List, [], ◌∷◌, ◌++◌, length, map, filter, get_or, set, Option, Some, None, refl, ap, sym, ◌∙◌, arith, length-set, eq-eqb}
+use Rattle.std.proofs.Common.{◌≡◌, ℕ, ◌+◌, ◌<◌, ◌==◌, ◌&&◌, ⊎_elim, cond, Bool, true, false, nat_lt, nat_le, List, [], ◌∷◌, ◌++◌, length, map, filter, get_or, set, Option, Some, None, refl, ap, ◌∙◌, arith, length-set, eq-eqb}
 use Rattle.std.specs.List.{list_all}
-use Rattle.std.proofs.lemmas.Bool.{cases_eq, cond_both, eqb-true, leb-true, ne_eqb}
+use Rattle.std.proofs.lemmas.Bool.{cases_eq, cond_both, leb-true}
 use Rattle.std.proofs.lemmas.Bool.Decides.{nat_tests}
-use Rattle.std.proofs.lemmas.List.{append-nil, map-append, length-map, get_or-set_same, get_or-set_other}
+use Rattle.std.proofs.lemmas.List.{append-nil, map-append, get_or-set_same, get_or-set_other}
 use Rattle.std.proofs.lemmas.List.Elements.{filter-append}
 use Rattle.std.proofs.lemmas.List.Folds.{list_all-map}
 use Rattle.std.proofs.lemmas.List.Sums.{AllPass-from_list_all}
 use Rattle.iscsi_tasks.specs.declared.task.Task.{Task}
 use Rattle.iscsi_tasks.specs.declared.member.Member.{Member}
-use Rattle.iscsi_tasks.specs.Sets.{Members, opened, entered_to, after_moment, given_by}
+use Rattle.std.specs.List.{list_any}
+use Rattle.iscsi_history.proofs.ApartLemmas.{eq_sym}
+use Rattle.iscsi_tasks.specs.Sets.{is_enabled_in, Members, opened, entered_to, after_moment, given_by}
 use Rattle.iscsi_commands.specs.declared.live.Live.{Live}
 use Rattle.iscsi_session.specs.private.Standing.{Match, are_ascending, are_within, tickets_of, tickets_in}
-use Rattle.iscsi_session.specs.private.Steps.{enabled_of, find_ticket, without_ticket, all_given, as_given, set_without}
+use Rattle.iscsi_session.specs.private.Steps.{enabled_of, covers_ticket, has_covered}
 use Rattle.iscsi_history.proofs.BoolLemmas.{and_parts, and_both}
-use Rattle.iscsi_history.proofs.ListLemmas.{list_all-filter, filter-shorter, filter-map, map-map, filter-swap}
+use Rattle.iscsi_history.proofs.ListLemmas.{list_all-filter}
 use Rattle.iscsi_history.proofs.TraceLemmas.{weaker}
 use Rattle.iscsi_session.proofs.ListLemmas.{list_all-push}
-use Rattle.iscsi_session.proofs.CountLemmas.{kept_later}
-use Rattle.iscsi_history.proofs.SetLemmas.{tickets, tickets-given_in, tickets-left, tickets-moment}
+use Rattle.iscsi_history.proofs.SetLemmas.{tickets-given_in, tickets-moment}
 
 -- ---- no call but entering and leaving changes the tickets
-
-tickets-as_given : (ms : List Member) → tickets (map as_given ms) ≡ tickets ms
-tickets-as_given ms = map-map (λ (m : Member). m.task.ticket) as_given ms
 
 tickets-entered : (s : Members) (task : Task) → tickets_of (given_by (entered_to s task)) ≡ tickets_of s ++ task.ticket ∷ []
 tickets-entered s task =
     let newcomer : Member = record { task = task; enabled = false; given = false } in
     tickets-given_in (after_moment (s.list ++ newcomer ∷ [])) ∙ tickets-moment (s.list ++ newcomer ∷ []) ∙ map-append (λ (m : Member). m.task.ticket) s.list (newcomer ∷ [])
 
--- one set has become another, and the commands of the other units are as they were
-Match-set : (sets : List Members) (lives lives' : List Live) (unit : ℕ) (new : Members) → Match sets lives → unit < length sets → tickets_of new ≡ tickets_in unit lives'
-    → ((other : ℕ) → (unit == other) ≡ false → tickets_in other lives' ≡ tickets_in other lives) → Match (set sets unit new) lives'
-Match-set sets lives lives' unit new m inside here elsewhere = λ u lt. ⊎_elim
-    (λ same. cc (get_or-set_same sets unit new (opened 0) inside))
-    (λ apart. cc (get_or-set_other sets unit u new (opened 0) apart, m u (omega (arith, length-set sets unit new)), elsewhere u (ne_eqb unit u (omega arith))))
+-- one set is another now, and the commands of the other units are as they were
+pub match_set : (sets : List Members) (lives left : List Live) (unit : ℕ) (new : Members) → unit < length sets → Match sets lives → tickets_of new ≡ tickets_in unit left
+    → ((u : ℕ) → (u == unit) ≡ false → tickets_in u left ≡ tickets_in u lives) → Match (set sets unit new) left
+match_set sets lives left unit new inside m here elsewhere = λ u lt.
+    ⊎_elim
+    (λ (same : u ≡ unit). rw (same, get_or-set_same sets unit new (opened 0) inside) here)
+    (λ other. rw (get_or-set_other sets unit u new (opened 0) other, elsewhere u (let no : (u == unit) ≡ false = grind (arith, nat_tests) in no)) (m u (omega (arith, length-set sets unit new, lt))))
     (cases_eq u unit)
 
 -- ---- a command enters
@@ -47,9 +46,9 @@ tickets_in-push unit lives l =
 pub Match-entered : (sets : List Members) (lives : List Live) (l : Live) (task : Task) → Match sets lives → l.unit < length sets → task.ticket ≡ l.ticket
     → Match (set sets l.unit (given_by (entered_to (get_or sets l.unit (opened 0)) task))) (lives ++ l ∷ [])
 Match-entered sets lives l task m inside same =
-    Match-set sets lives (lives ++ l ∷ []) l.unit (given_by (entered_to (get_or sets l.unit (opened 0)) task)) m inside
+    match_set sets lives (lives ++ l ∷ []) l.unit (given_by (entered_to (get_or sets l.unit (opened 0)) task)) inside m
     (cc (tickets-entered (get_or sets l.unit (opened 0)) task, m l.unit inside, tickets_in-push l.unit lives l, eq-eqb l.unit l.unit refl))
-    (λ other apart. cc (tickets_in-push other lives l, append-nil (tickets_in other lives)))
+    (λ other apart. cc (tickets_in-push other lives l, eq_sym l.unit other, append-nil (tickets_in other lives)))
 
 -- the ticket of a command that is kept is no later than the last one
 abbrev is_within : ℕ → ℕ → Live → Bool
@@ -83,35 +82,7 @@ newest_in sets lives n units unit m within inside = λ k d lt.
     let test = AllPass-from_list_all (λ (x : Member). nat_le x.task.ticket n) ms all k d lt in
     omega (arith, leb-true (get_or ms k d).task.ticket n test)
 
--- ---- a command leaves
-
-tickets_in-left : (k unit : ℕ) (lives : List Live) → tickets_in unit (without_ticket k lives) ≡ filter (λ t. not (t == k)) (tickets_in unit lives)
-tickets_in-left k unit lives =
-    ap (map (λ (x : Live). x.ticket)) (filter-swap (λ (x : Live). x.unit == unit) (λ (x : Live). not (x.ticket == k)) lives)
-    ∙ sym (filter-map (λ t. not (t == k)) (λ (x : Live). x.ticket) (filter (λ (x : Live). x.unit == unit) lives))
-
-tickets_in-cons : (unit : ℕ) (x : Live) (lives : List Live) → tickets_in unit (x ∷ lives) ≡ cond (x.unit == unit) (x.ticket ∷ tickets_in unit lives) (tickets_in unit lives)
-tickets_in-cons unit x lives = grind arith
-
--- the ticket is in no other unit
-other_kept : (k unit : ℕ) (lives : List Live) (l : Live) → are_ascending lives ≡ true → find_ticket k lives ≡ Some l → (l.unit == unit) ≡ false → tickets_in unit (without_ticket k lives) ≡ tickets_in unit lives
-other_kept k unit [] l up found apart = refl
-other_kept k unit (x ∷ lives) l up found apart =
-    let ups = and_parts (list_all (λ (y : Live). nat_lt x.ticket y.ticket) lives) (are_ascending lives) up in
-    let all = tickets_in-cons unit x lives in
-    elim (x.ticket == k) as (λ b. (x.ticket == k) ≡ b → cond b (Some x) (find_ticket k lives) ≡ Some l → tickets_in unit (cond (not b) (x ∷ without_ticket k lives) (without_ticket k lives)) ≡ tickets_in unit (x ∷ lives)) [
-      | true ↦ λ is here.
-          let same : x ≡ l = cc in
-          ap (tickets_in unit) (kept_later k lives (rw (eqb-true x.ticket k is) at ups.0)) ∙ sym (all ∙ ap (λ (y : Live). cond (y.unit == unit) (x.ticket ∷ tickets_in unit lives) (tickets_in unit lives)) same ∙ cc)
-      | false ↦ λ is later. tickets_in-cons unit x (without_ticket k lives) ∙ ap (λ ts. cond (x.unit == unit) (x.ticket ∷ ts) ts) (other_kept k unit lives l ups.1 later apart) ∙ sym all
-    ] refl found
-
-pub Match-left : (sets : List Members) (lives : List Live) (l : Live) → Match sets lives → are_ascending lives ≡ true → find_ticket l.ticket lives ≡ Some l → l.unit < length sets
-    → Match (set sets l.unit (all_given (set_without l sets))) (without_ticket l.ticket lives)
-Match-left sets lives l m up found inside =
-    Match-set sets lives (without_ticket l.ticket lives) l.unit (all_given (set_without l sets)) m inside
-    (cc (tickets-as_given (set_without l sets).list, tickets-left (get_or sets l.unit (opened 0)) l.ticket, m l.unit inside, tickets_in-left l.ticket l.unit lives))
-    (λ other apart. other_kept l.ticket other lives l up found apart)
+-- ---- commands leave
 
 pub ascending-kept : (p : Live → Bool) (lives : List Live) → are_ascending lives ≡ true → are_ascending (filter p lives) ≡ true
 ascending-kept p [] up = refl
@@ -119,15 +90,20 @@ ascending-kept p (x ∷ lives) up =
     let ups = and_parts _ _ up in
     cond_both (p x) _ _ (λ ls. are_ascending ls ≡ true) (λ is. and_both _ _ (list_all-filter p (λ (y : Live). nat_lt x.ticket y.ticket) lives ups.0) (ascending-kept p lives ups.1)) (λ is. ascending-kept p lives ups.1)
 
--- what a set has left is no more than the commands that are left
-pub few_left : (sets : List Members) (lives : List Live) (l : Live) → Match sets lives → l.unit < length sets → length (set_without l sets).list ≤ length (without_ticket l.ticket lives)
-few_left sets lives l m inside =
-    let left : List Member = (set_without l sets).list in
-    let here : List Live = filter (λ (x : Live). x.unit == l.unit) (without_ticket l.ticket lives) in
-    let same : tickets left ≡ map (λ (x : Live). x.ticket) here = cc (tickets-left (get_or sets l.unit (opened 0)) l.ticket, m l.unit inside, tickets_in-left l.ticket l.unit lives) in
-    omega (arith, length-map left (λ (m : Member). m.task.ticket), ap length same, length-map here (λ (x : Live). x.ticket), filter-shorter (λ (x : Live). x.unit == l.unit) (without_ticket l.ticket lives))
-
 -- the command that is enabled was found by its ticket
 pub enabled_found : (sets : List Members) (k : ℕ) (x : Option Live) (l : Live) → enabled_of sets k x ≡ Some l → x ≡ Some l
 enabled_found sets k None l h = absurd cc
 enabled_found sets k (Some y) l h = grind arith
+
+-- and is in the set of its unit
+pub enabled_covered : (sets : List Members) (k : ℕ) (x : Option Live) (l : Live) → enabled_of sets k x ≡ Some l → has_covered (covers_ticket k) (get_or sets l.unit (opened 0)) ≡ true
+enabled_covered sets k None l h = absurd cc
+enabled_covered sets k (Some y) l h = by_test (is_enabled_in k (get_or sets y.unit (opened 0)).list) refl h
+  where
+    among : (ms : List Member) → is_enabled_in k ms ≡ true → list_any (λ m. m.task.ticket == k) ms ≡ true
+    among [] is = is
+    among (m ∷ ms) is = grind (arith, among ms)
+
+    by_test : (b : Bool) → is_enabled_in k (get_or sets y.unit (opened 0)).list ≡ b → cond b (Some y) None ≡ Some l → has_covered (covers_ticket k) (get_or sets l.unit (opened 0)) ≡ true
+    by_test true is here = let same : y ≡ l = cc in rw (← same) (among (get_or sets y.unit (opened 0)).list is)
+    by_test false is here = absurd cc

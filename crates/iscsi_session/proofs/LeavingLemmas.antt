@@ -1,5 +1,6 @@
 -- Commands of a unit leave together, and the function that took them out is answered.
-use Rattle.std.proofs.Common.{◌≡◌, ℕ, ◌+◌, ◌-◌, ◌<◌, ◌≤◌, ◌==◌, ◌&&◌, not, Bool, true, false, List, [], ◌∷◌, ◌++◌, length, map, filter, count_by, get_or, set, refl, ap, sym, ◌∙◌, arith}
+use Rattle.std.proofs.Common.{◌≡◌, ℕ, ◌+◌, ◌-◌, ◌<◌, ◌≤◌, ◌==◌, ◌&&◌, not, Bool, true, false, List, [], ◌∷◌, ◌++◌, length, map, filter, count_by, get_or, set, refl, sym, ◌∙◌, arith, append_assoc}
+use Rattle.std.specs.List.{filter_map}
 use Rattle.std.proofs.lemmas.Bool.{eqb-true}
 use Rattle.std.proofs.lemmas.List.{get_or-set_same, set-set}
 use Rattle.iscsi_wire.specs.declared.reply.Reply.{Reply}
@@ -7,18 +8,16 @@ use Rattle.iscsi_wire.specs.declared.reply.Reply.TheVariants.{Task as TaskReply}
 use Rattle.iscsi_wire.specs.Fields.{connection_of, itt}
 use Rattle.iscsi_window.specs.Windows.{Arrived, with_unfinished}
 use Rattle.iscsi_tasks.specs.declared.task.Task.{Task}
-use Rattle.iscsi_tasks.specs.declared.member.Member.{Member}
 use Rattle.iscsi_tasks.specs.Sets.{Members, opened}
 use Rattle.iscsi_history.specs.declared.effect.Effect.{Effect}
-use Rattle.iscsi_history.specs.declared.effect.Effect.TheVariants.{Leave}
+use Rattle.iscsi_history.specs.declared.effect.Effect.TheVariants.{Leave, Send}
 use Rattle.iscsi_commands.specs.declared.live.Live.{Live}
-use Rattle.iscsi_history.specs.rules.Settings.{Setting}
-use Rattle.iscsi_history.specs.rules.Trace.{Arrival, Command, Mark, Leaves, Trace, waiting, waiting_by, entered, live, live_in, is_among, are_apart}
+use Rattle.iscsi_history.specs.rules.Settings.{Setting, is_known}
+use Rattle.iscsi_history.specs.rules.Trace.{Arrival, Command, Mark, Leaves, Trace, sent_on, waiting, waiting_by, entered, live, live_in, is_among, are_apart}
 use Rattle.iscsi_history.specs.rules.Execution.{unfinished, reply_on}
-use Rattle.iscsi_history.specs.rules.Run.{effects_of_item}
-use Rattle.iscsi_session.specs.private.Standing.{Core, kept, task_of, member_of, set_of, WindowAgrees, CommandsAgree, Agrees}
-use Rattle.iscsi_session.specs.private.Steps.{set_at, all_given, as_given, enable_effects, is_numbered}
-use Rattle.iscsi_session.specs.private.Functions.{is_gone, staying, set_staying, has_covered, aborted, abort_effects}
+use Rattle.iscsi_history.specs.rules.Run.{newly_enabled, stat_sn_of}
+use Rattle.iscsi_session.specs.private.Standing.{Core, kept, task_of, member_of, set_of, WindowAgrees, RepliesAgree, CommandsAgree, WaitingAgrees, Agrees}
+use Rattle.iscsi_session.specs.private.Steps.{set_staying, covered_tickets, after_effect, set_at, as_given, all_given, enable_effects, is_numbered, is_gone, staying, leave_each, has_covered, left_answered, aborted}
 use Rattle.iscsi_session.proofs.OpenConns.{open_of-same}
 use Rattle.iscsi_history.proofs.BoolLemmas.{and_parts, and_comm, alike, alike_same}
 use Rattle.iscsi_history.proofs.ListLemmas.{list_any-map, count_by-map, list_all-filter, any_filter, any_same, fewer_counted, map_all, filter-map, map-map, none_out}
@@ -28,13 +27,13 @@ use Rattle.iscsi_session.proofs.ReplyParts.{RepliesAgree-sent}
 use Rattle.iscsi_history.proofs.NewlyLemmas.{filter_all, filter-twice, is_here, all_here, new_in, new_in-none}
 use Rattle.iscsi_session.proofs.EnabledLemmas.{set_of-same, noted_given, noted_effects}
 use Rattle.iscsi_history.proofs.MomentLemmas.{enables}
-use Rattle.iscsi_history.proofs.ClosingItems.{closes-more}
+use Rattle.iscsi_history.proofs.ClosingItems.{ClosesNone, closes-more}
 use Rattle.iscsi_history.proofs.CommandItems.{LeavesSome, live_in-left, live_in-left_elsewhere, are_all_in, among_passing, leaving-calm, leaving-closes, leaving-enters, leaving-sends, leaving-shown, leaving-tickets, quiet-leaving}
 use Rattle.iscsi_history.proofs.EnabledItems.{EnabledSoFar-left, newly-one}
 use Rattle.iscsi_session.proofs.CommandParts.{CommandsAgree-left}
-use Rattle.iscsi_session.proofs.SetParts.{SetLeaving, set-changed}
-use Rattle.iscsi_session.proofs.AgreeLemmas.{units_live}
-use Rattle.iscsi_session.proofs.ExecutionLemmas.{Begun}
+use Rattle.iscsi_session.proofs.SetParts.{set-changed}
+use Rattle.iscsi_session.proofs.AgreeLemmas.{units_live, Lasting}
+use Rattle.iscsi_session.proofs.ExecutionLemmas.{Begun, Follows}
 
 -- ---- the window
 
@@ -114,20 +113,26 @@ module _ (o : Setting) (t : Trace) (old : Members) (unit : ℕ) (list_is : old.l
       (λ c h. rw (gone_tickets c.ticket, alike_same _ (q c) h))
 
   -- the effects of leaving
-  pub leaving_shown : map (λ (m : Member). Leave m.task.ticket unit) (filter (λ m. covers m.task) old.list) ≡ map (λ (c : Command). Leave c.ticket c.unit) (covered_in o t unit covers)
+  pub leaving_shown : leave_each unit (covered_tickets covers old.list) ≡ map (λ (c : Command). Leave c.ticket c.unit) (covered_in o t unit covers)
   leaving_shown =
       let here : List Command = live_in unit t in
       let q : Command → Bool = λ c. covers (task_of o c) in
-      rw (list_is, filter-map, map-map) (map_all _ _ (is_here unit here) (filter q here) (list_all-filter q (is_here unit here) here (all_here unit t))
+      simp (list_is, filter-map, map-map) (map_all _ _ (is_here unit here) (filter q here) (list_all-filter q (is_here unit here) here (all_here unit t))
       (λ c h. rw (eqb-true c.unit unit (and_parts (c.unit == unit) (is_among c.ticket here) h).0)))
 
-module _ (o : Setting) (s : Core) (t : Trace) (m : Mark) (e : Effect) (a : Arrival) (b : Begun o s t m e a) (unit : ℕ) (inside : unit < o.units) (covers : Task → Bool) where
-  abbrev item : List Mark
-  item = leaving_item o t m a unit covers
+-- covered commands of a unit leave by an item, and a reply goes out. All else is as it was
+pub record Leaving (o : Setting) (s : Core) (t : Trace) (item : List Mark) (unit : ℕ) (covers : Task → Bool) (conn : ℕ) : Type 0 where
+  pub lasts : Lasting o s t
+  pub window : WindowAgrees o s.window (item ∷ t)
+  pub replies : RepliesAgree o s.conns t
+  pub waits : WaitingAgrees o s.waiting (item ∷ t)
+  pub closes : ClosesNone item
+  pub inside : unit < o.units
+  pub known : is_known conn o.conns ≡ true
+  pub leaves : LeavesSome item (is_gone covers (set_at s unit))
+  pub sends : filter_map sent_on item ≡ conn ∷ []
 
-  abbrev reply : Reply
-  reply = TaskReply (itt a.request) 0
-
+module _ (o : Setting) (s : Core) (t : Trace) (item : List Mark) (unit : ℕ) (covers : Task → Bool) (conn : ℕ) (reply : Reply) (b : Leaving o s t item unit covers conn) where
   abbrev old : Members
   old = set_at s unit
 
@@ -141,52 +146,70 @@ module _ (o : Setting) (s : Core) (t : Trace) (m : Mark) (e : Effect) (a : Arriv
   rest = staying covers old s.live
 
   list_is : old.list ≡ set_of o t unit
-  list_is = b.sets.lists unit inside
-
-  leaves : LeavesSome item out
-  leaves = record {
-    enters_none = rw b.enters_no (leaving-enters gone a reply);
-    some = λ k. rw (b.leaves_no k, leaving-tickets gone a reply k) (sym (gone_tickets o t old unit list_is covers k));
-  }
+  list_is = b.lasts.sets.lists unit b.inside
 
   early : (k : ℕ) → length (entered t) < k → out k ≡ false
-  early k late = rw (gone_tickets o t old unit list_is covers k) (unamong-filter _ k _ (unamong-filter _ k _ (unamong-filter _ k (entered t) (b.commands.fresh k late))))
+  early k late = rw (gone_tickets o t old unit list_is covers k) (unamong-filter _ k _ (unamong-filter _ k _ (unamong-filter _ k (entered t) (b.lasts.commands.fresh k late))))
 
   commands : CommandsAgree o rest s.entered (item ∷ t)
-  commands = CommandsAgree-left o s.live s.entered t item out b.commands leaves early
+  commands = CommandsAgree-left o s.live s.entered t item out b.lasts.commands b.leaves early
 
   -- the set of the unit without those that leave
-  sets : SetLeaving o s.sets t item unit (set_staying covers old)
-  sets =
-      let left = set_left o t item unit old covers list_is (stay_in o t old unit list_is covers item leaves b.commands.apart) in
-      let elsewhere = live_in-left_elsewhere item t out unit leaves (gone_in_unit o t old unit list_is covers b.commands.apart) in
-      record {
-        agrees = set-changed o s.sets t item unit (all_given (set_staying covers old)) b.sets inside (left.depth ∙ b.sets.depths unit inside) left.given elsewhere;
-        effects = left.effects ∙ ap enables (sym (newly-one o item t unit inside elsewhere));
-      }
+  left : SetLeft o t item unit old (set_staying covers old)
+  left = set_left o t item unit old covers list_is (stay_in o t old unit list_is covers item b.leaves b.lasts.commands.apart)
+
+  elsewhere : (other : ℕ) → (other == unit) ≡ false → live_in other (item ∷ t) ≡ live_in other t
+  elsewhere = live_in-left_elsewhere item t out unit b.leaves (gone_in_unit o t old unit list_is covers b.lasts.commands.apart)
 
   left_is : get_or (set s.sets unit (set_staying covers old)) unit (opened 0) ≡ set_staying covers old
-  left_is = get_or-set_same s.sets unit (set_staying covers old) (opened 0) (omega (arith, inside, b.sets.units))
+  left_is = get_or-set_same s.sets unit (set_staying covers old) (opened 0) (omega (arith, b.inside, b.lasts.sets.units))
 
-  agrees : Agrees o (aborted s a.request unit covers) (item ∷ t)
-  agrees =
-      let fewer = fewer_counted is_numbered (λ l. not (out l.ticket)) s.live in
-      let quiet = quiet-leaving gone a reply in
-      record {
-        events = b.events;
-        window = WindowAgrees-fewer o s.window (item ∷ t) (s.window.unfinished + count_by is_numbered rest - count_by is_numbered s.live) (omega (arith, fewer)) (b.window (map Leaves gone ++ reply_on a reply) quiet);
-        replies = RepliesAgree-sent o s.conns t item (connection_of a.request) (rw b.sends_no (leaving-sends gone a reply)) b.known b.replies;
+  pub leaving-agrees : Agrees o (left_answered s unit covers conn reply).core (item ∷ t)
+  leaving-agrees =
+      let fewer = fewer_counted is_numbered (λ l. not (out l.ticket)) s.live in record {
+        events = b.lasts.events;
+        window = WindowAgrees-fewer o s.window (item ∷ t) (s.window.unfinished + count_by is_numbered rest - count_by is_numbered s.live) (omega (arith, fewer)) b.window;
+        replies = RepliesAgree-sent o s.conns t item conn b.sends b.known b.replies;
         commands = commands;
-        sets = rw (left_is, set-set) sets.agrees;
-        unfinished = omega (arith, numbered_live o s.live s.entered t b.commands, numbered_live o rest s.entered (item ∷ t) commands, b.unfinished_is);
-        enabled = EnabledSoFar-left o item t out leaves (units_live o rest s.entered (item ∷ t) commands) b.enabled;
-        level = b.level;
-        waiting = record { list = leaving-calm gone a reply (waiting_by m (waiting t)) ∙ b.waiting; may = b.may; known = b.waiting_known };
-        open_conns = b.open_is ∙ sym (open_of-same o item t (closes-more m (map Leaves gone ++ reply_on a reply) b.closes_no (leaving-closes gone a reply)));
+        sets = rw (left_is, set-set) (set-changed o s.sets t item unit (all_given (set_staying covers old)) b.lasts.sets b.inside (left.depth ∙ b.lasts.sets.depths unit b.inside) left.given elsewhere);
+        unfinished = omega (arith, numbered_live o s.live s.entered t b.lasts.commands, numbered_live o rest s.entered (item ∷ t) commands, b.lasts.unfinished_is);
+        enabled = EnabledSoFar-left o item t out b.leaves (units_live o rest s.entered (item ∷ t) commands) b.lasts.enabled;
+        level = b.lasts.level;
+        waiting = b.waits;
+        open_conns = b.lasts.open_is ∙ sym (open_of-same o item t b.closes);
       }
 
-  effects_are : e ∷ abort_effects s a.request unit covers ≡ effects_of_item o t item
-  effects_are = rw (leaving_shown o t old unit list_is covers, b.replies.stat_sns (connection_of a.request) b.known, left_is, sets.effects, b.shows, leaving-shown o t gone a reply)
+  pub leaving-effects : (left_answered s unit covers conn reply).effects ≡ map (λ (c : Command). Leave c.ticket c.unit) gone ++ (Send conn (stat_sn_of o t conn) reply ∷ enables (newly_enabled o t item))
+  leaving-effects = rw (leaving_shown o t old unit list_is covers, b.replies.stat_sns conn b.known, left_is, left.effects, ← newly-one o item t unit b.inside elsewhere)
 
-  pub leaving-item : Agrees o (aborted s a.request unit covers) (item ∷ t) × (e ∷ abort_effects s a.request unit covers ≡ effects_of_item o t item)
-  leaving-item = (agrees, effects_are)
+-- a function takes them out
+pub leaving-item : (o : Setting) (s : Core) (t : Trace) (m : Mark) (e : Effect) (a : Arrival) → Begun o s t m e a → (unit : ℕ) → unit < o.units → (covers : Task → Bool) → Follows o t (leaving_item o t m a unit covers) (after_effect e (aborted s a.request unit covers))
+leaving-item o s t m e a b unit inside covers = (leaving-agrees o s t item unit covers conn reply leaving, rw (leaving-effects o s t item unit covers conn reply leaving, b.shows, leaving-shown o t gone a reply, append_assoc))
+  where
+    item : List Mark
+    item = leaving_item o t m a unit covers
+
+    conn : ℕ
+    conn = connection_of a.request
+
+    reply : Reply
+    reply = TaskReply (itt a.request) 0
+
+    gone : List Command
+    gone = covered_in o t unit covers
+
+    leaving : Leaving o s t item unit covers conn
+    leaving = record {
+      lasts = b.lasts;
+      window = b.window (map Leaves gone ++ reply_on a reply) (quiet-leaving gone a reply);
+      replies = b.replies;
+      waits = record { list = leaving-calm gone a reply (waiting_by m (waiting t)) ∙ b.waits.list; may = b.waits.may; known = b.waits.known };
+      closes = closes-more m (map Leaves gone ++ reply_on a reply) b.closes_no (leaving-closes gone a reply);
+      inside = inside;
+      known = b.known;
+      leaves = record {
+        enters_none = rw b.enters_no (leaving-enters gone a reply);
+        some = λ k. rw (b.leaves_no k, leaving-tickets gone a reply k) (sym (gone_tickets o t (set_at s unit) unit (b.lasts.sets.lists unit inside) covers k));
+      };
+      sends = rw b.sends_no (leaving-sends gone a reply);
+    }

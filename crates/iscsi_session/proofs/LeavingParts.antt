@@ -1,10 +1,10 @@
 -- Covered commands of a unit leave: what is left of its set and of the live commands.
-use Rattle.std.proofs.Common.{◌≡◌, ℕ, zero, suc, ◌+◌, ◌<◌, ◌≤◌, ◌==◌, ◌&&◌, ◌||◌, ◌++◌, not, ⊎_elim, cond, Bool, true, false, nat_lt, List, [], ◌∷◌, length, map, filter, count_by, All, take, get_or, set, Option, Some, None, is_some, refl, ap, sym, arith, length-set, ◌∙◌, eq-eqb}
+use Rattle.std.proofs.Common.{◌≡◌, ℕ, zero, suc, ◌+◌, ◌<◌, ◌≤◌, ◌==◌, ◌&&◌, ◌||◌, ◌++◌, not, ⊎_elim, cond, Bool, true, false, nat_lt, List, [], ◌∷◌, length, map, filter, count_by, All, take, get_or, set, Option, Some, None, is_some, refl, ap, sym, arith, ◌∙◌, eq-eqb}
 use Rattle.std.specs.Prelude.{IsSome}
 use Rattle.std.specs.List.{list_any, list_all, AllPairs}
-use Rattle.std.proofs.lemmas.Bool.{cases_Bool, cases_eq, eqb-true, false≢true, ltb-true, ne_eqb}
+use Rattle.std.proofs.lemmas.Bool.{cases_Bool, eqb-true, false≢true, ltb-true, ne_eqb}
 use Rattle.std.proofs.lemmas.Bool.Decides.{nat_tests}
-use Rattle.std.proofs.lemmas.List.{length-map, get_or-set_same, get_or-set_other, get_or_default, get_or-take, length-take-le, take_more, map-append}
+use Rattle.std.proofs.lemmas.List.{length-map, get_or_default, get_or-take, length-take-le, take_more, map-append}
 use Rattle.std.proofs.lemmas.List.Folds.{list_any_none, list_all-map, list_any_more}
 use Rattle.std.proofs.lemmas.List.Sums.{sum_by-cons, AllPass-from_list_all}
 use Rattle.iscsi_window.specs.Windows.{Arrived, with_unfinished}
@@ -14,8 +14,7 @@ use Rattle.iscsi_tasks.specs.Sets.{Members, opened, tasks_in, left_by, with_tick
 use Rattle.iscsi_history.specs.declared.effect.Effect.TheVariants.{Leave}
 use Rattle.iscsi_commands.specs.declared.live.Live.{Live}
 use Rattle.iscsi_session.specs.private.Standing.{Match, are_ascending, tickets_of, tickets_in}
-use Rattle.iscsi_session.specs.private.Steps.{all_given, as_given, is_numbered, find_ticket, without_ticket}
-use Rattle.iscsi_session.specs.private.Functions.{is_gone, staying, set_staying, finished_by, leaves, leave_each, tickets_covered, without_tickets, has_covered, covers_ticket, ungiven, ungiven_in}
+use Rattle.iscsi_session.specs.private.Steps.{set_staying, covered_tickets, find_ticket, without_ticket, as_given, all_given, is_numbered, is_gone, staying, finished_by, leave_each, without_tickets, covers_ticket, has_covered, ungiven, ungiven_in}
 use Rattle.iscsi_history.proofs.BoolLemmas.{and_both, and_comm, and_parts, and_true, and_false, or_first, or_second}
 use Rattle.iscsi_history.proofs.ListLemmas.{any_filter, any_same, list_any-map, count_by-map, filter-swap, filter-map, map-map, find-found, filter-shorter, filter_every, filter_here, list_all-filter, fewer_counted, none_out}
 use Rattle.iscsi_history.proofs.TraceLemmas.{filter-same, filter-true, weaker}
@@ -24,7 +23,7 @@ use Rattle.iscsi_history.proofs.NewlyLemmas.{filter-twice, both_all}
 use Rattle.iscsi_history.proofs.CountLemmas.{fewer}
 use Rattle.iscsi_history.proofs.SetLemmas.{none_filtered, tickets, gone_each, none_covered, none_found, one_gone, rising, some_covered}
 use Rattle.iscsi_history.proofs.NumberLemmas.{none_above}
-use Rattle.iscsi_session.proofs.KeptLemmas.{ascending-kept}
+use Rattle.iscsi_session.proofs.KeptLemmas.{ascending-kept, match_set}
 
 -- ---- tickets go up along a set
 
@@ -70,15 +69,6 @@ apart_units unit other (x ∷ lives) apart up =
     grind (arith, rest, later, none_above x.ticket (tickets_in unit lives) (later_in x.ticket unit lives ups.0))
 
 -- ---- the sets and the live commands that are left
-
--- one set is another now, and the commands of the other units are as they were
-match_set : (sets : List Members) (lives left : List Live) (unit : ℕ) (new : Members) → unit < length sets → Match sets lives → tickets_of new ≡ tickets_in unit left
-    → ((u : ℕ) → (u == unit) ≡ false → tickets_in u left ≡ tickets_in u lives) → Match (set sets unit new) left
-match_set sets lives left unit new inside m here elsewhere = λ u lt.
-    ⊎_elim
-    (λ (same : u ≡ unit). rw (same, get_or-set_same sets unit new (opened 0) inside) here)
-    (λ other. rw (get_or-set_other sets unit u new (opened 0) other, elsewhere u (let no : (u == unit) ≡ false = grind (arith, nat_tests) in no)) (m u (omega (arith, length-set sets unit new, lt))))
-    (cases_eq u unit)
 
 module _ (sets : List Members) (lives : List Live) (unit : ℕ) (covers : Task → Bool) (inside : unit < length sets) (m : Match sets lives) (up : are_ascending lives ≡ true) where
   abbrev here : Members
@@ -175,27 +165,24 @@ few_in now unit lives match =
 -- ---- the covered commands of a set, by their tickets
 
 module _ (now : Members) (covers : Task → Bool) where
-  covered_are : tickets_covered covers now ≡ tickets (filter (λ m. covers m.task) now.list)
+  covered_are : covered_tickets covers now.list ≡ tickets (filter (λ m. covers m.task) now.list)
   covered_are = rw (filter-map, map-map)
 
-  gone_are : (k : ℕ) → list_any (λ t. t == k) (tickets_covered covers now) ≡ is_gone covers now k
+  gone_are : (k : ℕ) → list_any (λ t. t == k) (covered_tickets covers now.list) ≡ is_gone covers now k
   gone_are k = rw (covered_are, list_any-map, any_filter) (any_same _ _ now.list (λ m. and_comm (covers m.task) (m.task.ticket == k)))
 
-  pub without_covered : (lives : List Live) → without_tickets (tickets_covered covers now) lives ≡ staying covers now lives
+  pub without_covered : (lives : List Live) → without_tickets (covered_tickets covers now.list) lives ≡ staying covers now lives
   without_covered lives = filter-same _ _ lives (λ l. ap not (gone_are l.ticket))
 
-  pub leave_covered_each : (unit : ℕ) → leave_each unit (tickets_covered covers now) ≡ leaves unit covers now.list
-  leave_covered_each unit = rw (covered_are, map-map)
-
   -- each is among the live ones
-  pub covered_live : (unit : ℕ) (lives : List Live) → tickets_of now ≡ tickets_in unit lives → All (λ t. IsSome (find_ticket t lives)) (tickets_covered covers now)
-  covered_live unit lives match k d l = some_live (get_or (tickets_covered covers now) k d) unit lives (AllPass-from_list_all (is_in unit lives) (tickets_covered covers now) all k d l)
+  pub covered_live : (unit : ℕ) (lives : List Live) → tickets_of now ≡ tickets_in unit lives → All (λ t. IsSome (find_ticket t lives)) (covered_tickets covers now.list)
+  covered_live unit lives match k d l = some_live (get_or (covered_tickets covers now.list) k d) unit lives (AllPass-from_list_all (is_in unit lives) (covered_tickets covers now.list) all k d l)
     where
-      all : list_all (is_in unit lives) (tickets_covered covers now) ≡ true
+      all : list_all (is_in unit lives) (covered_tickets covers now.list) ≡ true
       all = rw (covered_are, list_all-map) (list_all-filter _ _ now.list (sym (list_all-map (is_in unit lives) (λ (m : Member). m.task.ticket) now.list) ∙ rw match (all_in (tickets_in unit lives))))
 
   -- and their tickets go up
-  pub covered_up : rising (tickets now.list) ≡ true → AllPairs (λ (a b : ℕ). a < b) (tickets_covered covers now)
+  pub covered_up : rising (tickets now.list) ≡ true → AllPairs (λ (a b : ℕ). a < b) (covered_tickets covers now.list)
   covered_up up = rw covered_are (pairs_up (tickets (filter (λ m. covers m.task) now.list)) (rising-filter now.list up))
     where
       rising-filter : (ms : List Member) → rising (tickets ms) ≡ true → rising (tickets (filter (λ m. covers m.task) ms)) ≡ true
@@ -239,7 +226,7 @@ one_live k now lives = simp one_gone (by_test (has_covered (covers_ticket k) now
     by_test true = simp and_true
     by_test false = simp (and_false, filter-true)
 
-pub one_leaves : (k unit : ℕ) (ms : List Member) → rising (tickets ms) ≡ true → cond (list_any (λ m. m.task.ticket == k) ms) (Leave k unit ∷ []) [] ≡ leaves unit (covers_ticket k) ms
+pub one_leaves : (k unit : ℕ) (ms : List Member) → rising (tickets ms) ≡ true → cond (list_any (λ m. m.task.ticket == k) ms) (Leave k unit ∷ []) [] ≡ leave_each unit (covered_tickets (covers_ticket k) ms)
 one_leaves k unit [] up = refl
 one_leaves k unit (x ∷ ms) up =
     let parts = and_parts (list_all (λ u. nat_lt x.task.ticket u) (tickets ms)) (rising (tickets ms)) up in

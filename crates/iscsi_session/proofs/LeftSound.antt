@@ -3,8 +3,7 @@ use Rattle.std.proofs.Common.{◌≡◌, ◌∙◌, ◌<◌, not, ℕ, Bool, Lis
 use Rattle.iscsi_tasks.specs.declared.task.Task.{Task}
 use Rattle.iscsi_tasks.specs.Sets.{Members, opened}
 use Rattle.iscsi_commands.specs.declared.live.Live.{Live}
-use Rattle.iscsi_session.specs.private.Steps.{AreCounted, is_numbered}
-use Rattle.iscsi_session.specs.private.Functions.{is_gone, staying, set_staying, finished_by}
+use Rattle.iscsi_session.specs.private.Steps.{set_staying, AreCounted, is_numbered, is_gone, staying, finished_by}
 use Rattle.iscsi_session.specs.private.Invariant.{Inner, IsSessionSound}
 use Rattle.iscsi_history.proofs.ListLemmas.{fewer_counted}
 use Rattle.iscsi_history.proofs.PlaceLemmas.{written}

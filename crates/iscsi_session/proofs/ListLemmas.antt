@@ -6,7 +6,7 @@ use Rattle.iscsi_window.specs.declared.held_request.HeldRequest.{HeldRequest}
 use Rattle.iscsi_commands.specs.declared.live.Live.{Live}
 use Rattle.iscsi_history.specs.rules.Settings.{is_known}
 use Rattle.iscsi_session.specs.private.Standing.{are_known, is_place_known}
-use Rattle.iscsi_session.specs.private.Steps.{count_reply, without_ticket}
+use Rattle.iscsi_session.specs.private.Steps.{without_ticket, count_reply}
 use Rattle.iscsi_history.proofs.ListLemmas.{is_known-cids, list_all-filter, list_all-same}
 
 -- one more that passes

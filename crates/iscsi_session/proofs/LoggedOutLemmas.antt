@@ -1,5 +1,5 @@
 -- What a Logout leaves as it is.
-use Rattle.std.proofs.Common.{◌≡◌, ℕ, ◌≤◌, not, cond, Bool, List, [], ◌∷◌, length, map, count_by, is_some, length-set, Option, refl, ap, ◌∙◌, arith}
+use Rattle.std.proofs.Common.{◌+◌, ◌≡◌, ℕ, ◌≤◌, not, cond, Bool, List, [], ◌∷◌, length, map, count_by, is_some, length-set, Option, refl, ◌∙◌, arith}
 use Rattle.std.proofs.lemmas.List.Sums.{sum_by-cons}
 use Rattle.iscsi_window.specs.declared.held_request.HeldRequest.{HeldRequest}
 use Rattle.iscsi_wire.specs.declared.request.Request.{Request}
@@ -8,10 +8,19 @@ use Rattle.iscsi_window.specs.Windows.{is_asked, with_unfinished}
 use Rattle.iscsi_tasks.specs.declared.task.Task.{Task}
 use Rattle.iscsi_session.specs.declared.session.waiting.Waiting.{Waiting}
 use Rattle.iscsi_session.specs.private.Standing.{Core, is_held}
-use Rattle.iscsi_session.specs.private.Steps.{set_at, is_numbered}
-use Rattle.iscsi_session.specs.private.Functions.{is_gone, set_staying, with_left}
-use Rattle.iscsi_session.specs.private.Closing.{units_of, covers_of, with_all_left, emptied_place, emptying_effects, close_effects, logged_out}
+use Rattle.iscsi_session.specs.private.Steps.{set_staying, set_at, units_of, is_numbered, is_gone, commands_left, all_commands_left, covers_of, emptied_place, logged_out}
 use Rattle.iscsi_history.proofs.ListLemmas.{fewer_counted, filter-shorter, count_by-map}
+
+-- ---- what stays
+
+-- no number turns, no event is counted, no request more is held or waits, and so many commands more are unfinished at the most
+pub record Stays (more : ℕ) (s s' : Core) : Type 0 where
+  pub first : s'.window.first ≡ s.window.first
+  pub turned : s'.window.turned ≡ s.window.turned
+  pub unfinished : s'.window.unfinished ≤ s.window.unfinished + more
+  pub taken : s'.taken ≡ s.taken
+  pub held : count_by is_held s'.window.places ≤ count_by is_held s.window.places
+  pub waiting : length s'.waiting ≤ length s.waiting
 
 -- ---- commands of several units leave
 
@@ -21,26 +30,15 @@ pub record Keeps (s s' : Core) : Type 0 where
   pub unfinished : s'.window.unfinished ≤ s.window.unfinished
   pub units : length s'.sets ≡ length s.sets
 
-pub left_keeps : (s : Core) (units : List ℕ) (covers : Task → Bool) → Keeps s (with_all_left s units covers)
+pub left_keeps : (s : Core) (units : List ℕ) (covers : Task → Bool) → Keeps s (all_commands_left s units covers).core
 left_keeps s [] covers = record { same = refl; unfinished = omega arith; units = refl }
 left_keeps s (unit ∷ units) covers =
-    let h = left_keeps (with_left s unit covers) units covers in
+    let h = left_keeps (commands_left s unit covers).core units covers in
     record {
       same = h.same;
       unfinished = omega (arith, fewer_counted is_numbered (λ l. not (is_gone covers (set_at s unit) l.ticket)) s.live, h.unfinished);
       units = h.units ∙ length-set s.sets unit (set_staying covers (set_at s unit));
     }
-
--- what is emptied and closed doesn't depend on the commands that left
-module _ (s s' : Core) (k : Keeps s s') (scope : Option ℕ) where
-  pub kept_conns : s'.conns ≡ s.conns
-  kept_conns = ap (λ (v : Core). v.conns) k.same
-
-  pub kept_emptying : emptying_effects s' scope ≡ emptying_effects s scope
-  kept_emptying = ap (λ v. emptying_effects v scope) k.same
-
-  pub kept_close : close_effects s' scope ≡ close_effects s scope
-  kept_close = grind (arith, ap (λ (v : Core). v.open_conns) k.same)
 
 -- ---- held requests are taken out
 
@@ -57,17 +55,12 @@ emptied_fewer scope (p ∷ ps) =
 
 -- ---- a Logout
 
--- the numbers are the same, no more is held or waits, and no more is unfinished
+-- what stays, and as many numbers are received
 pub record Parts (s s' : Core) : Type 0 where
-  pub first : s'.window.first ≡ s.window.first
-  pub turned : s'.window.turned ≡ s.window.turned
-  pub unfinished : s'.window.unfinished ≤ s.window.unfinished
-  pub taken : s'.taken ≡ s.taken
-  pub held : count_by is_held s'.window.places ≤ count_by is_held s.window.places
+  pub stays : Stays 0 s s'
   pub counted : count_by is_some s'.window.places ≡ count_by is_some s.window.places
-  pub waiting : length s'.waiting ≤ length s.waiting
 
-pub logged_out_parts : (s : Core) (r : Request) (scope : Option ℕ) → Parts s (logged_out s r scope)
+pub logged_out_parts : (s : Core) (r : Request) (scope : Option ℕ) → Parts s (logged_out s r scope).core
 logged_out_parts s r scope =
     let k = left_keeps s (units_of s) (covers_of scope) in
     let stays : Waiting → Bool = λ w. not (is_asked scope (connection_of w.request)) in

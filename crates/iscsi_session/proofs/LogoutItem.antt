@@ -19,9 +19,7 @@ use Rattle.iscsi_history.specs.rules.Logout.{live_of_units, is_open, is_last_ope
 use Rattle.iscsi_history.specs.rules.Management.{may_wait}
 use Rattle.iscsi_history.specs.rules.Run.{effects_of_mark, effects_of_item, newly_enabled, stat_sn_of}
 use Rattle.iscsi_session.specs.private.Standing.{Core, Agrees, WindowAgrees, CommandsAgree, SetsAgree, arrival_waiting, open_of, task_of}
-use Rattle.iscsi_session.specs.private.Steps.{set_at, all_given}
-use Rattle.iscsi_session.specs.private.Functions.{set_staying}
-use Rattle.iscsi_session.specs.private.Closing.{is_among_open, units_of, covers_of, all_leaving_effects, left_to, still_open, waiting_then, close_effects, all_enable_effects, logged_out, logout_effects}
+use Rattle.iscsi_session.specs.private.Steps.{set_staying, is_among_open, still_open, after_effect, set_at, units_of, all_given, enable_effects, all_commands_left, covers_of, waiting_then, session_closes, closing_effects, logged_out}
 use Rattle.iscsi_history.proofs.MomentLemmas.{enables}
 use Rattle.iscsi_session.proofs.ReplyParts.{RepliesAgree-sent}
 use Rattle.iscsi_history.proofs.ListLemmas.{list_all-filter, list_all-same, list_any-map, any_filter, any_flat_map, any_in_range, flat_map_in_range, filter-flat_map, map-flat_map, filter-map, filtered_among}
@@ -118,7 +116,7 @@ module _ (o : Setting) (s : Core) (t : Trace) (m : Mark) (e : Effect) (a : Arriv
   conn = connection_of a.request
 
   abbrev left : Core
-  left = left_to s scope
+  left = (all_commands_left s (units_of s) covers).core
 
   k : Keeps s left
   k = left_keeps s (units_of s) covers
@@ -133,7 +131,7 @@ module _ (o : Setting) (s : Core) (t : Trace) (m : Mark) (e : Effect) (a : Arriv
   goes n c = asked c && (c.ticket == n)
 
   regular : list_all (λ c. nat_lt c.unit o.units) (live t) ≡ true
-  regular = units_live o s.live s.entered t b.commands
+  regular = units_live o s.live s.entered t b.lasts.commands
 
   out_is : (n : ℕ) → out n ≡ list_any (goes n) (live t)
   out_is n = any_filter (λ (c : Command). c.ticket == n) asked (live t)
@@ -155,7 +153,7 @@ module _ (o : Setting) (s : Core) (t : Trace) (m : Mark) (e : Effect) (a : Arriv
       }
 
   early : (n : ℕ) → length (entered t) < n → out n ≡ false
-  early n late = unamong-filter asked n (live t) (unamong-filter _ n (entered t) (b.commands.fresh n late))
+  early n late = unamong-filter asked n (live t) (unamong-filter _ n (entered t) (b.lasts.commands.fresh n late))
 
   covered_are : (unit : ℕ) → filter (λ c. covers (task_of o c)) (live_in unit t) ≡ filter asked (live_in unit t)
   covered_are unit = filter-same _ _ (live_in unit t) (covers_asked o scope)
@@ -163,24 +161,24 @@ module _ (o : Setting) (s : Core) (t : Trace) (m : Mark) (e : Effect) (a : Arriv
   -- the covered ones of the sets have these tickets
   gone_is : (n : ℕ) → gone_in covers s (units_of s) n ≡ out n
   gone_is n =
-      rw (b.sets.units, out_is n) (any_in_range _ (λ unit. list_any (goes n) (live_in unit t)) 0 o.units
-      (λ unit low high. rw (gone_tickets o t (set_at s unit) unit (b.sets.lists unit (omega arith)) covers n, covered_are unit) (any_filter (λ (c : Command). c.ticket == n) asked (live_in unit t)))
+      rw (b.lasts.sets.units, out_is n) (any_in_range _ (λ unit. list_any (goes n) (live_in unit t)) 0 o.units
+      (λ unit low high. rw (gone_tickets o t (set_at s unit) unit (b.lasts.sets.lists unit (omega arith)) covers n, covered_are unit) (any_filter (λ (c : Command). c.ticket == n) asked (live_in unit t)))
       ∙ any_in_units (goes n) o.units (live t) regular)
 
   commands : CommandsAgree o left.live s.entered (item ∷ t)
-  commands = simp (live_staying covers s 0 (length s.sets), gone_is) (CommandsAgree-left o s.live s.entered t item out b.commands leaves early)
+  commands = simp (live_staying covers s 0 (length s.sets), gone_is) (CommandsAgree-left o s.live s.entered t item out b.lasts.commands leaves early)
 
   numbered : left.window.unfinished ≡ unfinished (item ∷ t)
-  numbered = rw (unfinished_left covers s (units_of s) (b.unfinished_is ∙ sym (numbered_live o s.live s.entered t b.commands))) (numbered_live o left.live s.entered (item ∷ t) commands)
+  numbered = rw (unfinished_left covers s (units_of s) (b.lasts.unfinished_is ∙ sym (numbered_live o s.live s.entered t b.lasts.commands))) (numbered_live o left.live s.entered (item ∷ t) commands)
 
   -- the effects of leaving
   abbrev leave_of : Command → Effect
   leave_of c = Leave c.ticket c.unit
 
-  leaving : all_leaving_effects s (units_of s) covers ≡ map leave_of cs
+  leaving : (all_commands_left s (units_of s) covers).effects ≡ map leave_of cs
   leaving =
-      rw (effects_leaving covers s 0 (length s.sets), b.sets.units, units_are, filter-flat_map, map-flat_map) (flat_map_in_range _ _ 0 o.units
-      (λ unit low high. rw (leaving_shown o t (set_at s unit) unit (b.sets.lists unit (omega arith)) covers, covered_are unit)))
+      rw (effects_leaving covers s 0 (length s.sets), b.lasts.sets.units, units_are, filter-flat_map, map-flat_map) (flat_map_in_range _ _ 0 o.units
+      (λ unit low high. rw (leaving_shown o t (set_at s unit) unit (b.lasts.sets.lists unit (omega arith)) covers, covered_are unit)))
 
   -- ---- the sets
 
@@ -189,26 +187,26 @@ module _ (o : Setting) (s : Core) (t : Trace) (m : Mark) (e : Effect) (a : Arriv
   stay_in unit =
       let decides : Command → Bool = λ c. alike (is_among c.ticket (filter asked (live t))) (asked c) in
       live_in-left item t out unit leaves
-      ∙ filter_all _ _ decides (live_in unit t) (list_all-filter (λ (c : Command). c.unit == unit) decides (live t) (among_passing asked (live t) b.commands.apart))
+      ∙ filter_all _ _ decides (live_in unit t) (list_all-filter (λ (c : Command). c.unit == unit) decides (live t) (among_passing asked (live t) b.lasts.commands.apart))
       (λ c h. rw (alike_same (is_among c.ticket (filter asked (live t))) (asked c) h, covers_asked o scope c))
 
   set_after : (unit : ℕ) → unit < o.units → SetLeft o t item unit (set_at s unit) (set_staying covers (set_at s unit))
-  set_after unit inside = set_left o t item unit (set_at s unit) covers (b.sets.lists unit inside) (stay_in unit)
+  set_after unit inside = set_left o t item unit (set_at s unit) covers (b.lasts.sets.lists unit inside) (stay_in unit)
 
   units_same : length left.sets ≡ o.units
-  units_same = k.units ∙ b.sets.units
+  units_same = k.units ∙ b.lasts.sets.units
 
   set_is : (unit : ℕ) → unit < o.units → set_at left unit ≡ set_staying covers (set_at s unit)
-  set_is unit inside = sets_left covers s 0 (length s.sets) unit (omega arith) (omega arith) (omega (arith, b.sets.units))
+  set_is unit inside = sets_left covers s 0 (length s.sets) unit (omega arith) (omega arith) (omega (arith, b.lasts.sets.units))
 
   sets : SetsAgree o (map all_given left.sets) (item ∷ t)
   sets = record {
     units = length-map left.sets all_given ∙ units_same;
-    depths = λ unit inside. rw (get_or-map all_given left.sets unit (opened 0), set_is unit inside) ((set_after unit inside).depth ∙ b.sets.depths unit inside);
+    depths = λ unit inside. rw (get_or-map all_given left.sets unit (opened 0), set_is unit inside) ((set_after unit inside).depth ∙ b.lasts.sets.depths unit inside);
     lists = λ unit inside. rw (get_or-map all_given left.sets unit (opened 0), set_is unit inside) (set_after unit inside).given;
   }
 
-  enabling : all_enable_effects left ≡ enables (newly_enabled o t item)
+  enabling : flat_map (λ unit. enable_effects unit (set_at left unit).list) (units_of left) ≡ enables (newly_enabled o t item)
   enabling =
       rw (units_same, map-flat_map) (flat_map_in_range _ _ 0 o.units (λ unit low high. rw (set_is unit (omega arith)) (set_after unit (omega arith)).effects))
 
@@ -223,7 +221,7 @@ module _ (o : Setting) (s : Core) (t : Trace) (m : Mark) (e : Effect) (a : Arriv
   left_agrees : WindowAgrees o left.window t₁
   left_agrees = rw k.same (WindowAgrees-fewer o s.window t₁ left.window.unfinished k.unfinished before)
 
-  window : WindowAgrees o (logged_out s a.request scope).window (item ∷ t)
+  window : WindowAgrees o (logged_out s a.request scope).core.window (item ∷ t)
   window = WindowAgrees-logged_out o left.window t m scope cs rest left_agrees (quiet-closing o t₁ a scope)
 
   -- ---- the connections
@@ -237,9 +235,9 @@ module _ (o : Setting) (s : Core) (t : Trace) (m : Mark) (e : Effect) (a : Arriv
   -- none stays open but for the one that closes
   last_open : (closing : ℕ) → is_nil (still_open (Some closing) s.open_conns) ≡ is_last_open o t₁ closing
   last_open closing =
-      rw (b.open_is, filter-twice, last_is o t closing o.conns (λ c known. known)) (list_all-same _ _ o.conns (λ d. rw (closed-same d.0 (m ∷ []) t b.closes_no)))
+      rw (b.lasts.open_is, filter-twice, last_is o t closing o.conns (λ c known. known)) (list_all-same _ _ o.conns (λ d. rw (closed-same d.0 (m ∷ []) t b.closes_no)))
 
-  closes_are : (x : Option ℕ) → close_effects s x ≡ closes_shown o t₁ a x
+  closes_are : (x : Option ℕ) → closing_effects x ++ session_closes (still_open x s.open_conns) ≡ closes_shown o t₁ a x
   closes_are None = rw none_stay
   closes_are (Some closing) = grind (arith, last_open closing)
 
@@ -260,7 +258,7 @@ module _ (o : Setting) (s : Core) (t : Trace) (m : Mark) (e : Effect) (a : Arriv
     where
       by_last : (v : Bool) → is_last_open o t₁ closing ≡ v → still_open (Some closing) (open_of o t) ≡ filter (opens (Some closing)) cids
       by_last true is =
-          nil_is _ (rw b.open_is at (last_open closing) ∙ is) ∙ sym (filter-none (opens (Some closing)) cids (λ c. rw is (and_false (is_known c o.conns))))
+          nil_is _ (rw b.lasts.open_is at (last_open closing) ∙ is) ∙ sym (filter-none (opens (Some closing)) cids (λ c. rw is (and_false (is_known c o.conns))))
       by_last false is = rw filter-twice (filter-same _ _ cids (λ c. grind (arith, is, eq_sym closing c)))
 
   -- ---- what waits still
@@ -268,35 +266,35 @@ module _ (o : Setting) (s : Core) (t : Trace) (m : Mark) (e : Effect) (a : Arriv
   abbrev stays : Waiting → Bool
   stays w = not (is_asked scope (connection_of w.request))
 
-  waits : waiting_through marks (waiting_by m (waiting t)) ≡ map (arrival_waiting o.first) (logged_out s a.request scope).waiting
-  waits = rw (b.waiting, append_assoc, left_waits, emptied_waits, k.same) (rest_waits scope)
+  waits : waiting_through marks (waiting_by m (waiting t)) ≡ map (arrival_waiting o.first) (logged_out s a.request scope).core.waiting
+  waits = rw (b.waits.list, append_assoc, left_waits, emptied_waits, k.same) (rest_waits scope)
     where
       rest_waits : (x : Option ℕ) → waiting_through (closing_marks o t₁ a x) (map (arrival_waiting o.first) s.waiting)
           ≡ map (arrival_waiting o.first) (waiting_then (still_open x s.open_conns) (filter (λ w. not (is_asked x (connection_of w.request))) s.waiting))
       rest_waits None = rw none_stay
       rest_waits (Some closing) = grind (arith, last_open closing, filter-map (λ (c : Arrival). not (connection_of c.request == closing)) (arrival_waiting o.first) s.waiting)
 
-  still_all : (test : Waiting → Bool) → list_all test s.waiting ≡ true → list_all test (logged_out s a.request scope).waiting ≡ true
+  still_all : (test : Waiting → Bool) → list_all test s.waiting ≡ true → list_all test (logged_out s a.request scope).core.waiting ≡ true
   still_all test h = rw k.same (grind (arith, list_all-filter stays test s.waiting h))
 
   -- ---- the whole
 
-  agrees : Agrees o (logged_out s a.request scope) (item ∷ t)
+  agrees : Agrees o (logged_out s a.request scope).core (item ∷ t)
   agrees = record {
-    events = rw k.same b.events;
+    events = rw k.same b.lasts.events;
     window = window;
     replies = rw k.same (RepliesAgree-sent o s.conns t item conn sends b.known b.replies);
     commands = rw k.same commands;
     sets = sets;
     unfinished = numbered;
-    enabled = EnabledSoFar-left o item t out leaves (units_live o left.live s.entered (item ∷ t) commands) b.enabled;
-    level = rw k.same b.level;
-    waiting = record { list = waits; may = still_all (λ w. may_wait w.request) b.may; known = still_all (λ w. is_known (connection_of w.request) o.conns) b.waiting_known };
-    open_conns = rw (k.same, b.open_is, open_after) (stays_open scope);
+    enabled = EnabledSoFar-left o item t out leaves (units_live o left.live s.entered (item ∷ t) commands) b.lasts.enabled;
+    level = rw k.same b.lasts.level;
+    waiting = record { list = waits; may = still_all (λ w. may_wait w.request) b.waits.may; known = still_all (λ w. is_known (connection_of w.request) o.conns) b.waits.known };
+    open_conns = rw (k.same, b.lasts.open_is, open_after) (stays_open scope);
   }
 
-  shown : e ∷ logout_effects s a.request scope ≡ effects_of_item o t item
-  shown = simp (leaving, emptied_from-is o s.window t₁ scope before, b.replies.stat_sns conn b.known, closes_are scope, enabling, b.shows, append_assoc, left_shown, emptied_shown, closing_shown o t₁ a t scope)
+  shown : e ∷ (logged_out s a.request scope).effects ≡ effects_of_item o t item
+  shown = rw k.same (simp (leaving, emptied_from-is o s.window t₁ scope before, b.replies.stat_sns conn b.known, closes_are scope, enabling, b.shows, append_assoc, left_shown, emptied_shown, closing_shown o t₁ a t scope))
 
 -- ---- what a Logout Request does
 
@@ -304,14 +302,14 @@ module _ (o : Setting) (s : Core) (t : Trace) (m : Mark) (e : Effect) (a : Arriv
   abbrev began : Trace
   began = (m ∷ []) ∷ t
 
-  pub session_ends : Follows o t (m ∷ end_session o began a) (logged_out s a.request None) (e ∷ logout_effects s a.request None)
+  pub session_ends : Follows o t (m ∷ end_session o began a) (after_effect e (logged_out s a.request None))
   session_ends = rw (append_assoc (taken_out o began (λ conn. true)) (parting a 0) (ClosesSession ∷ [])) (agrees o s t m e a b None, shown o s t m e a b None)
 
-  pub conn_closes : (closing : ℕ) → Follows o t (m ∷ close_conn o began a closing) (logged_out s a.request (Some closing)) (e ∷ logout_effects s a.request (Some closing))
+  pub conn_closes : (closing : ℕ) → Follows o t (m ∷ close_conn o began a closing) (after_effect e (logged_out s a.request (Some closing)))
   conn_closes closing =
       rw (append_assoc (taken_out o began (λ conn. conn == closing)) (parting a 0) (ClosesConn closing ∷ cond (is_last_open o began closing) (ClosesSession ∷ []) []))
       (agrees o s t m e a b (Some closing), shown o s t m e a b (Some closing))
 
   -- the session knows whether the connection is open
   pub open_same : (c : ℕ) → is_among_open c s.open_conns ≡ is_open o began c
-  open_same c = rw (b.open_is, filtered_among (is_open o t) c (map (λ (d : ℕ × ℕ). d.0) o.conns), list_any-map (λ d. d == c) (λ (d : ℕ × ℕ). d.0) o.conns, closed-same c (m ∷ []) t b.closes_no) (grind arith)
+  open_same c = rw (b.lasts.open_is, filtered_among (is_open o t) c (map (λ (d : ℕ × ℕ). d.0) o.conns), list_any-map (λ d. d == c) (λ (d : ℕ × ℕ). d.0) o.conns, closed-same c (m ∷ []) t b.closes_no) (grind arith)

@@ -1,5 +1,5 @@
 -- The functions that wait, and how many effects are to come.
-use Rattle.std.proofs.Common.{◌≡◌, ℕ, zero, suc, ◌+◌, ◌*◌, ◌<◌, ◌≤◌, ◌==◌, not, cond, Bool, true, false, List, [], ◌∷◌, ◌++◌, length, filter, get_or, set, count_by, refl, ap, ◌∙◌, arith}
+use Rattle.std.proofs.Common.{◌≡◌, ℕ, ◌+◌, ◌*◌, ◌<◌, ◌≤◌, ◌==◌, not, cond, Bool, true, false, List, [], ◌∷◌, ◌++◌, length, filter, set, count_by, refl, ap, ◌∙◌, arith}
 use Rattle.std.specs.List.{list_all}
 use Rattle.std.proofs.lemmas.Bool.{false≢true, eqb-true}
 use Rattle.std.proofs.lemmas.Bool.Decides.{nat_tests}
@@ -11,15 +11,15 @@ use Rattle.iscsi_wire.specs.declared.request.Request.{Request}
 use Rattle.iscsi_wire.specs.Fields.{connection_of}
 use Rattle.iscsi_tasks.specs.declared.task.Task.{Task}
 use Rattle.iscsi_tasks.specs.declared.member.Member.{Member}
-use Rattle.iscsi_tasks.specs.Sets.{Members, opened, entered_to, looked_at, given_by}
+use Rattle.iscsi_tasks.specs.Sets.{Members, entered_to, looked_at, given_by}
 use Rattle.iscsi_session.specs.declared.session.waiting.Waiting.{Waiting}
 use Rattle.iscsi_history.specs.rules.Settings.{is_known}
 use Rattle.iscsi_session.specs.private.Standing.{Core}
-use Rattle.iscsi_session.specs.private.Steps.{new_live, set_at, set_entered, new_task, with_command, waiting_in}
-use Rattle.iscsi_session.specs.private.Functions.{ungiven, ungiven_in, owed}
+use Rattle.iscsi_session.specs.private.Steps.{set_at, waiting_in, new_live, new_task, command_entered, ungiven, ungiven_in, owed}
 use Rattle.iscsi_history.proofs.BoolLemmas.{and_parts}
 use Rattle.iscsi_history.proofs.ListLemmas.{count_by-map, count_by-push, fewer_counted}
 use Rattle.iscsi_history.proofs.SetLemmas.{ungiven_given}
+use Rattle.iscsi_session.proofs.LeavingParts.{ungiven_in-set}
 
 -- ---- how many functions wait
 
@@ -78,14 +78,9 @@ ungiven_entered set task =
     let counted : count_by p (entered_to set task).list ≡ count_by p set.list + 1 = count_by-map p (looked_at more) more ∙ count_by-push p set.list new in
     omega (arith, counted, ungiven_given (entered_to set task).list)
 
-ungiven_set : (sets : List Members) (unit : ℕ) (set' d : Members) → unit < length sets → ungiven_in (set sets unit set') + ungiven (get_or sets unit d) ≡ ungiven_in sets + ungiven set'
-ungiven_set [] unit set' d lt = absurd (omega (arith, lt))
-ungiven_set (x ∷ sets) zero set' d lt = omega arith
-ungiven_set (x ∷ sets) (suc unit) set' d lt = omega (arith, ungiven_set sets unit set' d (omega (arith, lt)))
-
 -- a command that enters may leave, and be enabled before
-pub owed_entered : (s : Core) (r : Request) (unit : ℕ) → unit < length s.sets → owed (with_command s r unit).live (with_command s r unit).sets ≤ owed s.live s.sets + 2
+pub owed_entered : (s : Core) (r : Request) (unit : ℕ) → unit < length s.sets → owed (command_entered s r unit).core.live (command_entered s r unit).core.sets ≤ owed s.live s.sets + 2
 owed_entered s r unit inside =
-    let now : Members = given_by (set_entered s r unit) in
-    let sets : ungiven_in (set s.sets unit now) + ungiven (set_at s unit) ≡ ungiven_in s.sets + ungiven now = ungiven_set s.sets unit now (opened 0) inside in
+    let now : Members = given_by (entered_to (set_at s unit) (new_task s r)) in
+    let sets : ungiven_in (set s.sets unit now) + ungiven (set_at s unit) ≡ ungiven_in s.sets + ungiven now = ungiven_in-set s.sets unit now inside in
     omega (arith, sets, ungiven_entered (set_at s unit) (new_task s r), length_push s.live (new_live s r unit))

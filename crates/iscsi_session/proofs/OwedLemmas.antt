@@ -6,7 +6,7 @@ use Rattle.iscsi_tasks.specs.declared.member.Member.{Member}
 use Rattle.iscsi_tasks.specs.Sets.{Members, opened}
 use Rattle.iscsi_commands.specs.declared.live.Live.{Live}
 use Rattle.iscsi_session.specs.private.Standing.{Match, tickets_of, tickets_in}
-use Rattle.iscsi_session.specs.private.Functions.{ungiven, ungiven_in, owed}
+use Rattle.iscsi_session.specs.private.Steps.{ungiven, ungiven_in, owed}
 use Rattle.iscsi_history.proofs.NumberLemmas.{one_unit}
 
 -- those of a unit, and those of later units

@@ -1,22 +1,21 @@
 -- Task sets that agree with what has happened agree after one item more.
-use Rattle.std.proofs.Common.{◌≡◌, ◌≢◌, ℕ, ◌<◌, ◌==◌, ◌||◌, not, ⊎_elim, cond, Bool, true, false, List, [], ◌∷◌, ◌++◌, map, filter, find, get_or, set, Some, refl, ap, sym, ◌∙◌, arith, length-set}
-use Rattle.std.proofs.lemmas.Bool.{cases_eq, eqb-true, ne_eqb}
+use Rattle.std.proofs.Common.{◌≡◌, ◌≢◌, ℕ, ◌<◌, ◌==◌, ⊎_elim, false, List, [], ◌∷◌, ◌++◌, get_or, set, sym, ◌∙◌, arith, length-set}
+use Rattle.std.proofs.lemmas.Bool.{cases_eq, ne_eqb}
 use Rattle.std.proofs.lemmas.List.{get_or-set_same, get_or-set_other}
 use Rattle.iscsi_tasks.specs.declared.task.Task.{Task}
 use Rattle.iscsi_tasks.specs.declared.member.Member.{Member}
-use Rattle.iscsi_tasks.specs.Sets.{Members, opened, tasks_in, entered_to, left_by, with_ticket, without, after_moment, next_in, given_by}
+use Rattle.iscsi_tasks.specs.Sets.{Members, opened, entered_to, next_in, given_by}
 use Rattle.iscsi_commands.specs.declared.live.Live.{Live}
 use Rattle.iscsi_history.specs.rules.Settings.{Setting}
-use Rattle.iscsi_history.specs.rules.Trace.{Command, Mark, Trace, live, live_in, is_among}
+use Rattle.iscsi_history.specs.rules.Trace.{Command, Mark, Trace, live_in}
 use Rattle.iscsi_history.specs.rules.Run.{newly_enabled}
-use Rattle.iscsi_session.specs.private.Standing.{task_of, member_of, set_of, SetsAgree, CommandsAgree}
-use Rattle.iscsi_session.specs.private.Steps.{all_given, enable_effects, enable_effect}
+use Rattle.iscsi_session.specs.private.Standing.{task_of, set_of, SetsAgree, CommandsAgree}
+use Rattle.iscsi_session.specs.private.Steps.{enable_effect}
 use Rattle.iscsi_history.proofs.NewlyLemmas.{never_free, Untouched, live_in-untouched}
-use Rattle.iscsi_session.proofs.EnabledLemmas.{noted_given, noted_effects, set_of-same, set-entered}
+use Rattle.iscsi_session.proofs.EnabledLemmas.{set_of-same, set-entered}
 use Rattle.iscsi_history.proofs.MomentLemmas.{enables}
-use Rattle.iscsi_history.proofs.ListLemmas.{filter-map}
 use Rattle.iscsi_history.proofs.EnabledItems.{newly-one}
-use Rattle.iscsi_history.proofs.CommandItems.{EntersOne, LeavesSome, live_in-left, live_in-left_elsewhere, are_all_in}
+use Rattle.iscsi_history.proofs.CommandItems.{EntersOne}
 use Rattle.iscsi_session.proofs.CommandParts.{live_in-entered, live_in-elsewhere}
 
 pub SetsAgree-untouched : (o : Setting) (sets : List Members) (t : Trace) (item : List Mark) → Untouched item → SetsAgree o sets t → SetsAgree o sets (item ∷ t)
@@ -58,41 +57,3 @@ SetsAgree-entered o lives n sets t item c task commands a e inside is =
       agrees = set-changed o sets t item c.unit (given_by (entered_to old task)) a inside (a.depths c.unit inside) (cc (list_is, entry.given)) elsewhere;
       effects = cc (list_is, entry.effects, newly-one o item t c.unit inside elsewhere);
     }
-
--- ---- commands leave
-
-pub record SetLeaving (o : Setting) (sets : List Members) (t : Trace) (item : List Mark) (unit : ℕ) (left : Members) : Type 0 where
-  pub agrees : SetsAgree o (set sets unit (all_given left)) (item ∷ t)
-  pub effects : enable_effects unit left.list ≡ enables (newly_enabled o t item)
-
--- the set of a unit without some of its commands, after a moment
-pub SetsAgree-left : (o : Setting) (sets : List Members) (t : Trace) (item : List Mark) (out : ℕ → Bool) (unit : ℕ) (left : Members) → SetsAgree o sets t → LeavesSome item out → are_all_in unit out (live t) ≡ true → unit < o.units
-    → left.depth ≡ (get_or sets unit (opened 0)).depth → left.list ≡ after_moment (filter (λ m. not (out m.task.ticket)) (get_or sets unit (opened 0)).list)
-    → SetLeaving o sets t item unit left
-SetsAgree-left o sets t item out unit left a l all inside depth list =
-    let old : Members = get_or sets unit (opened 0) in
-    let rest : filter (λ (m : Member). not (out m.task.ticket)) old.list ≡ map (member_of o t) (live_in unit (item ∷ t)) =
-    ap (filter (λ (m : Member). not (out m.task.ticket))) (a.lists unit inside)
-    ∙ filter-map (λ (m : Member). not (out m.task.ticket)) (member_of o t) (live_in unit t)
-    ∙ ap (map (member_of o t)) (sym (live_in-left item t out unit l)) in
-    let elsewhere = live_in-left_elsewhere item t out unit l all in
-    record {
-      agrees = set-changed o sets t item unit (all_given left) a inside (depth ∙ a.depths unit inside) (cc (rest, noted_given o t item unit)) elsewhere;
-      effects = cc (rest, noted_effects o t item unit, newly-one o item t unit inside elsewhere);
-    }
-
--- a command that is in its set leaves it
-pub left_by-one : (o : Setting) (sets : List Members) (t : Trace) (unit ticket : ℕ) → SetsAgree o sets t → unit < o.units → is_among ticket (live_in unit t) ≡ true
-    → left_by (get_or sets unit (opened 0)) (with_ticket ticket (tasks_in (get_or sets unit (opened 0)))) ≡ record (get_or sets unit (opened 0)) { list = after_moment (without ticket (get_or sets unit (opened 0)).list) }
-left_by-one o sets t unit ticket a inside among =
-    let old : Members = get_or sets unit (opened 0) in
-    let f = found_task o t ticket (live_in unit t) among in
-    cc (a.lists unit inside, f.1.0, f.1.1)
-  where
-    found_task : (o : Setting) (t : Trace) (k : ℕ) (cs : List Command) → is_among k cs ≡ true → (task : Task) × ((with_ticket k (map (λ (m : Member). m.task) (map (member_of o t) cs)) ≡ Some task) × (task.ticket ≡ k))
-    found_task o t k [] h = absurd cc
-    found_task o t k (x ∷ cs) h =
-        elim (x.ticket == k) as (λ b. (x.ticket == k) ≡ b → (b || is_among k cs) ≡ true → (task : Task) × ((cond b (Some (task_of o x)) (find (λ (u : Task). u.ticket == k) (map (λ (m : Member). m.task) (map (member_of o t) cs))) ≡ Some task) × (task.ticket ≡ k))) [
-          | true ↦ λ is here. (task_of o x, (refl, eqb-true x.ticket k is))
-          | false ↦ λ is later. found_task o t k cs later
-        ] refl h

@@ -10,7 +10,7 @@ use Rattle.iscsi_session.specs.declared.session.waiting.Waiting.{Waiting}
 use Rattle.iscsi_history.specs.rules.Settings.{is_known}
 use Rattle.iscsi_history.specs.rules.Management.{may_wait}
 use Rattle.iscsi_session.specs.private.Standing.{is_place_known, Match, are_within}
-use Rattle.iscsi_session.specs.private.Steps.{AreCounted, is_numbered, count_reply}
+use Rattle.iscsi_session.specs.private.Steps.{count_reply, AreCounted, is_numbered}
 use Rattle.iscsi_session.specs.private.Invariant.{Inner, IsWindowSound, AreCommandsSound, AreFunctionsSound, IsSessionSound}
 use Rattle.iscsi_history.proofs.ListLemmas.{count_by-push, list_all-filter, fewer_counted}
 use Rattle.iscsi_session.proofs.ListLemmas.{list_all-push, are_known-replied, are_places_known-replied}

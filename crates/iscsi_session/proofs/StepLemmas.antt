@@ -1,88 +1,72 @@
 -- An arrival, a completion, and an event as a whole.
-use Rattle.std.proofs.Common.{◌≡◌, ℕ, ◌+◌, ◌-◌, ◌<◌, ◌≤◌, ◌==◌, ◌&&◌, ◌||◌, not, cond, Bool, true, false, List, [], ◌∷◌, ◌++◌, length, filter, Option, Some, None, option_map, refl, ap, sym, ◌∙◌, arith, nat_lt, nat_le}
+use Rattle.std.proofs.Common.{eq-eqb, inl, ◌≡◌, ℕ, ◌+◌, ◌-◌, ◌<◌, ◌≤◌, ◌==◌, ◌&&◌, ◌||◌, not, cond, Bool, true, false, List, [], ◌∷◌, ◌++◌, length, filter, Option, Some, None, option_map, refl, ap, sym, ◌∙◌, arith, nat_lt, nat_le}
 use Rattle.std.specs.List.{list_any}
-use Rattle.std.proofs.lemmas.Bool.{eqb-true, cond_both}
 use Rattle.std.proofs.lemmas.Bool.Decides.{nat_tests}
 use Rattle.std.proofs.lemmas.List.{append-nil}
 use Rattle.iscsi_wire.specs.declared.request.Request.{Request}
 use Rattle.iscsi_wire.specs.Serial.{lift}
-use Rattle.iscsi_wire.specs.Fields.{connection_of, is_immediate, cmd_sn}
+use Rattle.iscsi_wire.specs.Fields.{connection_of, is_immediate, itt, cmd_sn}
 use Rattle.iscsi_window.specs.declared.answer.Offer.{Offer}
 use Rattle.iscsi_window.specs.declared.answer.Offer.TheVariants.{Held, Outside as OutsideWindow, Duplicate as Known}
 use Rattle.iscsi_tasks.specs.declared.member.Member.{Member}
-use Rattle.iscsi_tasks.specs.Sets.{Members, is_enabled_in}
-use Rattle.iscsi_window.specs.Windows.{Arrived, number_expected, room_of, at_place, offer_to}
-use Rattle.iscsi_history.specs.declared.effect.Effect.TheVariants.{Ignore}
+use Rattle.iscsi_tasks.specs.Sets.{is_enabled_in}
+use Rattle.iscsi_window.specs.Windows.{number_expected, room_of, at_place, offer_to}
 use Rattle.iscsi_history.specs.declared.effect.Why.TheVariants.{Outside, Duplicate, Stale}
 use Rattle.iscsi_history.specs.declared.event.Event.{Event}
 use Rattle.iscsi_history.specs.declared.event.Event.TheVariants.{Arrive, Done}
 use Rattle.iscsi_session.specs.declared.fault.SessionFault.TheVariants.{UnknownConnection, Exhausted}
 use Rattle.iscsi_history.specs.rules.Settings.{Setting, is_known}
-use Rattle.iscsi_history.specs.rules.Trace.{Arrival, Command, Mark, Admits, Trace, first_of, is_received, live, live_in, was_free, is_among}
-use Rattle.iscsi_history.specs.rules.Execution.{exp_of, max_of, unfinished, ignored, completion}
+use Rattle.iscsi_history.specs.rules.Trace.{Arrival, Command, Mark, Admits, Trace, first_of, is_received, live, live_in, was_free, is_among, received}
+use Rattle.iscsi_history.specs.rules.Execution.{exp_of, max_of, unfinished, ignored, completion, sense_of_status}
 use Rattle.iscsi_history.specs.rules.Agenda.{with_turns, numbered, arrival_of, command_of, items_of, belongs}
 use Rattle.iscsi_history.specs.rules.Items.{agenda}
 use Rattle.iscsi_history.specs.rules.Run.{newly_enabled, effects_of, trace_of}
 use Rattle.iscsi_session.specs.promises.Refusals.{refusal_of}
-use Rattle.iscsi_session.specs.private.Standing.{Core, CommandsAgree, place_of, kept, is_regular, member_of, WindowAgrees, Agrees, Settled, StandsFor}
-use Rattle.iscsi_session.specs.private.Steps.{set_at, set_left, finished, with_offered, comes_on, refusal_by, find_ticket, without_ticket, enabled_of, find_enabled, without_command, leave_effects, after_completion, completion_effects, counted}
-use Rattle.iscsi_session.proofs.OpenConns.{open_of-same}
-use Rattle.iscsi_history.proofs.BoolLemmas.{and_both, or_false}
-use Rattle.iscsi_history.proofs.ListLemmas.{list_any-map, is_known-cids, first_itself}
-use Rattle.iscsi_history.proofs.ApartLemmas.{eq_sym, count-without, one_unit}
-use Rattle.iscsi_history.proofs.TraceLemmas.{all_among}
-use Rattle.iscsi_session.proofs.WindowParts.{WindowAgrees-quiet, WindowAgrees-finished, with_held}
-use Rattle.iscsi_session.proofs.ReplyParts.{RepliesAgree-sent}
+use Rattle.iscsi_session.specs.private.Standing.{Core, place_of, kept, is_regular, member_of, Agrees, Settled, StandsFor}
+use Rattle.iscsi_session.specs.private.Steps.{find_ticket, comes_on, refusal_by, set_at, with_offered, enabled_of, enabled_in, covers_ticket, left_answered, completed}
+use Rattle.iscsi_history.proofs.BoolLemmas.{and_both}
+use Rattle.iscsi_history.proofs.ListLemmas.{list_any-map, is_known-cids}
+use Rattle.iscsi_session.proofs.WindowParts.{WindowAgrees-quiet, with_held}
 use Rattle.iscsi_history.proofs.MomentLemmas.{enables}
-use Rattle.iscsi_session.proofs.CommandParts.{CommandsAgree-left, live_early, find_kept}
+use Rattle.iscsi_session.proofs.CommandParts.{find_kept}
 use Rattle.iscsi_history.proofs.NewlyLemmas.{newly-untouched}
 use Rattle.iscsi_history.proofs.NumberLemmas.{wire-lift}
-use Rattle.iscsi_history.proofs.CommandItems.{LeavesSome, live-left, first_passing, none_passing, untouched-admits, among_unit, completion_item, first_passes, quiet-completion}
-use Rattle.iscsi_history.proofs.EnabledItems.{EnabledSoFar-left}
-use Rattle.iscsi_session.proofs.SetParts.{SetsAgree-left, left_by-one}
-use Rattle.iscsi_session.proofs.AgreeLemmas.{Regular, regular_parts, regular_live, units_live, settled_expected, settled_max, Stepped, Stepped-ignored, Agrees-admitted}
+use Rattle.iscsi_history.proofs.CommandItems.{first_passing, none_passing, ticket_alone, untouched-admits, completion_item, first_passes, quiet-completion}
+use Rattle.iscsi_session.proofs.LeavingLemmas.{covered_in, gone_tickets, Leaving, leaving-agrees, leaving-effects}
+use Rattle.iscsi_tasks.specs.declared.task.Task.{Task}
+use Rattle.iscsi_wire.specs.declared.reply.Reply.{Reply}
+use Rattle.iscsi_wire.specs.declared.reply.Reply.TheVariants.{Scsi}
+use Rattle.iscsi_history.proofs.ListLemmas.{filter-swap}
+use Rattle.iscsi_session.proofs.AgreeLemmas.{lasting, Regular, regular_parts, regular_live, settled_expected, settled_max, Stepped, Stepped-ignored, step_ignored, Agrees-admitted}
 
 -- ---- a completion
 
--- a numbered command gives its place back, and the places are as they were
-finished_place : (w : Arrived) (c : Command) → at_place (finished w (kept c)) 0 ≡ at_place w 0
-finished_place w c = grind arith
-
-unfinished-left : (w : Arrived) (n : ℕ) (c : Command) → w.unfinished ≡ n + cond (not (is_immediate c.arrival.request)) 1 0 → (finished w (kept c)).unfinished ≡ n
-unfinished-left w n c h = grind arith
-
 Stepped-completed : (o : Setting) (s : Core) (t : Trace) (c : Command) (ticket status : ℕ) → Settled o s t → first_of (filter (λ d. d.ticket == ticket) (live t)) ≡ Some c
-    → Stepped o (without_command s (kept c)) t (completion_item c status ∷ []) (leave_effects s (kept c) status)
+    → Stepped o (left_answered s c.unit (covers_ticket c.ticket) (connection_of c.arrival.request) (Scsi (itt c.arrival.request) status (sense_of_status status))) t (completion_item c status ∷ [])
 Stepped-completed o s t c ticket status h found =
     let a = h.agrees in
     let r : Regular o c = regular_parts o c (first_passes (λ d. d.ticket == ticket) (is_regular o) (live t) c (regular_live o s.live s.entered t a.commands) found) in
     let item : List Mark = completion_item c status in
-    let is_ticket = eqb-true c.ticket ticket (first_itself (λ d. d.ticket == ticket) (live t) c found) in
-    let out : ℕ → Bool = λ k. k == c.ticket in
-    let l : LeavesSome item out = record { enters_none = refl; some = λ k. or_false (c.ticket == k) ∙ eq_sym c.ticket k } in
-    let among : is_among c.ticket (live t) ≡ true = first_passes (λ d. d.ticket == ticket) (λ d. is_among d.ticket (live t)) (live t) c (all_among (live t)) found in
-    let here = rw (← is_ticket) at found in
-    let among_in : is_among c.ticket (live_in c.unit t) ≡ true = sym (among_unit c.ticket (live_in c.unit t)) ∙ (first_passing (λ d. true) c.ticket (live t) c a.commands.apart here).1 in
-    let left_is = left_by-one o s.sets t c.unit c.ticket a.sets r.unit among_in in
-    let set = SetsAgree-left o s.sets t item out c.unit (set_left s (kept c)) a.sets l (one_unit c.ticket (live t) c a.commands.apart here) r.unit (ap (λ (m : Members). m.depth) left_is) (ap (λ (m : Members). m.list) left_is) in
-    let commands : CommandsAgree o (without_ticket c.ticket s.live) s.entered (item ∷ t) = CommandsAgree-left o s.live s.entered t item out a.commands l (live_early o s.live s.entered t c.ticket a.commands among) in
+    let covers : Task → Bool = covers_ticket c.ticket in
+    let conn : ℕ = connection_of c.arrival.request in
+    let reply : Reply = Scsi (itt c.arrival.request) status (sense_of_status status) in
+    let one = (ticket_alone (λ d. d.ticket == ticket) (live t) c a.commands.apart found).0 in
+    let gone : covered_in o t c.unit covers ≡ c ∷ [] = filter-swap (λ (d : Command). d.ticket == c.ticket) (λ (d : Command). d.unit == c.unit) (live t) ∙ rw (one, eq-eqb c.unit c.unit refl) in
+    let leaving : Leaving o s t item c.unit covers conn = record {
+      lasts = lasting o s t a;
+      window = WindowAgrees-quiet o s.window t item (quiet-completion c status) a.window;
+      replies = a.replies;
+      waits = record { list = a.waiting.list; may = a.waiting.may; known = a.waiting.known };
+      closes = record { session = refl; conns = λ k. refl };
+      inside = r.unit;
+      known = r.known;
+      leaves = record { enters_none = refl; some = λ k. sym (gone_tickets o t (set_at s c.unit) c.unit (a.sets.lists c.unit r.unit) covers k ∙ ap (is_among k) gone) };
+      sends = refl;
+    } in
     record {
-      settled = record {
-        agrees = record {
-          events = a.events;
-          window = WindowAgrees-quiet o (finished s.window (kept c)) t item (quiet-completion c status) (cond_both (is_immediate c.arrival.request) _ _ (λ v. WindowAgrees o v t) (λ is. a.window) (λ is. WindowAgrees-finished o s.window t a.window));
-          replies = RepliesAgree-sent o s.conns t item (connection_of c.arrival.request) refl r.known a.replies;
-          commands = commands;
-          sets = set.agrees;
-          unfinished = unfinished-left s.window (unfinished (item ∷ t)) c (cc (a.unfinished, count-without (λ (d : Command). not (is_immediate d.arrival.request)) c.ticket (live t) c a.commands.apart here, live-left item t out l));
-          enabled = EnabledSoFar-left o item t out l (units_live o (without_ticket c.ticket s.live) s.entered (item ∷ t) commands) a.enabled;
-          level = a.level;
-          waiting = record { list = a.waiting.list; may = a.waiting.may; known = a.waiting.known };
-          open_conns = a.open_conns ∙ sym (open_of-same o item t (record { session = refl; conns = λ k. refl }));
-        };
-        none_due = finished_place s.window c ∙ h.none_due;
-      };
-      effects_are = rw (a.replies.stat_sns (connection_of c.arrival.request) r.known, set.effects, append-nil (enables (newly_enabled o t item)));
+      settled = record { agrees = leaving-agrees o s t item c.unit covers conn reply leaving; none_due = h.none_due };
+      effects_are = rw (leaving-effects o s t item c.unit covers conn reply leaving, gone, append-nil (enables (newly_enabled o t item)));
+      receives = inl (append-nil (received t));
     }
 
 -- what a session finds by the ticket
@@ -90,23 +74,23 @@ enabled_in_set : (o : Setting) (s : Core) (t : Trace) (ticket : ℕ) (c : Comman
 enabled_in_set o s t ticket c a inside = ap (is_enabled_in ticket) (a.sets.lists c.unit inside) ∙ list_any-map (λ (m : Member). m.task.ticket == ticket && m.enabled) (member_of o t) (live_in c.unit t)
 
 pub Stepped-completion : (o : Setting) (s : Core) (t : Trace) (event ticket status : ℕ) → Settled o s t
-    → Stepped o (after_completion s ticket) t (items_of o event t (Done ticket status)) (completion_effects s ticket status)
+    → Stepped o (completed s (enabled_in s.sets s.live ticket) status) t (items_of o event t (Done ticket status))
 Stepped-completion o s t event ticket status h = by_ticket (first_of (filter (λ d. d.ticket == ticket) (live t))) refl
   where
-    kept_is : find_enabled s ticket ≡ enabled_of s.sets ticket (option_map kept (first_of (filter (λ d. d.ticket == ticket) (live t))))
+    kept_is : enabled_in s.sets s.live ticket ≡ enabled_of s.sets ticket (option_map kept (first_of (filter (λ d. d.ticket == ticket) (live t))))
     kept_is = ap (enabled_of s.sets ticket) (ap (find_ticket ticket) h.agrees.commands.commands ∙ find_kept ticket (live t))
 
-    by_ticket : (x : Option Command) → first_of (filter (λ d. d.ticket == ticket) (live t)) ≡ x → Stepped o (after_completion s ticket) t (completion status (command_of t ticket)) (completion_effects s ticket status)
-    by_ticket None none = rw (kept_is, none, none_passing (λ d. was_free d t) ticket (live t) none, after_completion, completion_effects) (Stepped-ignored o s t Stale h)
+    by_ticket : (x : Option Command) → first_of (filter (λ d. d.ticket == ticket) (live t)) ≡ x → Stepped o (completed s (enabled_in s.sets s.live ticket) status) t (completion status (command_of t ticket))
+    by_ticket None none = rw (kept_is, none, none_passing (λ d. was_free d t) ticket (live t) none) (Stepped-ignored o s t Stale h)
     by_ticket (Some c) found = by_test (was_free c t) refl
       where
-        by_test : (b : Bool) → was_free c t ≡ b → Stepped o (after_completion s ticket) t (completion status (command_of t ticket)) (completion_effects s ticket status)
+        by_test : (b : Bool) → was_free c t ≡ b → Stepped o (completed s (enabled_in s.sets s.live ticket) status) t (completion status (command_of t ticket))
         by_test b is =
             let r : Regular o c = regular_parts o c (first_passes (λ d. d.ticket == ticket) (is_regular o) (live t) c (regular_live o s.live s.entered t h.agrees.commands) found) in
             let one = first_passing (λ d. was_free d t) ticket (live t) c h.agrees.commands.apart found in
-            rw (kept_is, found, enabled_in_set o s t ticket c h.agrees r.unit, one.1, one.0, is, after_completion, completion_effects) (by_free b)
+            rw (kept_is, found, enabled_in_set o s t ticket c h.agrees r.unit, one.1, one.0, is) (by_free b)
           where
-            by_free : (b : Bool) → Stepped o (elim (cond b (Some (kept c)) None) [ Some l ↦ without_command s l | None ↦ s ]) t (completion status (cond b (Some c) None)) (elim (cond b (Some (kept c)) None) [ Some l ↦ leave_effects s l status | None ↦ Ignore Stale ∷ [] ])
+            by_free : (b : Bool) → Stepped o (completed s (cond b (Some (kept c)) None) status) t (completion status (cond b (Some c) None))
             by_free true = Stepped-completed o s t c ticket status h found
             by_free false = Stepped-ignored o s t Stale h
 
@@ -166,10 +150,8 @@ answered o s t a h number event = by_tests (nat_le (number_expected s.window) a.
     })
 
 pub record Offered (o : Setting) (s : Core) (event : ℕ) (t : Trace) (r : Request) : Type 0 where
-  pub outside : offer_to s.window r ≡ OutsideWindow → Stepped o (with_offered s r) t (numbered o t (arrival_of o event t r)) (Ignore Outside ∷ [])
-  pub known : offer_to s.window r ≡ Known → Stepped o (with_offered s r) t (numbered o t (arrival_of o event t r)) (Ignore Duplicate ∷ [])
-  pub outside_is : offer_to s.window r ≡ OutsideWindow → numbered o t (arrival_of o event t r) ≡ ignored Outside
-  pub known_is : offer_to s.window r ≡ Known → numbered o t (arrival_of o event t r) ≡ ignored Duplicate
+  pub outside : offer_to s.window r ≡ OutsideWindow → Stepped o (step_ignored (with_offered s r) Outside) t (numbered o t (arrival_of o event t r))
+  pub known : offer_to s.window r ≡ Known → Stepped o (step_ignored (with_offered s r) Duplicate) t (numbered o t (arrival_of o event t r))
   pub taken : offer_to s.window r ≡ Held → Agrees o (with_offered s r) ((Admits (arrival_of o event t r) ∷ []) ∷ t)
       × ((numbered o t (arrival_of o event t r) ≡ (Admits (arrival_of o event t r) ∷ []) ∷ agenda o (number_expected (with_offered s r).window) (exp_of o ((Admits (arrival_of o event t r) ∷ []) ∷ t) - number_expected (with_offered s r).window) ((Admits (arrival_of o event t r) ∷ []) ∷ t))
       × ((rest : List (List Mark)) → effects_of o t ((Admits (arrival_of o event t r) ∷ []) ∷ rest) ≡ effects_of o ((Admits (arrival_of o event t r) ∷ []) ∷ t) rest))
@@ -185,8 +167,6 @@ offered o s event t r h not_immediate known taken =
     record {
       outside = λ said. let f = x.outside said in rw (f.0, f.1) (Stepped-ignored o s t Outside h);
       known = λ said. let f = x.known said in rw (f.0, f.1) (Stepped-ignored o s t Duplicate h);
-      outside_is = λ said. (x.outside said).1;
-      known_is = λ said. (x.known said).1;
       taken = λ said.
           let f = x.taken said in
           let start : exp_of o t ≡ number_expected (with_offered s r).window = same_exp ∙ ap (λ (c : Core). number_expected c.window) (sym f.core_is) in (
@@ -200,7 +180,7 @@ offered o s event t r h not_immediate known taken =
 
 -- ---- an event
 
-pub Settled-counted : (o : Setting) (s : Core) (t : Trace) → Settled o s t → Settled o (counted s) t
+pub Settled-counted : (o : Setting) (s : Core) (t : Trace) → Settled o s t → Settled o (record s { taken = s.taken + 1 }) t
 Settled-counted o s t h = assumption
 
 pub comes_on-same : (o : Setting) (s : Core) (t : Trace) (e : Event) → Agrees o s t → comes_on s.conns e ≡ comes_on o.conns e

@@ -1,5 +1,5 @@
 -- A turn: the request of the next number begins to execute.
-use Rattle.std.proofs.Common.{◌≡◌, ℕ, cond, false, ◌∷◌, Some, refl, ap, ◌∙◌, arith}
+use Rattle.std.proofs.Common.{◌≡◌, ℕ, cond, false, Option, Some, refl, ap, arith}
 use Rattle.iscsi_window.specs.declared.held_request.HeldRequest.{HeldRequest}
 use Rattle.iscsi_wire.specs.Fields.{is_immediate}
 use Rattle.iscsi_window.specs.Windows.{number_expected, at_place, advanced_if}
@@ -8,7 +8,7 @@ use Rattle.iscsi_history.specs.rules.Settings.{Setting}
 use Rattle.iscsi_history.specs.rules.Trace.{Arrival, Delivers, Trace}
 use Rattle.iscsi_session.specs.private.Standing.{Core, Agrees}
 use Rattle.iscsi_session.specs.private.Steps.{number_by, event_by}
-use Rattle.iscsi_session.specs.private.Turning.{with_executed, executed_effects, with_advanced, turned_if, turn_effects}
+use Rattle.iscsi_session.specs.private.Deeds.{turn_of, turn_taken}
 use Rattle.iscsi_history.proofs.BoolLemmas.{and_parts, not_true}
 use Rattle.iscsi_history.proofs.HeldLemmas.{held-number, admitted_of_held}
 use Rattle.iscsi_session.proofs.WindowParts.{Next, turned_window, WindowAgrees-turned}
@@ -19,14 +19,8 @@ use Rattle.iscsi_session.proofs.ExecutionLemmas.{Begun}
 abbrev pub turned_core : Core → Core
 turned_core s = record s { window = turned_window s.window }
 
-core_is : (s : Core) (r : HeldRequest) → at_place s.window 0 ≡ Some (Some r) → with_advanced s ≡ turned_core s
-core_is s r h = ap (λ p. record s { window = advanced_if s.window p }) h
-
-pub turned_is : (s : Core) (r : HeldRequest) → at_place s.window 0 ≡ Some (Some r) → turned_if s (at_place s.window 0) ≡ with_executed (turned_core s) r.request r.event
-turned_is s r h = ap (turned_if s) h ∙ ap (λ (c : Core). with_executed c r.request r.event) (core_is s r h)
-
-pub turn_effects-are : (s : Core) (r : HeldRequest) → at_place s.window 0 ≡ Some (Some r) → turn_effects s (at_place s.window 0) ≡ Deliver r.request ∷ executed_effects (turned_core s) r.request r.event
-turn_effects-are s r h = ap (turn_effects s) h ∙ ap (λ (c : Core). Deliver r.request ∷ executed_effects c r.request r.event) (core_is s r h)
+pub turned_is : (s : Core) (q : Option HeldRequest) → at_place s.window 0 ≡ Some q → turn_taken s (Some q) ≡ turn_of (turned_core s) q
+turned_is s q h = ap (λ p. turn_of (record s { window = advanced_if s.window p }) q) h
 
 -- a request that is held is numbered
 pub numbered_held : (o : Setting) (s : Core) (t : Trace) (r : HeldRequest) (h : Agrees o s t) → (x : Next s.window t r) → is_immediate x.arrival.request ≡ false
@@ -43,25 +37,17 @@ turn-begun o s t r h place x =
     let regular = and_parts _ _ (h.window.requests e a (admitted_of_held t e a x.held_is)) in
     let number : a.number ≡ e = held-number t e a x.held_is in
     record {
-      events = h.events;
+      lasts = record { events = h.events; commands = h.commands; sets = h.sets; unfinished_is = h.unfinished; enabled = h.enabled; level = h.level; open_is = h.open_conns };
       window = λ ms q. (WindowAgrees-turned o s.window t r ms h.window place x q).agrees;
       room = λ is ms q. WindowAgrees-turned o s.window t r ms h.window place x q;
       replies = h.replies;
-      commands = h.commands;
-      sets = h.sets;
-      unfinished_is = h.unfinished;
-      enabled = h.enabled;
       known = regular.1;
       first = h.window.first;
-      level = h.level;
-      waiting = h.waiting.list;
-      may = h.waiting.may;
-      waiting_known = h.waiting.known;
+      waits = record { list = h.waiting.list; may = h.waiting.may; known = h.waiting.known };
       enters_no = refl;
       leaves_no = λ k. refl;
       sends_no = refl;
       closes_no = record { session = refl; conns = λ c. refl };
-      open_is = h.open_conns;
       shows = refl;
     }
 

@@ -5,7 +5,7 @@ use Rattle.std.specs.Option.{option_flatten}
 use Rattle.std.proofs.lemmas.Bool.Decides.{nat_tests}
 use Rattle.std.proofs.lemmas.List.{length_push}
 use Rattle.iscsi_session.specs.private.Standing.{Core, is_held, is_place_known}
-use Rattle.iscsi_session.specs.private.Turning.{comes_next, next_waiting}
+use Rattle.iscsi_session.specs.private.Deeds.{next_waiting, comes_next}
 use Rattle.iscsi_wire.specs.declared.request.Request.{Request}
 use Rattle.iscsi_window.specs.declared.held_request.HeldRequest.{HeldRequest}
 use Rattle.iscsi_wire.specs.Serial.{lift}

@@ -256,10 +256,3 @@ WindowAgrees-started o w t h =
     let few : w.unfinished + 1 ≤ length w.places = omega (arith, h.not_full) in
     let free : (k : ℕ) → length w.places ≤ k + (w.unfinished + 1) → get_or w.places k None ≡ None = λ k big. h.last_free k (omega (arith, big)) in
     assumption
-
--- a command is over
-pub WindowAgrees-finished : (o : Setting) (w : Arrived) (t : Trace) → WindowAgrees o w t → WindowAgrees o (with_unfinished w (w.unfinished - 1)) t
-WindowAgrees-finished o w t a =
-    let few : w.unfinished - 1 ≤ length w.places = omega (arith, a.few) in
-    let free : (k : ℕ) → length w.places ≤ k + (w.unfinished - 1) → get_or w.places k None ≡ None = λ k big. a.free k (omega (arith, big)) in
-    assumption

@@ -3,7 +3,4 @@ pub mod Standing
 pub mod Codes
 pub mod Invariant
 pub mod Steps
-pub mod Functions
-pub mod Closing
 pub mod Deeds
-pub mod Turning

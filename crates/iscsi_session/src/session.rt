@@ -5,9 +5,9 @@ ghost use Rattle.std.specs.List.{list_all};
 ghost use Rattle.iscsi_history.specs.rules.Settings.{Setting, is_valid};
 ghost use Rattle.iscsi_session.specs.promises.Settings.{setting_of};
 ghost use Rattle.iscsi_connections.specs.Connected.{opened};
-ghost use Rattle.iscsi_history.specs.rules.Trace.{Trace, after_items, received, live};
+ghost use Rattle.iscsi_history.specs.rules.Trace.{Trace, live};
 ghost use Rattle.iscsi_history.specs.rules.Agenda.{arrival, items_of};
-ghost use Rattle.iscsi_history.specs.rules.Run.{trace_of, run_of, next_entry, numbers_of, effects_of};
+ghost use Rattle.iscsi_history.specs.rules.Run.{trace_of, run_of, next_entry, numbers_of};
 ghost use Rattle.iscsi_history.specs.promises.Flow.{Flows, HasOneMore};
 ghost use Rattle.iscsi_history.specs.promises.Executed.{delivered, executed};
 ghost use Rattle.iscsi_history.specs.promises.Enabling.{EnablesByTheRule};
@@ -21,8 +21,7 @@ ghost use Rattle.iscsi_history.specs.promises.Meaning.{MeansWhatItSays};
 ghost use Rattle.iscsi_session.specs.promises.Refusals.{RefusesAs, refusal_of, refusal_of_options};
 ghost use Rattle.iscsi_session.specs.promises.Bounds.{effect_bound_of, most_effects};
 ghost use Rattle.iscsi_session.specs.private.Standing.{Settled, StandsFor, is_held};
-ghost use Rattle.iscsi_session.specs.private.Steps.{refusal_by, comes_on, KeepsPace, counted, numbers_by};
-ghost use Rattle.iscsi_session.specs.private.Functions.{owed};
+ghost use Rattle.iscsi_session.specs.private.Steps.{comes_on, refusal_by, KeepsPace, Handles, owed, numbers_by};
 
 use crate::fault::SessionFault;
 use crate::options::Options;
@@ -258,12 +257,8 @@ impl Session {
         requires owed { owed self.old.live self.old.sets ≤ 2 * length self.old.live }
         requires room { vec_len out.old + 12 * (count_by is_held self.old.window.places + length self.old.waiting + 1)
             + 2 * length self.old.live ≤ vec_capacity out.old }
-        ensures settled { (o : Setting) (index : ℕ) (t : Trace) → self.old.taken ≡ index + 1 → Settled o self.old t →
-            Settled o self.new (after_items (items_of o index t event.now) t) }
-        ensures effects { (o : Setting) (index : ℕ) (t : Trace) → self.old.taken ≡ index + 1 → Settled o self.old t →
-            out.new.items ≡ out.old.items ++ effects_of o t (items_of o index t event.now) }
-        ensures received { (o : Setting) (index : ℕ) (t : Trace) → self.old.taken ≡ index + 1 → Settled o self.old t →
-            HasOneMore (received t) (received (after_items (items_of o index t event.now) t)) }
+        ensures items { (o : Setting) (index : ℕ) (t : Trace) → self.old.taken ≡ index + 1 → Settled o self.old t →
+            Handles o t (items_of o index t event.now) HasOneMore self.new out.old.items out.new.items }
         ensures taken { self.new.taken ≡ self.old.taken }
         ensures pace { KeepsPace self.old.window self.new.window }
         ensures spent { vec_len out.new ≤ vec_len out.old

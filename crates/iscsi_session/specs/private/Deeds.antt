@@ -1,29 +1,28 @@
 -- What a request does that executes: what a session finds, what it keeps afterwards, and the effects. For private contracts alone.
-use Rattle.std.specs.Prelude.{◌≡◌, ℕ, ℤ, ◌+◌, ◌<◌, ◌==◌, ◌&&◌, not, Bool, true, false, nat_lt, nat_le, List, [], ◌∷◌, ◌++◌, length, find, count_by, is_some, Option, Some, None, option_map, if◌then◌else◌}
+use Rattle.std.specs.Prelude.{◌≡◌, ℕ, ℤ, pos, ◌-ℤ◌, ◌+◌, ◌-◌, ◌<◌, ◌==◌, ◌&&◌, not, Bool, true, false, nat_lt, nat_le, [], ◌∷◌, ◌++◌, length, filter, find, count_by, is_some, Option, Some, None, option_map, if◌then◌else◌}
 use Rattle.std.specs.List.{list_any}
 use Rattle.iscsi_wire.specs.declared.request.Request.{Request}
-use Rattle.iscsi_wire.specs.Serial.{lift}
+use Rattle.iscsi_wire.specs.Serial.{lift, number_of_first}
 use Rattle.iscsi_wire.specs.Fields.{connection_of, is_immediate, opcode, itt, rtt, cid, cmd_sn, ref_cmd_sn}
+use Rattle.iscsi_window.specs.declared.held_request.HeldRequest.{HeldRequest}
 use Rattle.iscsi_window.specs.declared.answer.Place.{Place}
 use Rattle.iscsi_window.specs.declared.answer.Place.TheVariants.{Inside, Outside}
-use Rattle.iscsi_window.specs.Windows.{HasRoom, number_expected, room_of, place_in, find_held, number_shown, voided, emptied}
+use Rattle.iscsi_window.specs.Windows.{HasRoom, number_expected, room_of, place_in, find_held, number_shown, advanced, is_next}
 use Rattle.iscsi_tasks.specs.declared.cover.Cover.TheVariants.{All as AllOfThem, Below}
 use Rattle.iscsi_tasks.specs.Sets.{is_covered}
 use Rattle.iscsi_commands.specs.declared.live.Live.{Live}
-use Rattle.iscsi_history.specs.declared.effect.Effect.{Effect}
-use Rattle.iscsi_history.specs.declared.effect.Effect.TheVariants.{Empty as EmptyEffect}
+use Rattle.iscsi_history.specs.declared.effect.Effect.TheVariants.{Deliver, Immediate, Wait as Waits}
 use Rattle.iscsi_history.specs.declared.deed.Answer.{Answer}
 use Rattle.iscsi_history.specs.declared.deed.Answer.TheVariants.{Reject, Respond}
 use Rattle.iscsi_history.specs.declared.deed.Deed.{Deed}
 use Rattle.iscsi_history.specs.declared.deed.Deed.TheVariants.{Nothing, Wait, Reply, Enter, Void, Empty, Abort, AbortEarlier, AbortAll, CloseConn, CloseSession}
 use Rattle.iscsi_history.specs.rules.Settings.{is_known}
-use Rattle.iscsi_history.specs.rules.Execution.{unit_named, reply_of}
+use Rattle.iscsi_history.specs.rules.Execution.{unit_named}
 use Rattle.iscsi_history.specs.rules.Management.{MOST_WAITING, may_wait, refusal}
 use Rattle.iscsi_history.specs.rules.Deeds.{Facts, of_unit, function_deed, deed_of}
+use Rattle.iscsi_session.specs.declared.session.waiting.Waiting.{Waiting}
 use Rattle.iscsi_session.specs.private.Standing.{Core, is_held}
-use Rattle.iscsi_session.specs.private.Steps.{set_at, is_set_full, is_tag_kept, is_crowded_by, with_command, entry_effects, with_reply, reply_effects, waiting_in}
-use Rattle.iscsi_session.specs.private.Functions.{aborted, abort_effects, covers_ticket, void_effects}
-use Rattle.iscsi_session.specs.private.Closing.{is_among_open, logged_out, logout_effects}
+use Rattle.iscsi_session.specs.private.Steps.{Step, unchanged, and_then, after_effect, set_at, is_set_full, is_tag_kept, is_crowded_by, waiting_in, number_by, request_answered, command_entered, covers_ticket, aborted, number_voided, number_emptied, is_among_open, logged_out}
 
 -- ---- what is found
 
@@ -127,30 +126,73 @@ most_emptied s (CloseConn conn) = count_by is_held s.window.places
 most_emptied s CloseSession = count_by is_held s.window.places
 most_emptied s _ = 0
 
--- ---- what is kept afterwards. Its number less the first one is this one, and it arrived in this event
+-- ---- what it comes to
 
-abbrev pub carried : Core → Request → ℤ → ℕ → Deed → Core
-carried s r number event Nothing = s
-carried s r number event Wait = s
-carried s r number event (Reply x) = with_reply s (connection_of r)
-carried s r number event (Enter unit) = with_command s r unit
-carried s r number event Void = with_reply (record s { window = voided s.window (ref_cmd_sn r) }) (connection_of r)
-carried s r number event (Empty unit sn) = with_reply (record s { window = emptied s.window sn }) (connection_of r)
+-- its number less the first one
+abbrev pub position_by : Core → Request → ℤ
+position_by s r = pos (number_by s r) -ℤ pos (number_of_first s.window.first)
+
+-- a request does this, whose number less the first one is this one, and which arrived in this event
+abbrev pub carried : Core → Request → ℤ → ℕ → Deed → Step
+carried s r number event Nothing = unchanged s
+carried s r number event Wait = unchanged s
+carried s r number event (Reply x) = request_answered s r x
+carried s r number event (Enter unit) = command_entered s r unit
+carried s r number event Void = and_then (number_voided s (ref_cmd_sn r)) (λ s'. request_answered s' r (Respond 0))
+carried s r number event (Empty unit sn) = and_then (number_emptied s sn) (λ s'. request_answered s' r (Respond 0))
 carried s r number event (Abort unit ticket) = aborted s r unit (covers_ticket ticket)
 carried s r number event (AbortEarlier unit) = aborted s r unit (is_covered (Below number event))
 carried s r number event (AbortAll unit) = aborted s r unit (is_covered AllOfThem)
 carried s r number event (CloseConn conn) = logged_out s r (Some conn)
 carried s r number event CloseSession = logged_out s r None
 
-abbrev pub carried_effects : Core → Request → ℤ → ℕ → Deed → List Effect
-carried_effects s r number event Nothing = []
-carried_effects s r number event Wait = []
-carried_effects s r number event (Reply x) = reply_effects s (connection_of r) (reply_of r x)
-carried_effects s r number event (Enter unit) = entry_effects s r unit
-carried_effects s r number event Void = void_effects s (ref_cmd_sn r) ++ reply_effects s (connection_of r) (reply_of r (Respond 0))
-carried_effects s r number event (Empty unit sn) = EmptyEffect sn ∷ reply_effects s (connection_of r) (reply_of r (Respond 0))
-carried_effects s r number event (Abort unit ticket) = abort_effects s r unit (covers_ticket ticket)
-carried_effects s r number event (AbortEarlier unit) = abort_effects s r unit (is_covered (Below number event))
-carried_effects s r number event (AbortAll unit) = abort_effects s r unit (is_covered AllOfThem)
-carried_effects s r number event (CloseConn conn) = logout_effects s r (Some conn)
-carried_effects s r number event CloseSession = logout_effects s r None
+-- a request that arrived in this event executes
+abbrev pub executed : Core → Request → ℕ → Step
+executed s r event = carried s r (position_by s r) event (deed_by s r)
+
+-- ---- a turn
+
+-- a number has turned: the request that was held executes, if there was one
+abbrev pub turn_of : Core → Option HeldRequest → Step
+turn_of s None = unchanged s
+turn_of s (Some h) = after_effect (Deliver h.request) (executed s h.request h.event)
+
+-- the next number turns, if it is received
+abbrev pub turn_taken : Core → Option (Option HeldRequest) → Step
+turn_taken s None = unchanged s
+turn_taken s (Some q) = turn_of (record s { window = advanced s.window }) q
+
+-- the first function that waits for the next number
+abbrev pub next_waiting : Core → Option Waiting
+next_waiting s = find (λ w. w.turn == s.window.turned) s.waiting
+
+-- it waits no more
+abbrev pub without_waiting : Core → Waiting → Core
+without_waiting s w = record s { waiting = filter (λ v. not (v.event == w.event)) s.waiting }
+
+abbrev pub next_position : Core → ℤ
+next_position s = pos (number_expected s.window) -ℤ pos (number_of_first s.window.first)
+
+-- it executes, if there is one
+abbrev pub function_taken : Core → Option Waiting → Step
+function_taken s None = unchanged s
+function_taken s (Some w) =
+    let rest = without_waiting s w in after_effect (Immediate w.request) (carried rest w.request (next_position s) w.event (function_deed (facts_by rest w.request) w.request))
+
+-- ---- an arrival
+
+-- a numbered request can be delivered as it comes: its number is the expected one, and no function waits for that
+abbrev pub comes_next : Core → Request → Bool
+comes_next s r = not (is_some (next_waiting s)) && is_next s.window r
+
+-- an immediate request does this at its arrival
+abbrev pub done_at_once : Core → Request → Deed → Step
+done_at_once s r deed = after_effect (Immediate r) (carried s r (position_by s r) (s.taken - 1) deed)
+
+-- or it waits
+abbrev pub immediate_taken : Core → Request → Deed → Step
+immediate_taken s r Wait = record {
+  core = record s { waiting = s.waiting ++ record { request = r; turn = lift (number_expected s.window) (cmd_sn r) - number_of_first s.window.first; event = s.taken - 1 } ∷ [] };
+  effects = Waits r ∷ [];
+}
+immediate_taken s r deed = done_at_once s r deed

@@ -1,30 +1,40 @@
--- What a session keeps after a part of an event, and the effects, by what it keeps before. For private contracts alone.
-use Rattle.std.specs.Prelude.{◌≡◌, ℕ, pos, ◌-ℤ◌, ◌+◌, ◌-◌, ◌≤◌, ◌==◌, ◌&&◌, ◌||◌, not, count_by, nat_lt, nat_le, Bool, true, List, [], ◌∷◌, ◌++◌, length, map, filter, slice_index_or, slice_set, Option, Some, None, if◌then◌else◌}
-use Rattle.std.specs.List.{list_any}
+-- What a session keeps after a step, and its effects, by what it keeps before. For private contracts alone.
+use Rattle.std.specs.Prelude.{◌≡◌, ℕ, pos, ◌-ℤ◌, ◌+◌, ◌-◌, ◌≤◌, ◌==◌, ◌&&◌, ◌||◌, not, count_by, nat_lt, nat_le, Bool, true, List, [], ◌∷◌, ◌++◌, length, map, take, filter, slice_index_or, slice_set, Option, Some, None, Vec, vec_capacity, if◌then◌else◌}
+use Rattle.std.specs.List.{list_any, list_all, flat_map, range_with_len}
+use Rattle.std.specs.declared.alloc.Global.{Global}
 use Rattle.iscsi_wire.specs.declared.request.Request.{Request}
 use Rattle.iscsi_wire.specs.declared.reply.Reply.{Reply}
 use Rattle.iscsi_wire.specs.declared.reply.Reply.TheVariants.{Scsi}
 use Rattle.iscsi_wire.specs.Serial.{wire, lift, number_of_first}
 use Rattle.iscsi_wire.specs.Fields.{connection_of, is_immediate, cmd_sn, attr_code, itt}
-use Rattle.iscsi_window.specs.Windows.{Arrived, number_expected, number_last, offered_in, with_unfinished}
+use Rattle.iscsi_window.specs.declared.held_request.HeldRequest.{HeldRequest}
+use Rattle.iscsi_window.specs.Windows.{Arrived, number_expected, number_last, offered_in, with_unfinished, place_in, is_received_at, voided, emptied, is_asked, holds_from}
 use Rattle.iscsi_tasks.specs.declared.task.Task.{Task}
 use Rattle.iscsi_tasks.specs.declared.member.Member.{Member}
-use Rattle.iscsi_tasks.specs.Sets.{Members, tasks_in, opened as opened_set, entered_to, left_by, with_ticket, is_enabled_in, is_new, next_in, given_by}
+use Rattle.iscsi_tasks.specs.declared.cover.Cover.{Cover}
+use Rattle.iscsi_tasks.specs.declared.cover.Cover.TheVariants.{All as AllOfThem, Conn as OfConn}
+use Rattle.iscsi_tasks.specs.Sets.{Members, opened as opened_set, entered_to, is_covered, is_enabled_in, is_new, next_in, given_by}
+pub use Rattle.iscsi_tasks.specs.Sets.{set_staying}
+pub use Rattle.iscsi_tasks.specs.Marked.{covered_tickets}
+use Rattle.iscsi_commands.specs.declared.live.Live.{Live}
+pub use Rattle.iscsi_commands.specs.Commands.{find_ticket, without_ticket}
+pub use Rattle.iscsi_connections.specs.Connected.{count_reply, counted_on, is_among_open, still_open}
 use Rattle.iscsi_history.specs.declared.effect.Why.TheVariants.{Stale}
 use Rattle.iscsi_history.specs.declared.effect.Effect.{Effect}
-use Rattle.iscsi_history.specs.declared.effect.Effect.TheVariants.{Enter, Enable, Leave, Send, Ignore}
+use Rattle.iscsi_history.specs.declared.effect.Effect.TheVariants.{Enter, Enable, Leave, Send, Ignore, Void, Empty, CloseConn, CloseSession}
 use Rattle.iscsi_history.specs.declared.effect.Numbers.{Numbers}
 use Rattle.iscsi_history.specs.declared.event.Event.{Event}
 use Rattle.iscsi_history.specs.declared.event.Event.TheVariants.{Arrive, Done}
+use Rattle.iscsi_history.specs.declared.deed.Answer.{Answer}
+use Rattle.iscsi_history.specs.declared.deed.Answer.TheVariants.{Respond, LogOut}
+use Rattle.iscsi_history.specs.rules.Settings.{Setting, is_known}
+use Rattle.iscsi_history.specs.rules.Trace.{Mark, Trace, after_items, received}
+use Rattle.iscsi_history.specs.rules.Run.{effects_of}
+use Rattle.iscsi_history.specs.rules.Execution.{sense_of_status, attr_of, reply_of, MOST_IMMEDIATE}
 use Rattle.iscsi_session.specs.declared.fault.SessionFault.{SessionFault}
 use Rattle.iscsi_session.specs.declared.fault.SessionFault.TheVariants.{UnknownConnection, Exhausted}
-use Rattle.iscsi_commands.specs.declared.live.Live.{Live}
 use Rattle.iscsi_session.specs.declared.session.waiting.Waiting.{Waiting}
-use Rattle.iscsi_history.specs.rules.Settings.{is_known}
-use Rattle.iscsi_history.specs.rules.Execution.{sense_of_status, attr_of, MOST_IMMEDIATE}
-use Rattle.iscsi_session.specs.private.Standing.{Core, stat_sn_on}
-pub use Rattle.iscsi_connections.specs.Connected.{count_reply, counted_on}
-pub use Rattle.iscsi_commands.specs.Commands.{find_ticket, without_ticket}
+use Rattle.iscsi_session.specs.private.Standing.{Core, Agrees, Settled, stat_sn_on}
 
 -- ---- refusals
 
@@ -39,20 +49,55 @@ refusal_by s e = if not (comes_on s.conns e) then Some UnknownConnection else (i
 abbrev pub KeepsPace : Arrived → Arrived → Type 0
 KeepsPace w w' = w'.unfinished + w.turned ≤ w.unfinished + w'.turned
 
--- ---- an offer
+-- ---- a step
 
--- a request that came in this event is offered
-abbrev pub with_offered : Core → Request → Core
-with_offered s r = record s { window = offered_in s.window r (s.taken - 1) }
+pub record Step : Type 0 where
+  pub core : Core
+  pub effects : List Effect
+
+abbrev pub unchanged : Core → Step
+unchanged s = record { core = s; effects = [] }
+
+-- one, and then another
+abbrev pub and_then : Step → (Core → Step) → Step
+and_then x next = record { core = (next x.core).core; effects = x.effects ++ (next x.core).effects }
+
+-- this effect comes first
+abbrev pub after_effect : Effect → Step → Step
+after_effect e x = record { core = x.core; effects = e ∷ x.effects }
+
+-- these effects were appended, and there is as much room as before
+pub record Appends (effects : List Effect) (out out' : Vec Effect Global) : Type 0 where
+  pub items : out'.items ≡ out.items ++ effects
+  pub room : vec_capacity out' ≡ vec_capacity out
+
+-- the step was taken
+pub record Takes (step : Step) (now : Core) (out out' : Vec Effect Global) : Type 0 where
+  pub core : now ≡ step.core
+  pub effects : out'.items ≡ out.items ++ step.effects
+  pub room : vec_capacity out' ≡ vec_capacity out
+
+-- what some items lead to: their effects were appended
+pub record Runs (o : Setting) (t : Trace) (items : List (List Mark)) (s : Core) (out out' : List Effect) : Type 0 where
+  pub agrees : Agrees o s (after_items items t)
+  pub effects : out' ≡ out ++ effects_of o t items
+
+-- and nothing is due any more. So many numbers may be received by them
+pub record Handles (o : Setting) (t : Trace) (items : List (List Mark)) (Receives : List ℕ → List ℕ → Type 0) (s : Core) (out out' : List Effect) : Type 0 where
+  pub settled : Settled o s (after_items items t)
+  pub effects : out' ≡ out ++ effects_of o t items
+  pub receives : Receives (received t) (received (after_items items t))
+
+abbrev pub HasNoMore : List ℕ → List ℕ → Type 0
+HasNoMore ns ns' = ns' ≡ ns
 
 -- ---- task sets
 
 abbrev pub set_at : Core → ℕ → Members
 set_at s unit = slice_index_or s.sets unit (opened_set 0)
 
--- the set of the unit is this one now
-abbrev pub with_set : Core → ℕ → Members → Core
-with_set s unit set = record s { sets = slice_set s.sets unit set }
+abbrev pub units_of : Core → List ℕ
+units_of s = range_with_len 0 (length s.sets)
 
 -- every enabled command of the set was given
 abbrev pub as_given : Member → Member
@@ -68,6 +113,13 @@ enable_effects unit ms = map (λ (m : Member). Enable m.task.ticket unit) (filte
 abbrev pub enable_effect : ℕ → Option ℕ → List Effect
 enable_effect unit None = []
 enable_effect unit (Some ticket) = Enable ticket unit ∷ []
+
+-- a unit is told of the commands that became enabled, or each is
+abbrev pub unit_told : Core → ℕ → Step
+unit_told s unit = record { core = record s { sets = slice_set s.sets unit (all_given (set_at s unit)) }; effects = enable_effects unit (set_at s unit).list }
+
+abbrev pub all_told : Core → Step
+all_told s = record { core = record s { sets = map all_given s.sets }; effects = flat_map (λ unit. enable_effects unit (set_at s unit).list) (units_of s) }
 
 -- ---- what is found of live commands and functions that wait
 
@@ -92,9 +144,7 @@ is_crowded_by s r = is_immediate r && nat_le MOST_IMMEDIATE (immediate_in s.live
 abbrev pub waiting_in : List Waiting → ℕ → ℕ
 waiting_in waits cid = count_by (λ w. connection_of w.request == cid) waits
 
--- ---- counts of immediate commands
-
--- the counts are those of the live commands
+-- the counts of immediate commands are those of the live ones
 pub record AreCounted (counts : List ℕ) (conns : List (ℕ × ℕ)) (live : List Live) : Type 0 where
   pub long : length counts ≡ length conns
   pub exact : (cid : ℕ) → is_known cid conns ≡ true → counted_on cid conns counts ≡ immediate_in live cid
@@ -104,9 +154,21 @@ pub record AreCounted (counts : List ℕ) (conns : List (ℕ × ℕ)) (live : Li
 abbrev pub is_numbered : Live → Bool
 is_numbered l = not l.immediate
 
--- ---- a turn
+-- ---- a request is offered to the window in this event, or answered
 
--- what is kept of the command that enters next
+abbrev pub with_offered : Core → Request → Core
+with_offered s r = record s { window = offered_in s.window r (s.taken - 1) }
+
+-- a reply goes out on a connection
+abbrev pub replied : Core → ℕ → Reply → Step
+replied s conn reply = record { core = record s { conns = count_reply conn s.conns }; effects = Send conn (stat_sn_on conn s.conns) reply ∷ [] }
+
+abbrev pub request_answered : Core → Request → Answer → Step
+request_answered s r answer = replied s (connection_of r) (reply_of r answer)
+
+-- ---- a command enters
+
+-- what is kept of it
 abbrev pub new_live : Core → Request → ℕ → Live
 new_live s r unit = record { ticket = s.entered + 1; unit = unit; conn = connection_of r; itt = itt r; immediate = is_immediate r }
 
@@ -118,37 +180,26 @@ number_by s r = if is_immediate r then lift (number_expected s.window) (cmd_sn r
 abbrev pub event_by : Core → Request → ℕ
 event_by s r = if is_immediate r then s.taken - 1 else 0
 
--- the same, as its set sees it
+-- the command, as its set sees it
 abbrev pub new_task : Core → Request → Task
 new_task s r = record { ticket = s.entered + 1; conn = connection_of r; itt = itt r; attr = attr_of (attr_code r); immediate = is_immediate r; pos = pos (number_by s r) -ℤ pos (number_of_first s.window.first); event = event_by s r }
-
-abbrev pub set_entered : Core → Request → ℕ → Members
-set_entered s r unit = entered_to (set_at s unit) (new_task s r)
 
 -- a numbered command takes a place of the window
 abbrev pub started : Arrived → Request → Arrived
 started w r = if is_immediate r then w else with_unfinished w (w.unfinished + 1)
 
--- the request enters
-abbrev pub with_command : Core → Request → ℕ → Core
-with_command s r unit = record s {
-  window = started s.window r;
-  entered = s.entered + 1;
-  live = s.live ++ new_live s r unit ∷ [];
-  sets = slice_set s.sets unit (given_by (set_entered s r unit));
+abbrev pub command_entered : Core → Request → ℕ → Step
+command_entered s r unit = let set = entered_to (set_at s unit) (new_task s r) in record {
+  core = record s {
+    window = started s.window r;
+    entered = s.entered + 1;
+    live = s.live ++ new_live s r unit ∷ [];
+    sets = slice_set s.sets unit (given_by set);
+  };
+  effects = Enter (s.entered + 1) unit (attr_of (attr_code r)) ∷ enable_effect unit (next_in set.list);
 }
 
-abbrev pub entry_effects : Core → Request → ℕ → List Effect
-entry_effects s r unit = Enter (s.entered + 1) unit (attr_of (attr_code r)) ∷ enable_effect unit (next_in (set_entered s r unit).list)
-
--- a reply goes out
-abbrev pub with_reply : Core → ℕ → Core
-with_reply s conn = record s { conns = count_reply conn s.conns }
-
-abbrev pub reply_effects : Core → ℕ → Reply → List Effect
-reply_effects s conn reply = Send conn (stat_sn_on conn s.conns) reply ∷ []
-
--- ---- a completion
+-- ---- a command that is enabled
 
 -- the command with this ticket, if it is enabled in the set of its unit
 abbrev pub enabled_of : List Members → ℕ → Option Live → Option Live
@@ -157,47 +208,156 @@ enabled_of sets ticket x = elim x [ Some l ↦ if is_enabled_in ticket (slice_in
 abbrev pub enabled_in : List Members → List Live → ℕ → Option Live
 enabled_in sets live ticket = enabled_of sets ticket (find_ticket ticket live)
 
-abbrev pub find_enabled : Core → ℕ → Option Live
-find_enabled s ticket = enabled_in s.sets s.live ticket
-
--- the set of its unit without it
-abbrev pub set_without : Live → List Members → Members
-set_without l sets = let set = slice_index_or sets l.unit (opened_set 0) in left_by set (with_ticket l.ticket (tasks_in set))
-
-abbrev pub set_left : Core → Live → Members
-set_left s l = set_without l s.sets
-
--- the sets, once a command left that of its unit, if one did
-abbrev pub sets_left : List Members → Option Live → List Members
-sets_left sets None = sets
-sets_left sets (Some l) = slice_set sets l.unit (set_without l sets)
-
 -- a numbered command gives its place back
 abbrev pub finished : Arrived → Live → Arrived
 finished w l = if l.immediate then w else with_unfinished w (w.unfinished - 1)
 
-abbrev pub without_command : Core → Live → Core
-without_command s l = record s {
-  window = finished s.window l;
-  conns = count_reply l.conn s.conns;
-  live = without_ticket l.ticket s.live;
-  sets = slice_set s.sets l.unit (all_given (set_left s l));
+-- ---- commands of a unit leave
+
+-- a command with this ticket is in the set, and covered
+abbrev pub is_gone : (Task → Bool) → Members → ℕ → Bool
+is_gone covers set ticket = list_any (λ m. m.task.ticket == ticket && covers m.task) set.list
+
+-- the live commands that stay
+abbrev pub staying : (Task → Bool) → Members → List Live → List Live
+staying covers set live = filter (λ l. not (is_gone covers set l.ticket)) live
+
+-- the numbered ones give their places back
+abbrev pub finished_by : Arrived → List Live → List Live → Arrived
+finished_by w before after = with_unfinished w (w.unfinished + count_by is_numbered after - count_by is_numbered before)
+
+-- each of the commands with these tickets leaves
+abbrev pub leave_each : ℕ → List ℕ → List Effect
+leave_each unit tickets = map (λ ticket. Leave ticket unit) tickets
+
+-- the covered commands of the unit leave
+abbrev pub commands_left : Core → ℕ → (Task → Bool) → Step
+commands_left s unit covers = record {
+  core = let rest = staying covers (set_at s unit) s.live in record s {
+    window = finished_by s.window s.live rest;
+    live = rest;
+    sets = slice_set s.sets unit (set_staying covers (set_at s unit));
+  };
+  effects = leave_each unit (covered_tickets covers (set_at s unit).list);
 }
 
-abbrev pub leave_effects : Core → Live → ℕ → List Effect
-leave_effects s l status = Leave l.ticket l.unit ∷ Send l.conn (stat_sn_on l.conn s.conns) (Scsi l.itt status (sense_of_status status)) ∷ enable_effects l.unit (set_left s l).list
+-- those of these units do, one unit after the other
+abbrev pub all_commands_left : Core → List ℕ → (Task → Bool) → Step
+all_commands_left s [] covers = unchanged s
+all_commands_left s (unit ∷ units) covers = and_then (commands_left s unit covers) (λ s'. all_commands_left s' units covers)
 
-abbrev pub after_completion : Core → ℕ → Core
-after_completion s ticket = elim (find_enabled s ticket) [ Some l ↦ without_command s l | None ↦ s ]
+-- the live commands without those that have one of these tickets
+abbrev pub without_tickets : List ℕ → List Live → List Live
+without_tickets tickets live = filter (λ l. not (list_any (λ t. t == l.ticket) tickets)) live
 
-abbrev pub completion_effects : Core → ℕ → ℕ → List Effect
-completion_effects s ticket status = elim (find_enabled s ticket) [ Some l ↦ leave_effects s l status | None ↦ Ignore Stale ∷ [] ]
+abbrev pub covers_ticket : ℕ → Task → Bool
+covers_ticket ticket t = t.ticket == ticket
+
+-- the sets, once this command left its own, if there is one
+abbrev pub sets_left : List Members → Option Live → List Members
+sets_left sets None = sets
+sets_left sets (Some l) = slice_set sets l.unit (set_staying (covers_ticket l.ticket) (slice_index_or sets l.unit (opened_set 0)))
+
+-- some command of the set is covered
+abbrev pub has_covered : (Task → Bool) → Members → Bool
+has_covered covers set = list_any (λ m. covers m.task) set.list
+
+-- commands of a unit leave, a reply goes out, and the unit is told
+abbrev pub left_answered : Core → ℕ → (Task → Bool) → ℕ → Reply → Step
+left_answered s unit covers conn reply = and_then (commands_left s unit covers) (λ s'. and_then (replied s' conn reply) (λ s'. unit_told s' unit))
+
+-- this command is completed, or the completion ignored
+abbrev pub completed : Core → Option Live → ℕ → Step
+completed s None status = record { core = s; effects = Ignore Stale ∷ [] }
+completed s (Some l) status = left_answered s l.unit (covers_ticket l.ticket) l.conn (Scsi l.itt status (sense_of_status status))
+
+-- ---- task management
+
+-- commands leave, and the function is answered
+abbrev pub aborted : Core → Request → ℕ → (Task → Bool) → Step
+aborted s r unit covers = left_answered s unit covers (connection_of r) (reply_of r (Respond 0))
+
+-- a number is received without a request, if it wasn't received before
+abbrev pub number_voided : Core → ℕ → Step
+number_voided s w = record {
+  core = record s { window = voided s.window w };
+  effects = if is_received_at s.window (place_in s.window w) then [] else Void (wire w) ∷ [];
+}
+
+-- the request that is held for this number is taken out
+abbrev pub number_emptied : Core → ℕ → Step
+number_emptied s sn = record { core = record s { window = emptied s.window sn }; effects = Empty sn ∷ [] }
+
+-- ---- a Logout: all is taken out, or what is of one connection
+
+abbrev pub cover_of : Option ℕ → Cover
+cover_of None = AllOfThem
+cover_of (Some conn) = OfConn conn
+
+abbrev pub covers_of : Option ℕ → Task → Bool
+covers_of scope = is_covered (cover_of scope)
+
+abbrev pub emptied_place : Option ℕ → Option (Option HeldRequest) → Option (Option HeldRequest)
+emptied_place scope p = if holds_from scope p then Some None else p
+
+-- those of these places, of which the first is that of number n
+abbrev pub emptied_from : ℕ → Option ℕ → List (Option (Option HeldRequest)) → List Effect
+emptied_from n scope [] = []
+emptied_from n scope (p ∷ ps) = (if holds_from scope p then Empty (wire n) ∷ [] else []) ++ emptied_from (n + 1) scope ps
+
+-- so many places have no request that is to be taken out
+abbrev pub is_clear_below : Option ℕ → ℕ → List (Option (Option HeldRequest)) → Bool
+is_clear_below scope k ps = list_all (λ p. not (holds_from scope p)) (take k ps)
+
+-- the held requests are taken out
+abbrev pub all_emptied : Core → Option ℕ → Step
+all_emptied s scope = record {
+  core = record s { window = record s.window { places = map (emptied_place scope) s.window.places } };
+  effects = emptied_from (number_expected s.window) scope s.window.places;
+}
+
+-- where no connection is open, nothing waits, and the session is closed
+abbrev pub waiting_then : List ℕ → List Waiting → List Waiting
+waiting_then [] ws = []
+waiting_then (conn ∷ conns) ws = ws
+
+abbrev pub session_closes : List ℕ → List Effect
+session_closes [] = CloseSession ∷ []
+session_closes (conn ∷ conns) = []
+
+abbrev pub closing_effects : Option ℕ → List Effect
+closing_effects None = []
+closing_effects (Some conn) = CloseConn conn ∷ []
+
+abbrev pub conns_closed : Core → Option ℕ → Step
+conns_closed s scope = let left = still_open scope s.open_conns in record {
+  core = record s { open_conns = left; waiting = waiting_then left s.waiting };
+  effects = closing_effects scope ++ session_closes left;
+}
+
+-- what is live, is held or waits is taken out, the request is answered, and the connection or the session is closed
+abbrev pub logged_out : Core → Request → Option ℕ → Step
+logged_out s r scope =
+    and_then (all_commands_left s (units_of s) (covers_of scope)) (λ s'.
+    and_then (all_emptied s' scope) (λ s'.
+    and_then (request_answered (record s' { waiting = filter (λ w. not (is_asked scope (connection_of w.request))) s'.waiting }) r (LogOut 0)) (λ s'.
+    and_then (conns_closed s' scope) all_told)))
+
+-- ---- how many effects may be to come
+
+-- the commands of a set that weren't given yet
+abbrev pub ungiven : Members → ℕ
+ungiven set = count_by (λ m. not m.given) set.list
+
+abbrev pub ungiven_in : List Members → ℕ
+ungiven_in [] = 0
+ungiven_in (set ∷ sets) = ungiven set + ungiven_in sets
+
+-- each live command may leave, and be enabled before
+abbrev pub owed : List Live → List Members → ℕ
+owed live sets = length live + ungiven_in sets
 
 -- ---- an event
-
--- the event is counted
-abbrev pub counted : Core → Core
-counted s = record s { taken = s.taken + 1 }
 
 abbrev pub numbers_by : Core → Numbers
 numbers_by s = record { exp = wire (number_expected s.window); max = wire (number_last s.window) }

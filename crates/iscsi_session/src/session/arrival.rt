@@ -1,20 +1,18 @@
 //! The arrival of a request, and the turns that become due by it.
 
-ghost use Rattle.std.specs.Prelude.{false, ◌-◌, ◌*◌, ◌≡◌, ℕ, ◌+◌, ◌≤◌, ◌<◌, true, ◌∷◌, ◌++◌, length, Some, nat_lt, count_by, is_some, vec_len, vec_capacity};
+ghost use Rattle.std.specs.Prelude.{false, ◌-◌, ◌*◌, ◌≡◌, ℕ, ◌+◌, ◌≤◌, ◌<◌, true, length, Some, nat_lt, count_by, is_some, vec_len, vec_capacity};
 ghost use Rattle.std.specs.List.{list_all};
 ghost use Rattle.iscsi_wire.specs.Fields.{connection_of, is_immediate, opcode};
 ghost use Rattle.iscsi_window.specs.Windows.{HasRoom, at_place, offer_to, number_expected};
 ghost use Rattle.iscsi_history.specs.rules.Settings.{Setting, is_known as known_in};
-ghost use Rattle.iscsi_history.specs.rules.Trace.{Trace, after_items, received};
+ghost use Rattle.iscsi_history.specs.rules.Trace.{Trace};
 ghost use Rattle.iscsi_history.specs.promises.Flow.{HasOneMore};
 ghost use Rattle.iscsi_history.specs.rules.Execution.{exp_of};
 ghost use Rattle.iscsi_history.specs.rules.Agenda.{arrival, arrival_open, arrival_of, numbered};
 ghost use Rattle.iscsi_history.specs.rules.Items.{agenda, functions_at};
-ghost use Rattle.iscsi_history.specs.rules.Run.{effects_of};
 ghost use Rattle.iscsi_session.specs.private.Standing.{Agrees, Settled, is_held};
-ghost use Rattle.iscsi_session.specs.private.Steps.{KeepsPace, with_offered};
-ghost use Rattle.iscsi_session.specs.private.Functions.{owed};
-ghost use Rattle.iscsi_session.specs.private.Turning.{with_executed, executed_effects, turned_if, turn_effects, comes_next};
+ghost use Rattle.iscsi_session.specs.private.Steps.{KeepsPace, after_effect, Takes, Runs, Handles, HasNoMore, with_offered, owed};
+ghost use Rattle.iscsi_session.specs.private.Deeds.{executed, turn_taken, comes_next};
 
 use crate::opcode::kind_of;
 use crate::session::Session;
@@ -33,12 +31,8 @@ impl Session {
         requires waited { list_all (λ w. nat_lt (w.event + 1) self.old.taken) self.old.waiting ≡ true }
         requires room { vec_len out.old + owed self.old.live self.old.sets
             + 6 * (count_by is_held self.old.window.places + length self.old.waiting + 1) + 1 ≤ vec_capacity out.old }
-        ensures settled { (o : Setting) (index : ℕ) (t : Trace) → self.old.taken ≡ index + 1 → Settled o self.old t →
-            Settled o self.new (after_items (arrival o t (arrival_of o index t request)) t) }
-        ensures effects { (o : Setting) (index : ℕ) (t : Trace) → self.old.taken ≡ index + 1 → Settled o self.old t →
-            out.new.items ≡ out.old.items ++ effects_of o t (arrival o t (arrival_of o index t request)) }
-        ensures received { (o : Setting) (index : ℕ) (t : Trace) → self.old.taken ≡ index + 1 → Settled o self.old t →
-            HasOneMore (received t) (received (after_items (arrival o t (arrival_of o index t request)) t)) }
+        ensures items { (o : Setting) (index : ℕ) (t : Trace) → self.old.taken ≡ index + 1 → Settled o self.old t →
+            Handles o t (arrival o t (arrival_of o index t request)) HasOneMore self.new out.old.items out.new.items }
         ensures taken { self.new.taken ≡ self.old.taken }
         ensures pace { KeepsPace self.old.window self.new.window }
         ensures spent { vec_len out.new ≤ vec_len out.old + owed self.old.live self.old.sets
@@ -62,12 +56,9 @@ impl Session {
         requires waited { list_all (λ w. nat_lt (w.event + 1) self.old.taken) self.old.waiting ≡ true }
         requires room { vec_len out.old + owed self.old.live self.old.sets
             + 6 * (count_by is_held self.old.window.places + length self.old.waiting + 1) + 1 ≤ vec_capacity out.old }
-        ensures settled { (o : Setting) (index : ℕ) (t : Trace) → self.old.taken ≡ index + 1 → Settled o self.old t →
-            Settled o self.new (after_items (arrival_open o t (arrival_of o index t request)) t) }
-        ensures effects { (o : Setting) (index : ℕ) (t : Trace) → self.old.taken ≡ index + 1 → Settled o self.old t →
-            out.new.items ≡ out.old.items ++ effects_of o t (arrival_open o t (arrival_of o index t request)) }
-        ensures received { (o : Setting) (index : ℕ) (t : Trace) → self.old.taken ≡ index + 1 → Settled o self.old t →
-            HasOneMore (received t) (received (after_items (arrival_open o t (arrival_of o index t request)) t)) }
+        ensures items { (o : Setting) (index : ℕ) (t : Trace) → self.old.taken ≡ index + 1 → Settled o self.old t →
+            Handles o t (arrival_open o t (arrival_of o index t request)) HasOneMore self.new out.old.items
+            out.new.items }
         ensures taken { self.new.taken ≡ self.old.taken }
         ensures pace { KeepsPace self.old.window self.new.window }
         ensures spent { vec_len out.new ≤ vec_len out.old + owed self.old.live self.old.sets
@@ -98,12 +89,8 @@ impl Session {
         requires entered { self.old.entered + count_by is_some self.old.window.places < self.old.taken }
         requires room { vec_len out.old + owed self.old.live self.old.sets
             + 6 * (count_by is_held self.old.window.places + length self.old.waiting + 1) ≤ vec_capacity out.old }
-        ensures settled { (o : Setting) (index : ℕ) (t : Trace) → self.old.taken ≡ index + 1 → Settled o self.old t →
-            Settled o self.new (after_items (numbered o t (arrival_of o index t request)) t) }
-        ensures effects { (o : Setting) (index : ℕ) (t : Trace) → self.old.taken ≡ index + 1 → Settled o self.old t →
-            out.new.items ≡ out.old.items ++ effects_of o t (numbered o t (arrival_of o index t request)) }
-        ensures received { (o : Setting) (index : ℕ) (t : Trace) → self.old.taken ≡ index + 1 → Settled o self.old t →
-            HasOneMore (received t) (received (after_items (numbered o t (arrival_of o index t request)) t)) }
+        ensures items { (o : Setting) (index : ℕ) (t : Trace) → self.old.taken ≡ index + 1 → Settled o self.old t →
+            Handles o t (numbered o t (arrival_of o index t request)) HasOneMore self.new out.old.items out.new.items }
         ensures taken { self.new.taken ≡ self.old.taken }
         ensures pace { KeepsPace self.old.window self.new.window }
         ensures spent { vec_len out.new ≤ vec_len out.old + owed self.old.live self.old.sets
@@ -142,20 +129,14 @@ impl Session {
         requires room { vec_len out.old + owed self.old.live self.old.sets + 6 * count_by is_held self.old.window.places
             + 6 ≤ vec_capacity out.old }
         // It is offered, and turns.
-        ensures session { self.new ≡ turned_if (with_offered self.old request) (Some (Some (record {
+        ensures done { Takes (turn_taken (with_offered self.old request) (Some (Some (record {
           request = request;
           event = self.old.taken - 1;
-        }))) }
-        ensures effects { out.new.items ≡ out.old.items
-            ++ turn_effects (with_offered self.old request) (Some (Some (record {
-              request = request;
-              event = self.old.taken - 1;
-            }))) }
+        })))) self.new out.old out.new }
         ensures spent { vec_len out.new + owed self.new.live self.new.sets
             + 6 * (count_by is_held self.new.window.places + length self.new.waiting) ≤ vec_len out.old
             + owed self.old.live self.old.sets
             + 6 * (count_by is_held self.old.window.places + length self.old.waiting + 1) }
-        ensures capacity { vec_capacity out.new ≡ vec_capacity out.old }
     {
         self.window.pass(&request);
         let event = self.taken - 1;
@@ -181,17 +162,9 @@ impl Session {
     fn run_agenda(&mut self, out: &mut Vec<Effect>)
         requires room { vec_len out.old + owed self.old.live self.old.sets
             + 6 * (count_by is_held self.old.window.places + length self.old.waiting) ≤ vec_capacity out.old }
-        ensures settled { (o : Setting) (t : Trace) → Agrees o self.old t →
-            Settled o self.new (after_items
-            (agenda o (number_expected self.old.window) (exp_of o t - number_expected self.old.window) t) t) }
-        ensures effects { (o : Setting) (t : Trace) → Agrees o self.old t →
-            out.new.items ≡ out.old.items
-            ++ effects_of o t (agenda o (number_expected self.old.window) (exp_of o t - number_expected self.old.window)
-            t) }
-        ensures received { (o : Setting) (t : Trace) → Agrees o self.old t →
-            received (after_items
-            (agenda o (number_expected self.old.window) (exp_of o t - number_expected self.old.window) t) t)
-            ≡ received t }
+        ensures items { (o : Setting) (t : Trace) → Agrees o self.old t →
+            Handles o t (agenda o (number_expected self.old.window) (exp_of o t - number_expected self.old.window) t)
+            HasNoMore self.new out.old.items out.new.items }
         ensures taken { self.new.taken ≡ self.old.taken }
         ensures pace { KeepsPace self.old.window self.new.window }
         ensures spent { vec_len out.new ≤ vec_len out.old + owed self.old.live self.old.sets
@@ -209,10 +182,8 @@ impl Session {
     fn execute_waiting(&mut self, out: &mut Vec<Effect>)
         requires room { vec_len out.old + owed self.old.live self.old.sets + 6 * length self.old.waiting
             ≤ vec_capacity out.old }
-        ensures agrees { (o : Setting) (t : Trace) → Agrees o self.old t →
-            Agrees o self.new (after_items (functions_at o (number_expected self.old.window) t) t) }
-        ensures effects { (o : Setting) (t : Trace) → Agrees o self.old t →
-            out.new.items ≡ out.old.items ++ effects_of o t (functions_at o (number_expected self.old.window) t) }
+        ensures items { (o : Setting) (t : Trace) → Agrees o self.old t →
+            Runs o t (functions_at o (number_expected self.old.window) t) self.new out.old.items out.new.items }
         ensures places { self.new.window.places ≡ self.old.window.places }
         ensures turned { self.new.window.turned ≡ self.old.window.turned }
         ensures first { self.new.window.first ≡ self.old.window.first }
@@ -232,10 +203,8 @@ impl Session {
     fn execute_all_waiting(&mut self, out: &mut Vec<Effect>)
         requires room { vec_len out.old + owed self.old.live self.old.sets + 6 * length self.old.waiting
             ≤ vec_capacity out.old }
-        ensures agrees { (o : Setting) (t : Trace) → Agrees o self.old t →
-            Agrees o self.new (after_items (functions_at o (number_expected self.old.window) t) t) }
-        ensures effects { (o : Setting) (t : Trace) → Agrees o self.old t →
-            out.new.items ≡ out.old.items ++ effects_of o t (functions_at o (number_expected self.old.window) t) }
+        ensures items { (o : Setting) (t : Trace) → Agrees o self.old t →
+            Runs o t (functions_at o (number_expected self.old.window) t) self.new out.old.items out.new.items }
         ensures places { self.new.window.places ≡ self.old.window.places }
         ensures turned { self.new.window.turned ≡ self.old.window.turned }
         ensures first { self.new.window.first ≡ self.old.window.first }
@@ -257,13 +226,11 @@ impl Session {
         requires known { known_in (connection_of request) self.old.conns ≡ true }
         requires room { vec_len out.old + owed self.old.live self.old.sets + 6 * count_by is_held self.old.window.places
             + 6 ≤ vec_capacity out.old }
-        ensures session { self.new ≡ with_executed self.old request event }
-        ensures effects { out.new.items ≡ out.old.items ++ Effect.Deliver request
-            ∷ executed_effects self.old request event }
+        ensures done { Takes (after_effect (Effect.Deliver request) (executed self.old request event)) self.new
+            out.old out.new }
         ensures spent { vec_len out.new + owed self.new.live self.new.sets + 6 * count_by is_held self.new.window.places
             ≤ vec_len out.old + owed self.old.live self.old.sets + 6 * count_by is_held self.old.window.places + 6 }
         ensures waiting { length self.new.waiting ≤ length self.old.waiting }
-        ensures capacity { vec_capacity out.new ≡ vec_capacity out.old }
     {
         self.deliver(request, event, out);
     }
@@ -273,11 +240,9 @@ impl Session {
         requires room { vec_len out.old + owed self.old.live self.old.sets + 6 * count_by is_held self.old.window.places
             ≤ vec_capacity out.old }
         ensures answer { result ≡ is_some (at_place self.old.window 0) }
-        ensures session { self.new ≡ turned_if self.old (at_place self.old.window 0) }
-        ensures effects { out.new.items ≡ out.old.items ++ turn_effects self.old (at_place self.old.window 0) }
+        ensures done { Takes (turn_taken self.old (at_place self.old.window 0)) self.new out.old out.new }
         ensures spent { vec_len out.new + owed self.new.live self.new.sets + 6 * count_by is_held self.new.window.places
             ≤ vec_len out.old + owed self.old.live self.old.sets + 6 * count_by is_held self.old.window.places }
-        ensures capacity { vec_capacity out.new ≡ vec_capacity out.old }
         ensures fewer { result ≡ true → count_by is_some self.new.window.places + 1
             ≡ count_by is_some self.old.window.places }
         ensures waiting { length self.new.waiting ≤ length self.old.waiting }

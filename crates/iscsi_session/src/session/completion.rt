@@ -1,13 +1,14 @@
 //! The completion of a command by its unit.
 
-ghost use Rattle.std.specs.Prelude.{ℕ, ◌*◌, ◌≡◌, ◌==◌, ◌&&◌, ◌+◌, ◌<◌, ◌≤◌, true, false, if◌then◌else◌, ◌++◌, length, nat_lt, vec_len, vec_capacity};
+ghost use Rattle.std.specs.Prelude.{IfSome, MatchOption, ℕ, ◌≡◌, ◌==◌, ◌&&◌, ◌+◌, ◌<◌, ◌≤◌, true, false, if◌then◌else◌, length, nat_lt, vec_len, vec_capacity};
 ghost use Rattle.std.specs.List.{list_all};
 ghost use Rattle.iscsi_history.specs.rules.Settings.{is_known as known_in};
 ghost use Rattle.iscsi_history.specs.rules.Execution.{sense_of_status};
-ghost use Rattle.iscsi_session.specs.private.Steps.{enabled_in, sets_left, after_completion, completion_effects, counted_on, finished};
+ghost use Rattle.iscsi_session.specs.private.Steps.{counted_on, unchanged, Takes, enabled_in, finished, commands_left, covers_ticket, sets_left, completed, owed};
 
+use crate::session::Session;
+use crate::session::leaving::end_command;
 use crate::session::sets::CHECK_CONDITION;
-use crate::session::{Session, sets};
 use iscsi_commands::{Live, LiveCommands, Placed};
 use iscsi_connections::Connections;
 use iscsi_history::{Effect, Why};
@@ -27,33 +28,49 @@ impl Session {
     ///
     /// Rules: `completion/stale`, `completion/status`.
     pub(crate) fn complete(&mut self, ticket: u64, status: u8, out: &mut Vec<Effect>)
-        requires room { vec_len out.old + 2 * length self.old.live + 1 ≤ vec_capacity out.old }
-        ensures session { self.new ≡ after_completion self.old ticket }
-        ensures effects { out.new.items ≡ out.old.items ++ completion_effects self.old ticket status }
-        ensures spent { vec_len out.new ≤ vec_len out.old + 2 * length self.old.live + 1 }
-        ensures capacity { vec_capacity out.new ≡ vec_capacity out.old }
+        requires room { vec_len out.old + owed self.old.live self.old.sets + 1 ≤ vec_capacity out.old }
+        ensures done { Takes (completed self.old (enabled_in self.old.sets self.old.live ticket) status) self.new
+            out.old out.new }
+        ensures spent { vec_len out.new ≤ vec_len out.old + owed self.old.live self.old.sets + 1 }
     {
-        let Some(command) = take_enabled(&mut self.sets, &self.live, ticket) else {
+        let Some(command) = self.leave_enabled(ticket, out) else {
             out.push_reserved(Effect::Ignore { why: Why::Stale });
             return;
         };
-        let stat_sn = self.connections.assign_stat_sn(command.conn);
-        finish(&mut self.window, &mut self.connections, &command);
-        self.live.remove(ticket);
+        let reply = Reply::Scsi {
+            itt: command.itt,
+            status,
+            sense: sense_of(status),
+        };
+        self.reply(command.conn, reply, out);
+        self.announce_enabled(command.unit, out);
+    }
+
+    /// The live command with this ticket leaves, if it is enabled in the set of its unit.
+    #[inline(always)]
+    fn leave_enabled(&mut self, ticket: u64, out: &mut Vec<Effect>) -> Option<Live>
+        requires room { vec_len out.old + owed self.old.live self.old.sets ≤ vec_capacity out.old }
+        ensures command { result ≡ enabled_in self.old.sets self.old.live ticket }
+        ensures unit { IfSome result (λ l. l.unit < length self.new.sets) }
+        ensures done { MatchOption result (Takes (unchanged self.old) self.new out.old out.new)
+            (λ l. Takes (commands_left self.old l.unit (covers_ticket l.ticket)) self.new out.old out.new) }
+        ensures spent { vec_len out.new + owed self.new.live self.new.sets ≤ vec_len out.old
+            + owed self.old.live self.old.sets }
+    {
+        let Some(command) = take_enabled(&mut self.sets, &self.live, ticket) else {
+            return None;
+        };
+        end_command(
+            &mut self.window,
+            &mut self.connections,
+            &mut self.live,
+            &command,
+        );
         out.push_reserved(Effect::Leave {
             ticket: command.ticket,
             unit: command.unit,
         });
-        out.push_reserved(Effect::Send {
-            conn: command.conn,
-            stat_sn,
-            reply: Reply::Scsi {
-                itt: command.itt,
-                status,
-                sense: sense_of(status),
-            },
-        });
-        sets::announce(&mut self.sets, command.unit, out);
+        Some(command)
     }
 }
 

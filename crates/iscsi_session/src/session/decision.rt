@@ -8,7 +8,7 @@ ghost use Rattle.iscsi_history.specs.rules.Management.{may_wait as may_wait_name
 ghost use Rattle.iscsi_history.specs.rules.Deeds.{command_deed, abort_deed, query_deed, unit_deed, function_deed, logout_deed, nop_deed};
 ghost use Rattle.iscsi_session.specs.private.Codes.{reason_code, response_code, logout_response_code};
 ghost use Rattle.iscsi_session.specs.private.Steps.{is_tag_kept, is_crowded_by};
-ghost use Rattle.iscsi_session.specs.private.Deeds.{tagged_in, missing_by, facts_by, deed_by, refusal_by, managed_by, waits_by, arrival_by};
+ghost use Rattle.iscsi_session.specs.private.Deeds.{refusal_by, tagged_in, missing_by, facts_by, deed_by, managed_by, waits_by, arrival_by};
 
 use crate::closing::{LogoutReason, LogoutResponse};
 use crate::function::Function;

@@ -1,16 +1,14 @@
 //! The execution of a request.
 
-ghost use Rattle.std.specs.Prelude.{◌-◌, ◌*◌, ℕ, pos, ◌-ℤ◌, false, ◌≡◌, ◌==◌, ◌&&◌, ◌+◌, ◌≤◌, ◌<◌, true, ◌∷◌, ◌++◌, length, count_by, is_some, if◌then◌else◌, vec_len, vec_capacity};
+ghost use Rattle.std.specs.Prelude.{◌-◌, ◌*◌, ℕ, pos, ◌-ℤ◌, false, ◌≡◌, ◌==◌, ◌&&◌, ◌+◌, ◌≤◌, ◌<◌, true, length, count_by, is_some, if◌then◌else◌, vec_len, vec_capacity};
 ghost use Rattle.iscsi_wire.specs.Serial.{number_of_first};
-ghost use Rattle.iscsi_wire.specs.Fields.{connection_of, header_of, is_immediate, itt as tag_of};
+ghost use Rattle.iscsi_wire.specs.Fields.{connection_of, is_immediate, itt as tag_of};
 ghost use Rattle.iscsi_window.specs.Windows.{HasRoom};
 ghost use Rattle.iscsi_history.specs.rules.Settings.{is_known as known_in};
 ghost use Rattle.iscsi_history.specs.rules.Execution.{MOST_IMMEDIATE, attr_of as attr_named, reply_of};
 ghost use Rattle.iscsi_session.specs.private.Standing.{is_held};
-ghost use Rattle.iscsi_session.specs.private.Steps.{set_at, is_set_full, is_tag_kept, immediate_in, counted_on, number_by, event_by, started, with_command, entry_effects, with_reply, reply_effects};
-ghost use Rattle.iscsi_session.specs.private.Functions.{owed};
-ghost use Rattle.iscsi_session.specs.private.Deeds.{Fits, IsReady, most_emptied, carried, carried_effects};
-ghost use Rattle.iscsi_session.specs.private.Turning.{position_by, with_executed, executed_effects};
+ghost use Rattle.iscsi_session.specs.private.Steps.{counted_on, after_effect, Takes, set_at, is_tag_kept, is_set_full, immediate_in, replied, request_answered, number_by, event_by, started, command_entered, owed};
+ghost use Rattle.iscsi_session.specs.private.Deeds.{Fits, IsReady, most_emptied, position_by, carried, executed};
 
 use crate::reason::Reason;
 use crate::session::management::COMPLETE;
@@ -44,13 +42,11 @@ impl Session {
         requires known { known_in (connection_of request) self.old.conns ≡ true }
         requires room { vec_len out.old + owed self.old.live self.old.sets + 6 * count_by is_held self.old.window.places
             + 6 ≤ vec_capacity out.old }
-        ensures session { self.new ≡ with_executed self.old request event }
-        ensures effects { out.new.items ≡ out.old.items ++ Effect.Deliver request
-            ∷ executed_effects self.old request event }
+        ensures done { Takes (after_effect (Effect.Deliver request) (executed self.old request event)) self.new
+            out.old out.new }
         ensures spent { vec_len out.new + owed self.new.live self.new.sets + 6 * count_by is_held self.new.window.places
             ≤ vec_len out.old + owed self.old.live self.old.sets + 6 * count_by is_held self.old.window.places + 6 }
         ensures waiting { length self.new.waiting ≤ length self.old.waiting }
-        ensures capacity { vec_capacity out.new ≡ vec_capacity out.old }
     {
         out.push_reserved(Effect::Deliver { request });
         self.execute(&request, event, out);
@@ -59,11 +55,8 @@ impl Session {
     /// Rejects a request for its opcode.
     pub(crate) fn reject_opcode(&mut self, request: &Request, out: &mut Vec<Effect>)
         requires room { vec_len out.old + 1 ≤ vec_capacity out.old }
-        ensures session { self.new ≡ with_reply self.old (connection_of request.now) }
-        ensures effects { out.new.items ≡ out.old.items
-            ++ reply_effects self.old (connection_of request.now) (Reply.Reject 5 (header_of request.now)) }
+        ensures done { Takes (request_answered self.old request.now (Answer.Reject 5)) self.new out.old out.new }
         ensures len { vec_len out.new ≡ vec_len out.old + 1 }
-        ensures capacity { vec_capacity out.new ≡ vec_capacity out.old }
     {
         let answer = Answer::Reject(Reason::NotSupported as u8);
         self.answer(request, answer, out);
@@ -79,12 +72,10 @@ impl Session {
         requires known { known_in (connection_of request.now) self.old.conns ≡ true }
         requires room { vec_len out.old + owed self.old.live self.old.sets + 6 * count_by is_held self.old.window.places
             + 5 ≤ vec_capacity out.old }
-        ensures session { self.new ≡ with_executed self.old request.now event }
-        ensures effects { out.new.items ≡ out.old.items ++ executed_effects self.old request.now event }
+        ensures done { Takes (executed self.old request.now event) self.new out.old out.new }
         ensures spent { vec_len out.new + owed self.new.live self.new.sets + 6 * count_by is_held self.new.window.places
             ≤ vec_len out.old + owed self.old.live self.old.sets + 6 * count_by is_held self.old.window.places + 5 }
         ensures waiting { length self.new.waiting ≤ length self.old.waiting }
-        ensures capacity { vec_capacity out.new ≡ vec_capacity out.old }
     {
         let deed = self.decide(request);
         let number = self.position(request);
@@ -107,11 +98,9 @@ impl Session {
         requires number { (unit : ℕ) → deed ≡ Deed.Enter unit → number ≡ position_by self.old request.now }
         requires room { vec_len out.old + owed self.old.live self.old.sets + most_emptied self.old deed + 4
             ≤ vec_capacity out.old }
-        ensures session { self.new ≡ carried self.old request.now number event deed }
-        ensures effects { out.new.items ≡ out.old.items ++ carried_effects self.old request.now number event deed }
+        ensures done { Takes (carried self.old request.now number event deed) self.new out.old out.new }
         ensures spent { vec_len out.new + owed self.new.live self.new.sets + count_by is_held self.new.window.places
             ≤ vec_len out.old + owed self.old.live self.old.sets + count_by is_held self.old.window.places + 4 }
-        ensures capacity { vec_capacity out.new ≡ vec_capacity out.old }
     {
         match deed {
             Deed::Nothing => {}
@@ -140,22 +129,19 @@ impl Session {
     #[inline(never)]
     pub(crate) fn answer(&mut self, request: &Request, answer: Answer, out: &mut Vec<Effect>)
         requires room { vec_len out.old + 1 ≤ vec_capacity out.old }
-        ensures session { self.new ≡ with_reply self.old (connection_of request.now) }
-        ensures effects { out.new.items ≡ out.old.items
-            ++ reply_effects self.old (connection_of request.now) (reply_of request.now answer) }
+        ensures done { Takes (request_answered self.old request.now answer) self.new out.old out.new }
         ensures len { vec_len out.new ≡ vec_len out.old + 1 }
-        ensures capacity { vec_capacity out.new ≡ vec_capacity out.old }
     {
         self.reply(request.conn(), reply_to(request, answer), out);
     }
 
     /// A reply goes out on a connection.
+    // It is inlined, so that the reply is made where the effect keeps it.
+    #[inline(always)]
     pub(crate) fn reply(&mut self, conn: u16, reply: Reply, out: &mut Vec<Effect>)
         requires room { vec_len out.old + 1 ≤ vec_capacity out.old }
-        ensures session { self.new ≡ with_reply self.old conn }
-        ensures effects { out.new.items ≡ out.old.items ++ reply_effects self.old conn reply }
+        ensures done { Takes (replied self.old conn reply) self.new out.old out.new }
         ensures len { vec_len out.new ≡ vec_len out.old + 1 }
-        ensures capacity { vec_capacity out.new ≡ vec_capacity out.old }
     {
         let stat_sn = self.connections.assign_stat_sn(conn);
         out.push_reserved(Effect::Send {
@@ -179,10 +165,8 @@ impl Session {
         requires unused { is_tag_kept self.old (tag_of request.now) ≡ false }
         requires number { pos ≡ position_by self.old request.now }
         requires room { vec_len out.old + 2 ≤ vec_capacity out.old }
-        ensures session { self.new ≡ with_command self.old request.now unit }
-        ensures effects { out.new.items ≡ out.old.items ++ entry_effects self.old request.now unit }
+        ensures done { Takes (command_entered self.old request.now unit) self.new out.old out.new }
         ensures spent { vec_len out.new ≤ vec_len out.old + 2 }
-        ensures capacity { vec_capacity out.new ≡ vec_capacity out.old }
     {
         let event = self.event(request);
         begin(&mut self.window, &mut self.connections, request);

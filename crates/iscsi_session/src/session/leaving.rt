@@ -1,16 +1,15 @@
 //! Commands of a unit that leave before they are completed.
 
-ghost use Rattle.std.specs.Prelude.{ℕ, ◌≡◌, ◌+◌, ◌<◌, ◌≤◌, ◌++◌, [], ◌∷◌, true, length, count_by, slice_index_or, slice_set, All, IsSome, vec_len, vec_capacity, if◌then◌else◌};
+ghost use Rattle.std.specs.Prelude.{Some, ◌≡◌, ◌+◌, ◌<◌, ◌≤◌, [], ◌∷◌, true, length, count_by, slice_index_or, slice_set, All, IsSome, vec_len, vec_capacity, if◌then◌else◌};
 ghost use Rattle.std.specs.List.{AllPairs};
 ghost use Rattle.iscsi_tasks.specs.Sets.{opened, is_covered};
 ghost use Rattle.iscsi_session.specs.private.Standing.{are_ascending, are_known, tickets_of, tickets_in};
-ghost use Rattle.iscsi_session.specs.private.Steps.{AreCounted, is_numbered, find_ticket, without_ticket, enable_effects, set_at};
+ghost use Rattle.iscsi_session.specs.private.Steps.{set_staying, covered_tickets, find_ticket, without_ticket, Appends, Takes, unit_told, AreCounted, is_numbered, finished_by, leave_each, commands_left, without_tickets, covers_ticket, has_covered, owed};
 ghost use Rattle.iscsi_history.specs.declared.effect.Effect.{Effect};
-ghost use Rattle.iscsi_session.specs.private.Functions.{set_staying, finished_by, with_left, leaving_effects, leave_each, tickets_covered, without_tickets, with_given, covers_ticket, has_covered, owed};
 
 use crate::session::completion::finish;
 use crate::session::{Session, sets};
-use iscsi_commands::LiveCommands;
+use iscsi_commands::{Live, LiveCommands};
 use iscsi_connections::Connections;
 use iscsi_history::Effect;
 use iscsi_tasks::{Cover, LinkedTaskSet};
@@ -21,11 +20,9 @@ impl Session {
     pub(crate) fn leave_covered(&mut self, unit: u16, cover: &Cover, out: &mut Vec<Effect>)
         requires unit { unit < length self.old.sets }
         requires room { vec_len out.old + owed self.old.live self.old.sets ≤ vec_capacity out.old }
-        ensures session { self.new ≡ with_left self.old unit (is_covered cover.now) }
-        ensures effects { out.new.items ≡ out.old.items ++ leaving_effects self.old unit (is_covered cover.now) }
+        ensures done { Takes (commands_left self.old unit (is_covered cover.now)) self.new out.old out.new }
         ensures spent { vec_len out.new + owed self.new.live self.new.sets ≤ vec_len out.old
             + owed self.old.live self.old.sets }
-        ensures capacity { vec_capacity out.new ≡ vec_capacity out.old }
     {
         dequeue_covered(&mut self.sets, unit, cover, &mut self.left);
         end_all(
@@ -42,11 +39,9 @@ impl Session {
     pub(crate) fn leave_one(&mut self, unit: u16, ticket: u64, out: &mut Vec<Effect>)
         requires unit { unit < length self.old.sets }
         requires room { vec_len out.old + owed self.old.live self.old.sets ≤ vec_capacity out.old }
-        ensures session { self.new ≡ with_left self.old unit (covers_ticket ticket) }
-        ensures effects { out.new.items ≡ out.old.items ++ leaving_effects self.old unit (covers_ticket ticket) }
+        ensures done { Takes (commands_left self.old unit (covers_ticket ticket)) self.new out.old out.new }
         ensures spent { vec_len out.new + owed self.new.live self.new.sets ≤ vec_len out.old
             + owed self.old.live self.old.sets }
-        ensures capacity { vec_capacity out.new ≡ vec_capacity out.old }
     {
         let is_there = dequeue_one(&mut self.sets, &self.live, unit, ticket);
         end_one(
@@ -61,14 +56,13 @@ impl Session {
     }
 
     /// The commands that became enabled are announced to their unit.
+    #[inline(always)]
     pub(crate) fn announce_enabled(&mut self, unit: u16, out: &mut Vec<Effect>)
         requires unit { unit < length self.old.sets }
         requires room { vec_len out.old + owed self.old.live self.old.sets ≤ vec_capacity out.old }
-        ensures session { self.new ≡ with_given self.old unit }
-        ensures effects { out.new.items ≡ out.old.items ++ enable_effects unit (set_at self.old unit).list }
+        ensures done { Takes (unit_told self.old unit) self.new out.old out.new }
         ensures spent { vec_len out.new + owed self.new.live self.new.sets ≤ vec_len out.old
             + owed self.old.live self.old.sets }
-        ensures capacity { vec_capacity out.new ≡ vec_capacity out.old }
     {
         sets::announce(&mut self.sets, unit, out);
     }
@@ -81,8 +75,8 @@ fn dequeue_covered(sets: &mut [LinkedTaskSet], unit: u16, cover: &Cover, left: &
     requires room { length (slice_index_or sets.old unit (opened 0)).list ≤ vec_capacity left.old }
     ensures sets { sets.new ≡ slice_set sets.old unit
         (set_staying (is_covered cover.now) (slice_index_or sets.old unit (opened 0))) }
-    ensures left { left.new.items ≡ tickets_covered (is_covered cover.now)
-        (slice_index_or sets.old unit (opened 0)) }
+    ensures left { left.new.items ≡ covered_tickets (is_covered cover.now)
+        (slice_index_or sets.old unit (opened 0)).list }
     ensures capacity { vec_capacity left.new ≡ vec_capacity left.old }
 {
     left.clear();
@@ -125,9 +119,8 @@ fn end_all(
     ensures connections { connections.new ≡ record connections.old { immediate = connections.new.immediate } }
     ensures counted { AreCounted connections.new.immediate connections.old.conns live.new.items }
     ensures live_capacity { live.new.room ≡ live.old.room }
-    ensures effects { out.new.items ≡ out.old.items ++ leave_each unit tickets.now }
+    ensures effects { Appends (leave_each unit tickets.now) out.old out.new }
     ensures spent { vec_len out.new + length live.new.items ≤ vec_len out.old + length live.old.items }
-    ensures capacity { vec_capacity out.new ≡ vec_capacity out.old }
 {
     for k in 0..tickets.len() {
         let ticket = tickets[k];
@@ -157,9 +150,8 @@ fn end_one(
     ensures connections { connections.new ≡ record connections.old { immediate = connections.new.immediate } }
     ensures counted { AreCounted connections.new.immediate connections.old.conns live.new.items }
     ensures live_capacity { live.new.room ≡ live.old.room }
-    ensures effects { out.new.items ≡ out.old.items ++ (if is_there then Effect.Leave ticket unit ∷ [] else []) }
+    ensures effects { Appends (if is_there then Effect.Leave ticket unit ∷ [] else []) out.old out.new }
     ensures spent { vec_len out.new + length live.new.items ≤ vec_len out.old + length live.old.items }
-    ensures capacity { vec_capacity out.new ≡ vec_capacity out.old }
 {
     if is_there {
         end(window, connections, live, ticket);
@@ -186,6 +178,29 @@ fn end(
     ensures capacity { live.new.room ≡ live.old.room }
 {
     let command = live.find(ticket).unwrap();
-    finish(window, connections, &command);
-    live.remove(ticket);
+    end_command(window, connections, live, &command);
+}
+
+/// This live command is over.
+#[inline(always)]
+pub(crate) fn end_command(
+    window: &mut EventWindow,
+    connections: &mut Connections,
+    live: &mut LiveCommands,
+    command: &Live,
+)
+    requires ascending { are_ascending live.old.items ≡ true }
+    requires there { find_ticket command.now.ticket live.old.items ≡ Some command.now }
+    requires numbered { count_by is_numbered live.old.items ≤ window.old.unfinished }
+    requires known { are_known live.old.items connections.old.conns ≡ true }
+    requires counted { AreCounted connections.old.immediate connections.old.conns live.old.items }
+    ensures window { window.new ≡ finished_by window.old live.old.items
+        (without_ticket command.now.ticket live.old.items) }
+    ensures live { live.new.items ≡ without_ticket command.now.ticket live.old.items }
+    ensures connections { connections.new ≡ record connections.old { immediate = connections.new.immediate } }
+    ensures counted { AreCounted connections.new.immediate connections.old.conns live.new.items }
+    ensures capacity { live.new.room ≡ live.old.room }
+{
+    finish(window, connections, command);
+    live.remove(command.ticket);
 }

@@ -1,10 +1,10 @@
 //! Logout, and the closing of connections and of the session (RFC 7143 sections 11.14 and 11.15).
 
-ghost use Rattle.std.specs.Prelude.{ℕ, ◌≡◌, ◌+◌, ◌*◌, ◌≤◌, ◌<◌, [], ◌++◌, length, true, false, map, count_by, if◌then◌else◌, IfSome, vec_len, vec_capacity};
+ghost use Rattle.std.specs.Prelude.{not, filter, ◌≡◌, ◌+◌, ◌≤◌, ◌<◌, ◌++◌, length, true, count_by, vec_len, vec_capacity};
+ghost use Rattle.iscsi_wire.specs.Fields.{connection_of};
 ghost use Rattle.iscsi_window.specs.Windows.{is_asked};
 ghost use Rattle.iscsi_session.specs.private.Standing.{is_held};
-ghost use Rattle.iscsi_session.specs.private.Functions.{owed};
-ghost use Rattle.iscsi_session.specs.private.Closing.{is_among_open, logged_out, logout_effects, cover_of as cover_named, covers_of, units_of, with_all_left, all_leaving_effects, with_emptied, is_clear_below, emptying_effects, with_dropped, ended_if, session_closes, with_closed, close_effects, with_all_given, all_enable_effects};
+ghost use Rattle.iscsi_session.specs.private.Steps.{is_among_open, Takes, units_of, all_told, all_commands_left, cover_of as cover_named, covers_of, is_clear_below, all_emptied, waiting_then, session_closes, conns_closed, logged_out, owed};
 
 use crate::closing::LogoutResponse;
 use crate::session::Session;
@@ -27,11 +27,9 @@ impl Session {
     pub(crate) fn log_out(&mut self, request: &Request, scope: Option<u16>, out: &mut Vec<Effect>)
         requires room { vec_len out.old + owed self.old.live self.old.sets + count_by is_held self.old.window.places + 3
             ≤ vec_capacity out.old }
-        ensures session { self.new ≡ logged_out self.old request.now scope }
-        ensures effects { out.new.items ≡ out.old.items ++ logout_effects self.old request.now scope }
+        ensures done { Takes (logged_out self.old request.now scope) self.new out.old out.new }
         ensures spent { vec_len out.new + owed self.new.live self.new.sets + count_by is_held self.new.window.places
             ≤ vec_len out.old + owed self.old.live self.old.sets + count_by is_held self.old.window.places + 3 }
-        ensures capacity { vec_capacity out.new ≡ vec_capacity out.old }
     {
         self.leave_all(scope, out);
         self.empty_all(scope, out);
@@ -45,12 +43,10 @@ impl Session {
     /// The live commands of a connection, or of all for None, leave: units ascending, the oldest first.
     fn leave_all(&mut self, scope: Option<u16>, out: &mut Vec<Effect>)
         requires room { vec_len out.old + owed self.old.live self.old.sets ≤ vec_capacity out.old }
-        ensures session { self.new ≡ with_all_left self.old (units_of self.old) (covers_of scope) }
-        ensures effects { out.new.items ≡ out.old.items
-            ++ all_leaving_effects self.old (units_of self.old) (covers_of scope) }
+        ensures done { Takes (all_commands_left self.old (units_of self.old) (covers_of scope)) self.new out.old
+            out.new }
         ensures spent { vec_len out.new + owed self.new.live self.new.sets ≤ vec_len out.old
             + owed self.old.live self.old.sets }
-        ensures capacity { vec_capacity out.new ≡ vec_capacity out.old }
         ensures places { self.new.window.places ≡ self.old.window.places }
     {
         let cover = cover_of(scope);
@@ -62,11 +58,9 @@ impl Session {
     /// The requests that are held of a connection, or of all for None, are taken out: numbers ascending.
     fn empty_all(&mut self, scope: Option<u16>, out: &mut Vec<Effect>)
         requires room { vec_len out.old + count_by is_held self.old.window.places ≤ vec_capacity out.old }
-        ensures session { self.new ≡ with_emptied self.old scope }
-        ensures effects { out.new.items ≡ out.old.items ++ emptying_effects self.old scope }
+        ensures done { Takes (all_emptied self.old scope) self.new out.old out.new }
         ensures spent { vec_len out.new + count_by is_held self.new.window.places ≤ vec_len out.old
             + count_by is_held self.old.window.places }
-        ensures capacity { vec_capacity out.new ≡ vec_capacity out.old }
     {
         for ahead in 0..self.window.size() {
             self.empty_at(ahead, scope, out);
@@ -79,9 +73,9 @@ impl Session {
         requires room { vec_len out.old + count_by is_held self.old.window.places ≤ vec_capacity out.old }
         requires lowest { is_clear_below scope ahead self.old.window.places ≡ true }
         // What is still to be taken out is the rest of what was to be before.
-        ensures session { with_emptied self.new scope ≡ with_emptied self.old scope }
-        ensures effects { out.new.items ++ emptying_effects self.new scope ≡ out.old.items
-            ++ emptying_effects self.old scope }
+        ensures session { (all_emptied self.new scope).core ≡ (all_emptied self.old scope).core }
+        ensures effects { out.new.items ++ (all_emptied self.new scope).effects ≡ out.old.items
+            ++ (all_emptied self.old scope).effects }
         ensures lowest { is_clear_below scope (ahead + 1) self.new.window.places ≡ true }
         ensures long { length self.new.window.places ≡ length self.old.window.places }
         ensures spent { vec_len out.new + count_by is_held self.new.window.places ≤ vec_len out.old
@@ -96,7 +90,9 @@ impl Session {
 
     /// The functions of a connection that wait, or of all for None, are dropped.
     fn drop_waiting(&mut self, scope: Option<u16>)
-        ensures session { self.new ≡ with_dropped self.old scope }
+        ensures session { self.new ≡ record self.old {
+          waiting = filter (λ w. not (is_asked scope (connection_of w.request))) self.old.waiting;
+        } }
     {
         self.waiting.drop_of(scope);
     }
@@ -104,10 +100,8 @@ impl Session {
     /// A connection is closed, or the session for None, and with the last connection the session.
     fn close(&mut self, scope: Option<u16>, out: &mut Vec<Effect>)
         requires room { vec_len out.old + 2 ≤ vec_capacity out.old }
-        ensures session { self.new ≡ with_closed self.old scope }
-        ensures effects { out.new.items ≡ out.old.items ++ close_effects self.old scope }
+        ensures done { Takes (conns_closed self.old scope) self.new out.old out.new }
         ensures spent { vec_len out.new ≤ vec_len out.old + 2 }
-        ensures capacity { vec_capacity out.new ≡ vec_capacity out.old }
     {
         self.connections.close(scope);
         if let Some(conn) = scope {
@@ -119,10 +113,11 @@ impl Session {
     /// Where no connection is open, the session is closed, and no function waits any more.
     fn end_if_last(&mut self, out: &mut Vec<Effect>)
         requires room { vec_len out.old + 1 ≤ vec_capacity out.old }
-        ensures session { self.new ≡ ended_if self.old }
-        ensures effects { out.new.items ≡ out.old.items ++ session_closes self.old.open_conns }
+        ensures done { Takes (record {
+          core = record self.old { waiting = waiting_then self.old.open_conns self.old.waiting };
+          effects = session_closes self.old.open_conns;
+        }) self.new out.old out.new }
         ensures spent { vec_len out.new ≤ vec_len out.old + 1 }
-        ensures capacity { vec_capacity out.new ≡ vec_capacity out.old }
     {
         if !self.connections.are_closed() {
             return;
@@ -134,11 +129,9 @@ impl Session {
     /// The commands that became enabled are announced to each unit.
     fn announce_all(&mut self, out: &mut Vec<Effect>)
         requires room { vec_len out.old + owed self.old.live self.old.sets ≤ vec_capacity out.old }
-        ensures session { self.new ≡ with_all_given self.old }
-        ensures effects { out.new.items ≡ out.old.items ++ all_enable_effects self.old }
+        ensures done { Takes (all_told self.old) self.new out.old out.new }
         ensures spent { vec_len out.new + owed self.new.live self.new.sets ≤ vec_len out.old
             + owed self.old.live self.old.sets }
-        ensures capacity { vec_capacity out.new ≡ vec_capacity out.old }
     {
         for unit in 0..self.units() {
             self.announce_enabled(unit, out);

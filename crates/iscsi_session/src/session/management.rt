@@ -1,17 +1,14 @@
 //! Task management (RFC 7143 sections 4.2.3 and 11.5, SAM-5 section 7).
 
-ghost use Rattle.std.specs.Prelude.{ℕ, pos, ◌-ℤ◌, ◌-◌, ◌≡◌, ◌==◌, ◌&&◌, ◌+◌, ◌*◌, ◌≤◌, ◌<◌, true, false, [], ◌++◌, ◌∷◌, find, length, nat_lt, count_by, is_some, vec_len, vec_capacity, None, if◌then◌else◌};
+ghost use Rattle.std.specs.Prelude.{◌-◌, ◌≡◌, ◌+◌, ◌*◌, ◌≤◌, ◌<◌, true, false, length, nat_lt, count_by, is_some, vec_len, vec_capacity, if◌then◌else◌};
 ghost use Rattle.std.specs.List.{list_all};
-ghost use Rattle.iscsi_wire.specs.Serial.{number_of_first};
 ghost use Rattle.iscsi_wire.specs.Fields.{connection_of, is_immediate};
-ghost use Rattle.iscsi_window.specs.Windows.{number_expected, HasRoom, IsInside, place_in, held_at, voided, emptied};
+ghost use Rattle.iscsi_window.specs.Windows.{IsInside, place_in, held_at};
 ghost use Rattle.iscsi_tasks.specs.Sets.{is_covered};
 ghost use Rattle.iscsi_history.specs.rules.Settings.{is_known as known_in};
 ghost use Rattle.iscsi_session.specs.private.Standing.{is_held};
-ghost use Rattle.iscsi_session.specs.private.Steps.{KeepsPace};
-ghost use Rattle.iscsi_session.specs.private.Functions.{aborted, abort_effects, covers_ticket, void_effects, owed};
-ghost use Rattle.iscsi_session.specs.private.Deeds.{Fits, IsReady, most_emptied, arrival_by};
-ghost use Rattle.iscsi_session.specs.private.Turning.{next_waiting, function_if, function_effects, with_waiting, at_once_by, at_once_effects, immediate_as, immediate_effects};
+ghost use Rattle.iscsi_session.specs.private.Steps.{KeepsPace, Takes, covers_ticket, aborted, number_voided, number_emptied, owed};
+ghost use Rattle.iscsi_session.specs.private.Deeds.{arrival_by, Fits, IsReady, most_emptied, next_waiting, function_taken, done_at_once, immediate_taken};
 
 use crate::response::Response;
 use crate::session::Session;
@@ -33,15 +30,12 @@ impl Session {
         requires waited { list_all (λ w. nat_lt (w.event + 1) self.old.taken) self.old.waiting ≡ true }
         requires room { vec_len out.old + owed self.old.live self.old.sets + 6 * count_by is_held self.old.window.places
             + 6 ≤ vec_capacity out.old }
-        ensures session { self.new ≡ immediate_as self.old request (arrival_by self.old request) }
-        ensures effects { out.new.items ≡ out.old.items
-            ++ immediate_effects self.old request (arrival_by self.old request) }
+        ensures done { Takes (immediate_taken self.old request (arrival_by self.old request)) self.new out.old out.new }
         ensures pace { KeepsPace self.old.window self.new.window }
         ensures spent { vec_len out.new + owed self.new.live self.new.sets
             + 6 * (count_by is_held self.new.window.places + length self.new.waiting) ≤ vec_len out.old
             + owed self.old.live self.old.sets
             + 6 * (count_by is_held self.old.window.places + length self.old.waiting + 1) + 1 }
-        ensures capacity { vec_capacity out.new ≡ vec_capacity out.old }
     {
         match self.decide_arrival(&request) {
             Deed::Wait => self.wait(request, out),
@@ -57,11 +51,9 @@ impl Session {
         requires taken { 0 < self.old.taken }
         requires room { vec_len out.old + owed self.old.live self.old.sets + most_emptied self.old deed + 5
             ≤ vec_capacity out.old }
-        ensures session { self.new ≡ at_once_by self.old request.now deed }
-        ensures effects { out.new.items ≡ out.old.items ++ Effect.Immediate request.now ∷ at_once_effects self.old request.now deed }
+        ensures done { Takes (done_at_once self.old request.now deed) self.new out.old out.new }
         ensures spent { vec_len out.new + owed self.new.live self.new.sets + count_by is_held self.new.window.places
             ≤ vec_len out.old + owed self.old.live self.old.sets + count_by is_held self.old.window.places + 5 }
-        ensures capacity { vec_capacity out.new ≡ vec_capacity out.old }
     {
         out.push_reserved(Effect::Immediate { request: *request });
         let number = self.position(request);
@@ -76,10 +68,8 @@ impl Session {
         requires taken { 0 < self.old.taken }
         requires waited { list_all (λ w. nat_lt (w.event + 1) self.old.taken) self.old.waiting ≡ true }
         requires room { vec_len out.old + 1 ≤ vec_capacity out.old }
-        ensures session { self.new ≡ with_waiting self.old request }
-        ensures effects { out.new.items ≡ out.old.items ++ Effect.Wait request ∷ [] }
+        ensures done { Takes (immediate_taken self.old request Deed.Wait) self.new out.old out.new }
         ensures len { vec_len out.new ≡ vec_len out.old + 1 }
-        ensures capacity { vec_capacity out.new ≡ vec_capacity out.old }
     {
         out.push_reserved(Effect::Wait { request });
         let ahead = request.cmd_sn().wrapping_sub(self.window.exp());
@@ -95,11 +85,9 @@ impl Session {
         requires room { vec_len out.old + owed self.old.live self.old.sets + 6 * length self.old.waiting
             ≤ vec_capacity out.old }
         ensures answer { result ≡ is_some (next_waiting self.old) }
-        ensures session { self.new ≡ function_if self.old (next_waiting self.old) }
-        ensures effects { out.new.items ≡ out.old.items ++ function_effects self.old (next_waiting self.old) }
+        ensures done { Takes (function_taken self.old (next_waiting self.old)) self.new out.old out.new }
         ensures spent { vec_len out.new + owed self.new.live self.new.sets + 6 * length self.new.waiting
             ≤ vec_len out.old + owed self.old.live self.old.sets + 6 * length self.old.waiting }
-        ensures capacity { vec_capacity out.new ≡ vec_capacity out.old }
         ensures fewer { result ≡ true → length self.new.waiting < length self.old.waiting }
         ensures places { self.new.window.places ≡ self.old.window.places }
     {
@@ -125,11 +113,9 @@ impl Session {
     )
         requires unit { unit < length self.old.sets }
         requires room { vec_len out.old + owed self.old.live self.old.sets + 1 ≤ vec_capacity out.old }
-        ensures session { self.new ≡ aborted self.old request.now unit (is_covered cover) }
-        ensures effects { out.new.items ≡ out.old.items ++ abort_effects self.old request.now unit (is_covered cover) }
+        ensures done { Takes (aborted self.old request.now unit (is_covered cover)) self.new out.old out.new }
         ensures spent { vec_len out.new + owed self.new.live self.new.sets ≤ vec_len out.old
             + owed self.old.live self.old.sets + 1 }
-        ensures capacity { vec_capacity out.new ≡ vec_capacity out.old }
     {
         self.leave_covered(unit, &cover, out);
         self.answer(request, COMPLETE, out);
@@ -147,11 +133,9 @@ impl Session {
     )
         requires unit { unit < length self.old.sets }
         requires room { vec_len out.old + owed self.old.live self.old.sets + 1 ≤ vec_capacity out.old }
-        ensures session { self.new ≡ aborted self.old request.now unit (covers_ticket ticket) }
-        ensures effects { out.new.items ≡ out.old.items ++ abort_effects self.old request.now unit (covers_ticket ticket) }
+        ensures done { Takes (aborted self.old request.now unit (covers_ticket ticket)) self.new out.old out.new }
         ensures spent { vec_len out.new + owed self.new.live self.new.sets ≤ vec_len out.old
             + owed self.old.live self.old.sets + 1 }
-        ensures capacity { vec_capacity out.new ≡ vec_capacity out.old }
     {
         self.leave_one(unit, ticket, out);
         self.answer(request, COMPLETE, out);
@@ -162,10 +146,8 @@ impl Session {
     #[inline(never)]
     pub(crate) fn empty_number(&mut self, sn: u32, out: &mut Vec<Effect>)
         requires room { vec_len out.old + 1 ≤ vec_capacity out.old }
-        ensures session { self.new ≡ record self.old { window = emptied self.old.window sn } }
-        ensures effects { out.new.items ≡ out.old.items ++ Effect.Empty sn ∷ [] }
+        ensures done { Takes (number_emptied self.old sn) self.new out.old out.new }
         ensures len { vec_len out.new ≡ vec_len out.old + 1 }
-        ensures capacity { vec_capacity out.new ≡ vec_capacity out.old }
         ensures held { count_by is_held self.new.window.places
             + (if is_some (held_at self.old.window (place_in self.old.window sn)) then 1 else 0)
             ≡ count_by is_held self.old.window.places }
@@ -183,10 +165,8 @@ impl Session {
         requires counted { self.old.window.turned + count_by is_some self.old.window.places < self.old.taken }
         requires entered { self.old.entered + count_by is_some self.old.window.places < self.old.taken }
         requires room { vec_len out.old + 1 ≤ vec_capacity out.old }
-        ensures session { self.new ≡ record self.old { window = voided self.old.window sn } }
-        ensures effects { out.new.items ≡ out.old.items ++ void_effects self.old sn }
+        ensures done { Takes (number_voided self.old sn) self.new out.old out.new }
         ensures spent { vec_len out.new ≤ vec_len out.old + 1 }
-        ensures capacity { vec_capacity out.new ≡ vec_capacity out.old }
         ensures held { count_by is_held self.new.window.places ≡ count_by is_held self.old.window.places }
         ensures counted { self.new.window.turned + count_by is_some self.new.window.places ≤ self.old.window.turned
             + count_by is_some self.old.window.places + 1 }

@@ -1,9 +1,9 @@
 //! The task sets of a session's units.
 
-ghost use Rattle.std.specs.Prelude.{false, ◌≡◌, ◌+◌, ◌<◌, ◌≤◌, ◌++◌, length, count_by, replicate, slice_index_or, slice_set, Some, IfSome, vec_len, vec_capacity};
+ghost use Rattle.std.specs.Prelude.{false, ◌≡◌, ◌+◌, ◌<◌, ◌≤◌, length, count_by, replicate, slice_index_or, slice_set, Some, IfSome, vec_len, vec_capacity};
 ghost use Rattle.iscsi_tasks.specs.Sets.{opened, IsNewest, entered_to, is_new, next_in, given_by};
 ghost use Rattle.iscsi_history.specs.rules.Execution.{unit_named};
-ghost use Rattle.iscsi_session.specs.private.Steps.{is_set_full, all_given, enable_effect, enable_effects};
+ghost use Rattle.iscsi_session.specs.private.Steps.{Appends, all_given, enable_effects, enable_effect, is_set_full};
 
 use iscsi_history::Effect;
 use iscsi_tasks::{LinkedTaskSet, Task};
@@ -53,10 +53,9 @@ pub(crate) fn enter(sets: &mut [LinkedTaskSet], unit: u16, task: Task, out: &mut
     requires room { vec_len out.old + 1 ≤ vec_capacity out.old }
     ensures sets { sets.new ≡ slice_set sets.old unit
         (given_by (entered_to (slice_index_or sets.old unit (opened 0)) task)) }
-    ensures effects { out.new.items ≡ out.old.items
-        ++ enable_effect unit (next_in (entered_to (slice_index_or sets.old unit (opened 0)) task).list) }
+    ensures effects { Appends (enable_effect unit
+        (next_in (entered_to (slice_index_or sets.old unit (opened 0)) task).list)) out.old out.new }
     ensures spent { vec_len out.new ≤ vec_len out.old + 1 }
-    ensures capacity { vec_capacity out.new ≡ vec_capacity out.old }
 {
     let set = &mut sets[usize::from(unit)];
     let entered = set.enter_and_give(task).unwrap();
@@ -72,10 +71,8 @@ pub(crate) fn announce(sets: &mut [LinkedTaskSet], unit: u16, out: &mut Vec<Effe
     requires room { vec_len out.old + count_by is_new (slice_index_or sets.old unit (opened 0)).list
         ≤ vec_capacity out.old }
     ensures sets { sets.new ≡ slice_set sets.old unit (all_given (slice_index_or sets.old unit (opened 0))) }
-    ensures effects { out.new.items ≡ out.old.items
-        ++ enable_effects unit (slice_index_or sets.old unit (opened 0)).list }
+    ensures effects { Appends (enable_effects unit (slice_index_or sets.old unit (opened 0)).list) out.old out.new }
     ensures spent { vec_len out.new ≡ vec_len out.old + count_by is_new (slice_index_or sets.old unit (opened 0)).list }
-    ensures capacity { vec_capacity out.new ≡ vec_capacity out.old }
 {
     let set = &mut sets[usize::from(unit)];
     enable_new(set, unit, out);
@@ -85,9 +82,8 @@ pub(crate) fn announce(sets: &mut [LinkedTaskSet], unit: u16, out: &mut Vec<Effe
 fn enable_new(set: &mut LinkedTaskSet, unit: u16, out: &mut Vec<Effect>)
     requires room { vec_len out.old + count_by is_new set.old.list ≤ vec_capacity out.old }
     ensures set { set.new ≡ all_given set.old }
-    ensures effects { out.new.items ≡ out.old.items ++ enable_effects unit set.old.list }
+    ensures effects { Appends (enable_effects unit set.old.list) out.old out.new }
     ensures spent { vec_len out.new ≡ vec_len out.old + count_by is_new set.old.list }
-    ensures capacity { vec_capacity out.new ≡ vec_capacity out.old }
 {
     while let Some(ticket) = set.next_new() {
         out.push_reserved(Effect::Enable { ticket, unit });

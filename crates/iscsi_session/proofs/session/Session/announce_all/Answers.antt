@@ -1,4 +1,6 @@
-use Rattle.std.proofs.Common.{◌∙◌, ◌+◌, ◌-◌, ◌<◌, ℕ, arith, length-set, append_assoc}
+use Rattle.std.proofs.Common.{◌≡◌, ◌∙◌, ◌+◌, ◌-◌, ◌<◌, ℕ, [], ap, arith, length-set, append_assoc}
+use Rattle.std.specs.List.{range_with_len}
+use Rattle.std.proofs.lemmas.List.{append-nil}
 use Rattle.iscsi_session.specs.private.Standing.{Core}
 use Rattle.iscsi_session.specs.private.Steps.{set_at, all_given}
 use Rattle.iscsi_session.proofs.TellingLemmas.{given_all, told_more, told_all, told_later}
@@ -12,17 +14,24 @@ loop-unit-preserved c =
     let u : ℕ = c.loop-unit.unit in
     let end : ℕ = c.units-unit-end.result in
     let lt : u < end = c.loop-unit-test.true in
-    let told = c.announce_enabled.ensures.session in
+    let told = c.announce_enabled.ensures.done.core in
     record {
       session = rw (told, given_all s.sets u) inv.session;
       told = rw told (told_more s.sets u (omega (arith, lt, inv.units)) inv.told);
-      effects = rw (c.announce_enabled.ensures.effects, told, append_assoc, told_later s.sets u (all_given (set_at s u)) (end - (u + 1)) (u + 1) (omega arith)) (rw (range_step u end lt) at inv.effects);
+      effects = rw (c.announce_enabled.ensures.done.effects, told, append_assoc, told_later s.sets u (all_given (set_at s u)) (end - (u + 1)) (u + 1) (omega arith)) (rw (range_step u end lt) at inv.effects);
       units = rw (told, length-set) inv.units;
       spent = omega (arith, c.announce_enabled.ensures.spent, inv.spent);
-      capacity = c.announce_enabled.ensures.capacity ∙ inv.capacity;
+      capacity = c.announce_enabled.ensures.done.room ∙ inv.capacity;
     }
 
-pub returns-clause-session : goal.returns-clause-session
-returns-clause-session c =
+pub returns-clause-done : goal.returns-clause-done
+returns-clause-done c =
     let inv = c.loop-unit.invariant in
-    rw (told_all c.loop-unit.self.sets (λ k lt. inv.told k (omega (arith, lt, inv.units, c.loop-unit-test.false)))) at inv.session
+    let u : ℕ = c.loop-unit.unit in
+    let end : ℕ = c.units-unit-end.result in
+    let none : range_with_len u (end - u) ≡ [] = ap (range_with_len u) (let z : end - u ≡ 0 = omega (arith, c.loop-unit-test.false) in z) in
+    record {
+      core = rw (told_all c.loop-unit.self.sets (λ k lt. inv.told k (omega (arith, lt, inv.units, c.loop-unit-test.false)))) at inv.session;
+      effects = rw (none, append-nil) at inv.effects;
+      room = inv.capacity;
+    }

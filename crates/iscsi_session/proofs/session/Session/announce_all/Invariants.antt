@@ -1,17 +1,15 @@
 use Rattle.std.proofs.Common.{◌≡◌, ◌+◌, ◌-◌, ◌<◌, ◌≤◌, ◌++◌, ℕ, length, get_or, vec_len, vec_capacity}
 use Rattle.std.specs.List.{range_with_len, flat_map}
 use Rattle.iscsi_tasks.specs.Sets.{opened}
-use Rattle.iscsi_session.specs.private.Steps.{set_at, all_given, enable_effects}
-use Rattle.iscsi_session.specs.private.Functions.{owed}
-use Rattle.iscsi_session.specs.private.Closing.{with_all_given, all_enable_effects}
+use Rattle.iscsi_session.specs.private.Steps.{set_at, all_given, enable_effects, all_told, owed}
 use Rattle.iscsi_session.proofs.session.Session.announce_all.Given as goal
 
 -- the units that were told, and what is still to be told
 abbrev pub invariant-loop-unit : goal.invariant-loop-unit
 invariant-loop-unit l = record {
-  session : with_all_given l.self ≡ with_all_given l.initial.self;
+  session : (all_told l.self).core ≡ (all_told l.initial.self).core;
   told : (unit : ℕ) → unit < l.unit → all_given (get_or l.self.sets unit (opened 0)) ≡ get_or l.self.sets unit (opened 0);
-  effects : l.out.items ++ flat_map (λ unit. enable_effects unit (set_at l.self unit).list) (range_with_len l.unit (l.unit-end - l.unit)) ≡ l.initial.out.items ++ all_enable_effects l.initial.self;
+  effects : l.out.items ++ flat_map (λ unit. enable_effects unit (set_at l.self unit).list) (range_with_len l.unit (l.unit-end - l.unit)) ≡ l.initial.out.items ++ (all_told l.initial.self).effects;
   units : length l.self.sets ≡ l.unit-end;
   spent : vec_len l.out + owed l.self.live l.self.sets ≤ vec_len l.initial.out + owed l.initial.self.live l.initial.self.sets;
   capacity : vec_capacity l.out ≡ vec_capacity l.initial.out;

@@ -1,14 +1,12 @@
-use Rattle.std.proofs.Common.{◌≡◌, ◌<◌, ◌-◌, ◌+◌, ◌∙◌, ◌++◌, ◌∷◌, Some, true, length, subst, ap, sym, arith, is_some, count_by}
+use Rattle.std.proofs.Common.{◌≡◌, ◌<◌, ◌-◌, ◌+◌, ◌∙◌, Some, true, length, subst, ap, sym, arith, is_some, count_by}
 use Rattle.iscsi_wire.specs.declared.request.Request.{Request}
 use Rattle.iscsi_wire.specs.Fields.{connection_of}
-use Rattle.iscsi_window.specs.Windows.{Arrived}
-use Rattle.iscsi_history.specs.declared.effect.Effect.TheVariants.{Deliver}
+use Rattle.iscsi_window.specs.Windows.{Arrived, advanced}
 use Rattle.iscsi_history.specs.rules.Settings.{is_known}
 use Rattle.iscsi_session.specs.contracts.session.Session.{the_view}
 use Rattle.iscsi_session.specs.private.Standing.{Core, is_held}
-use Rattle.iscsi_session.specs.private.Steps.{with_offered}
-use Rattle.iscsi_session.specs.private.Turning.{comes_next, with_executed, executed_effects, with_advanced, turned_if, turn_effects}
-use Rattle.iscsi_session.specs.private.Functions.{owed}
+use Rattle.iscsi_session.specs.private.Steps.{Takes, with_offered, owed}
+use Rattle.iscsi_session.specs.private.Deeds.{turn_of, turn_taken, comes_next}
 use Rattle.iscsi_session.proofs.WindowLemmas.{held_now, comes_alone, Delivered, delivered, grown_sound}
 use Rattle.iscsi_session.proofs.SoundLemmas.{window_sound, advanced_sound}
 use Rattle.iscsi_session.proofs.session.Session.deliver_at_once.Goals as goal
@@ -18,10 +16,10 @@ turned : (s : Core) (r : Request) → comes_next s r ≡ true → Delivered s.wi
 turned s r next = delivered s.window (held_now s r) (comes_alone s r next).1
 
 -- so many are held and received as before
-held_same : (s : Core) (r : Request) (w : Arrived) → comes_next s r ≡ true → w ≡ (with_advanced (with_offered s r)).window → count_by is_held w.places ≡ count_by is_held s.window.places
+held_same : (s : Core) (r : Request) (w : Arrived) → comes_next s r ≡ true → w ≡ advanced (with_offered s r).window → count_by is_held w.places ≡ count_by is_held s.window.places
 held_same s r w next is = let d = turned s r next in omega (arith, ap (λ (v : Arrived). count_by is_held v.places) is, d.advanced_is.held, d.grown_is.held)
 
-received_same : (s : Core) (r : Request) (w : Arrived) → comes_next s r ≡ true → w ≡ (with_advanced (with_offered s r)).window → count_by is_some w.places ≡ count_by is_some s.window.places
+received_same : (s : Core) (r : Request) (w : Arrived) → comes_next s r ≡ true → w ≡ advanced (with_offered s r).window → count_by is_some w.places ≡ count_by is_some s.window.places
 received_same s r w next is = let d = turned s r next in omega (arith, ap (λ (v : Arrived). count_by is_some v.places) is, d.advanced_is.counted, d.grown_is.counted)
 
 pub invariant_of-self : goal.invariant_of-self
@@ -47,18 +45,12 @@ deliver-requires-clause-room c =
     let next : comes_next s c.args.request ≡ true = ap (λ (v : Core). comes_next v c.args.request) c.self.view_is ∙ c.requires.next in
     omega (arith, c.requires.room, ap (λ (v : Core). count_by is_held v.window.places) c.self.view_is, ap (λ (v : Core). owed v.live v.sets) c.self.view_is, held_same s c.args.request c.pass.new.self next (c.pass.ensures.state (s.taken - 1)))
 
-pub returns-clause-session : goal.returns-clause-session
-returns-clause-session c =
+pub returns-clause-done : goal.returns-clause-done
+returns-clause-done c =
     let s : Core = the_view c.self.inside in
     let r : Request = c.args.request in
-    c.deliver.ensures.session ∙ ap (λ (v : Arrived). with_executed (record s { window = v }) r (s.taken - 1)) (c.pass.ensures.state (s.taken - 1)) ∙ ap (λ (v : Core). turned_if (with_offered v r) (Some (Some (held_now v r)))) c.self.view_is
-
-pub returns-clause-effects : goal.returns-clause-effects
-returns-clause-effects c =
-    let s : Core = the_view c.self.inside in
-    let r : Request = c.args.request in
-    c.deliver.ensures.effects ∙ ap (λ (v : Arrived). c.args.out.now.items ++ Deliver r ∷ executed_effects (record s { window = v }) r (s.taken - 1)) (c.pass.ensures.state (s.taken - 1))
-    ∙ ap (λ (v : Core). c.args.out.now.items ++ turn_effects (with_offered v r) (Some (Some (held_now v r)))) c.self.view_is
+    subst (λ (v : Core). Takes (turn_taken (with_offered v r) (Some (Some (held_now v r)))) c.deliver.new.self c.args.out.now c.deliver.new.out) c.self.view_is
+    (subst (λ (v : Arrived). Takes (turn_of (record s { window = v }) (Some (held_now s r))) c.deliver.new.self c.args.out.now c.deliver.new.out) (c.pass.ensures.state (s.taken - 1)) c.deliver.ensures.done)
 
 pub returns-clause-spent : goal.returns-clause-spent
 returns-clause-spent c =

@@ -1,11 +1,11 @@
-use Rattle.std.proofs.Common.{◌≡◌, ◌∙◌, ◌++◌, ◌∷◌, not, false, Some, ap, sym, arith, is_some, count_by}
+use Rattle.std.proofs.Common.{◌≡◌, ◌∙◌, not, false, Some, ap, sym, subst, arith, is_some, count_by}
 use Rattle.iscsi_wire.specs.Fields.{connection_of, is_immediate}
 use Rattle.iscsi_window.specs.Windows.{Arrived}
-use Rattle.iscsi_history.specs.declared.effect.Effect.TheVariants.{Deliver}
 use Rattle.iscsi_history.specs.rules.Settings.{is_known}
 use Rattle.iscsi_session.specs.contracts.session.Session.{the_view}
 use Rattle.iscsi_session.specs.private.Standing.{Core, is_held}
-use Rattle.iscsi_session.specs.private.Turning.{with_executed, executed_effects}
+use Rattle.iscsi_session.specs.private.Steps.{Takes}
+use Rattle.iscsi_session.specs.private.Deeds.{turn_of}
 use Rattle.iscsi_history.proofs.BoolLemmas.{and_first, not_true}
 use Rattle.iscsi_session.proofs.WindowLemmas.{Advanced, advanced_at}
 use Rattle.iscsi_session.proofs.PaceLemmas.{executed_counted}
@@ -21,20 +21,11 @@ numbered c =
     let r = c.in-Some-held.field-0.request in
     not_true (is_immediate r) (and_first (not (is_immediate r)) (is_known (connection_of r) c.self.inside.connections.conns) ((turned c).known c.self.inside.connections.conns c.self.invariant.window.known).0)
 
-pub returns-in-Some-held-clause-session : goal.returns-in-Some-held-clause-session
-returns-in-Some-held-clause-session c =
+pub returns-in-Some-held-clause-done : goal.returns-in-Some-held-clause-done
+returns-in-Some-held-clause-done c =
     let s : Core = the_view c.self.inside in
-    let n = turned (goal.at.returns-in-Some-held-clause-session c).In-Some-held in
-    rw (← c.self.view_is, n.here)
-    (c.deliver_apart.ensures.session ∙ ap (λ (v : Arrived). with_executed (record s { window = v }) c.in-Some-held.field-0.request c.in-Some-held.field-0.event) c.advance.ensures.state)
-
-pub returns-in-Some-held-clause-effects : goal.returns-in-Some-held-clause-effects
-returns-in-Some-held-clause-effects c =
-    let s : Core = the_view c.self.inside in
-    let n = turned (goal.at.returns-in-Some-held-clause-effects c).In-Some-held in
-    let r = c.in-Some-held.field-0.request in
-    rw (← c.self.view_is, n.here)
-    (c.deliver_apart.ensures.effects ∙ ap (λ (v : Arrived). c.args.out.now.items ++ Deliver r ∷ executed_effects (record s { window = v }) r c.in-Some-held.field-0.event) c.advance.ensures.state)
+    let n = turned (goal.at.returns-in-Some-held-clause-done c).In-Some-held in
+    rw (← c.self.view_is, n.here) (subst (λ (v : Arrived). Takes (turn_of (record s { window = v }) (Some c.in-Some-held.field-0)) c.deliver_apart.new.self c.args.out.now c.deliver_apart.new.out) c.advance.ensures.state c.deliver_apart.ensures.done)
 
 pub returns-in-Some-held-clause-spent : goal.returns-in-Some-held-clause-spent
 returns-in-Some-held-clause-spent c =
@@ -46,4 +37,4 @@ returns-in-Some-held-clause-fewer c = λ said.
     let path = (goal.at.returns-in-Some-held-clause-fewer c).In-Some-held in
     let t : Core = record (the_view c.self.inside) { window = c.advance.new.self } in
     let counted = executed_counted t c.in-Some-held.field-0.request c.in-Some-held.field-0.event (numbered path) in
-    rw (← c.self.view_is) (omega (arith, ap (λ (u : Core). count_by is_some u.window.places) c.deliver_apart.ensures.session, counted, ap (λ w. count_by is_some w.places) c.advance.ensures.state, (turned path).counted))
+    rw (← c.self.view_is) (omega (arith, ap (λ (u : Core). count_by is_some u.window.places) c.deliver_apart.ensures.done.core, counted, ap (λ w. count_by is_some w.places) c.advance.ensures.state, (turned path).counted))

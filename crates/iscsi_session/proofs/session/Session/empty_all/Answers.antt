@@ -10,8 +10,9 @@ none c =
     let end : c.loop-ahead.ahead ≡ length c.loop-ahead.self.window.places = omega (arith, c.loop-ahead-test.false, c.loop-ahead.auto.ahead-end, c.loop-ahead.invariant.long) in
     dropped_all c.args.scope (number_expected c.loop-ahead.self.window) c.loop-ahead.self.window.places (rw (← end) c.loop-ahead.invariant.clear)
 
-pub returns-clause-session : goal.returns-clause-session
-returns-clause-session c = rw (none c).rest at c.loop-ahead.invariant.session
-
-pub returns-clause-effects : goal.returns-clause-effects
-returns-clause-effects c = rw ((none c).effects, append-nil) at c.loop-ahead.invariant.effects
+pub returns-clause-done : goal.returns-clause-done
+returns-clause-done c = record {
+  core = rw (none c).rest at c.loop-ahead.invariant.session;
+  effects = rw ((none c).effects, append-nil) at c.loop-ahead.invariant.effects;
+  room = c.loop-ahead.invariant.capacity;
+}

@@ -11,7 +11,7 @@ use Rattle.iscsi_tasks.specs.Sets.{Members, opened, entered_to, given_by}
 use Rattle.iscsi_commands.specs.declared.live.Live.{Live}
 use Rattle.iscsi_connections.specs.Connected.{Connected}
 use Rattle.iscsi_session.specs.private.Standing.{Core, are_within}
-use Rattle.iscsi_session.specs.private.Steps.{started, new_live, new_task}
+use Rattle.iscsi_session.specs.private.Steps.{new_live, new_task, started}
 use Rattle.iscsi_session.proofs.CountLemmas.{AreCounted-entered, room_for_one}
 use Rattle.iscsi_session.proofs.KeptLemmas.{newest_in, Match-entered}
 use Rattle.iscsi_session.proofs.SoundLemmas.{places_sound, commands_sound_on, entered_sound}
@@ -86,14 +86,14 @@ invariant_of-self c =
     commands_sound_on inv (ap (λ (x : Connected). x.conns) c.begin.ensures.connections) (places_sound inv.window w.1.0 w.0 w.1.1.1 (omega (arith, rw (← c.self.view_is) at c.requires.counted))) commands w.1.0 long
     (let room = ap (λ (q : Queued Live). q.room) c.push.ensures in omega (arith, room))
 
-pub returns-clause-session : goal.returns-clause-session
-returns-clause-session c =
-    let e : After-enter-slot = (goal.at.returns-clause-session c).After-enter-slot in
-    let p : After-push = (goal.at.returns-clause-session c).After-push in
-    rw (sets_now e, sets_are e, lives_are p, c.begin.ensures.connections, c.begin.ensures.window, ← c.self.view_is)
-
-pub returns-clause-effects : goal.returns-clause-effects
-returns-clause-effects c =
+pub returns-clause-done : goal.returns-clause-done
+returns-clause-done c =
+    let e : After-enter-slot = (goal.at.returns-clause-done c).After-enter-slot in
+    let p : After-push = (goal.at.returns-clause-done c).After-push in
     let position = to_z-of_z w64 c.args.pos (search rules) in
-    c.enter-slot.ensures.effects
-    ∙ rw (c.push_reserved.ensures.items, append_assoc, c.deref_mut.ensures.value, c.conn.ensures, c.itt.ensures, c.attr_of-attr.ensures, c.attr.ensures, c.immediate.ensures, position, c.requires.number, c.event-event.ensures, ← c.self.view_is)
+    record {
+      core = rw (sets_now e, sets_are e, lives_are p, c.begin.ensures.connections, c.begin.ensures.window, ← c.self.view_is);
+      effects = c.enter-slot.ensures.effects.items
+          ∙ rw (c.push_reserved.ensures.items, append_assoc, c.deref_mut.ensures.value, c.conn.ensures, c.itt.ensures, c.attr_of-attr.ensures, c.attr.ensures, c.immediate.ensures, position, c.requires.number, c.event-event.ensures, ← c.self.view_is);
+      room = c.enter-slot.ensures.effects.room ∙ c.push_reserved.ensures.capacity;
+    }

@@ -1,8 +1,8 @@
-use Rattle.std.proofs.Common.{rules, w64, ◌≡◌, ◌∙◌, arith}
+use Rattle.std.proofs.Common.{rules, w64, ◌∙◌, arith}
 use Rattle.std.proofs.lemmas.Int.{to_z-of_z}
 use Rattle.iscsi_session.specs.private.Deeds.{deed_by}
-use Rattle.iscsi_session.specs.private.Turning.{with_executed}
-use Rattle.iscsi_session.proofs.DeedLemmas.{fits_deed, ready, Stays}
+use Rattle.iscsi_session.proofs.DeedLemmas.{fits_deed, ready}
+use Rattle.iscsi_session.proofs.LoggedOutLemmas.{Stays}
 use Rattle.iscsi_session.proofs.PaceLemmas.{executed_stays}
 use Rattle.iscsi_session.proofs.session.Session.execute.Goals as goal
 
@@ -20,12 +20,6 @@ carry_out-requires-clause-number c = λ unit is. to_z-of_z w64 c.position-number
 pub returns : goal.returns
 returns c =
     let number = to_z-of_z w64 c.position-number.result (search rules) in
-    let session : c.carry_out.new.self ≡ with_executed c.args.self.now c.args.request.now c.args.event = rw (number, c.decide-deed.ensures, c.position-number.ensures) at c.carry_out.ensures.session in
-    let stays : Stays 1 c.args.self.now c.carry_out.new.self = rw session (executed_stays c.args.self.now c.args.request.now c.args.event) in
-    record {
-      session = session;
-      effects = rw (number, c.decide-deed.ensures, c.position-number.ensures) at c.carry_out.ensures.effects;
-      spent = omega (arith, c.carry_out.ensures.spent, stays.held);
-      waiting = stays.waiting;
-      capacity = c.carry_out.ensures.capacity;
-    }
+    let done = rw (number, c.decide-deed.ensures, c.position-number.ensures) at c.carry_out.ensures.done in
+    let stays : Stays 1 c.args.self.now c.carry_out.new.self = rw done.core (executed_stays c.args.self.now c.args.request.now c.args.event) in
+    record { done = done; spent = omega (arith, c.carry_out.ensures.spent, stays.held); waiting = stays.waiting }

@@ -4,8 +4,7 @@ use Rattle.iscsi_history.specs.rules.Settings.{Setting}
 use Rattle.iscsi_history.specs.rules.Trace.{Trace}
 use Rattle.iscsi_history.specs.rules.Items.{functions_at}
 use Rattle.iscsi_session.specs.private.Standing.{Agrees}
-use Rattle.iscsi_session.specs.private.Steps.{KeepsPace}
-use Rattle.iscsi_session.specs.private.Functions.{owed}
+use Rattle.iscsi_session.specs.private.Steps.{KeepsPace, owed}
 use Rattle.iscsi_session.proofs.AgendaLemmas.{Leads, left_functions}
 use Rattle.iscsi_session.proofs.session.Session.execute_all_waiting.Given as goal
 

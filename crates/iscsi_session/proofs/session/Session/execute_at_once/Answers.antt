@@ -9,10 +9,8 @@ carry_out-requires-clause-number c = λ unit is. to_z-of_z w64 c.position-number
 pub returns : goal.returns
 returns c =
     let number = to_z-of_z w64 c.position-number.result (search rules) in
-    let taken = ap (λ (s : Core). s.taken) c.self.view_is in
+    let done = rw (number, c.position-number.ensures, ap (λ (s : Core). s.taken) c.self.view_is) at c.carry_out.ensures.done in
     record {
-      session = rw (number, c.position-number.ensures, taken) at c.carry_out.ensures.session;
-      effects = rw (number, c.position-number.ensures, taken, c.push_reserved.ensures.items, append_assoc) at c.carry_out.ensures.effects;
+      done = record { core = done.core; effects = done.effects ∙ rw (c.push_reserved.ensures.items, append_assoc); room = done.room ∙ c.push_reserved.ensures.capacity };
       spent = omega (arith, c.carry_out.ensures.spent, c.push_reserved.ensures.len);
-      capacity = c.carry_out.ensures.capacity ∙ c.push_reserved.ensures.capacity;
     }

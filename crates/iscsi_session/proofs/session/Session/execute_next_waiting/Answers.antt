@@ -1,4 +1,4 @@
-use Rattle.std.proofs.Common.{w64, to_z, ◌≡◌, ◌==◌, ◌≤◌, ◌+◌, ◌∙◌, ◌∷◌, not, true, find, filter, Some, length, count_by, pos, ◌-ℤ◌, ℤ, List, refl, ap, sym, arith, append_assoc, eq-eqb}
+use Rattle.std.proofs.Common.{w64, to_z, ◌≡◌, ◌==◌, ◌≤◌, ◌+◌, ◌∙◌, not, true, find, filter, Some, length, count_by, pos, ◌-ℤ◌, ℤ, List, refl, ap, sym, arith, append_assoc, eq-eqb}
 use Rattle.std.proofs.lemmas.Bool.{false≢true}
 use Rattle.std.proofs.lemmas.Int.{ints, to_z_pos}
 use Rattle.iscsi_wire.specs.Serial.{number_of_first}
@@ -9,11 +9,10 @@ use Rattle.iscsi_history.specs.rules.Deeds.{function_deed}
 use Rattle.iscsi_history.specs.declared.deed.Deed.{Deed}
 use Rattle.iscsi_wire.specs.declared.request.Request.{Request}
 use Rattle.iscsi_session.specs.private.Standing.{Core, is_held}
-use Rattle.iscsi_session.specs.private.Functions.{owed}
+use Rattle.iscsi_session.specs.private.Steps.{after_effect, owed}
+use Rattle.iscsi_session.specs.private.Deeds.{facts_by, carried, next_waiting, next_position, function_taken}
 use Rattle.iscsi_history.specs.declared.effect.Effect.TheVariants.{Immediate}
 use Rattle.iscsi_session.specs.declared.session.waiting.Waiting.{Waiting}
-use Rattle.iscsi_session.specs.private.Deeds.{facts_by, carried, carried_effects}
-use Rattle.iscsi_session.specs.private.Turning.{next_waiting, next_position, function_if, function_effects}
 use Rattle.iscsi_session.specs.contracts.session.Session.{the_view}
 use Rattle.iscsi_history.proofs.ListLemmas.{find-passes}
 use Rattle.iscsi_history.proofs.CountLemmas.{fewer_left}
@@ -31,9 +30,8 @@ next c =
 
 -- what it does, and what that shows
 function_is : (s : Core) (f : Waiting) (ws : List Waiting) (n : ℤ) (d : Deed) → next_waiting s ≡ Some f → ws ≡ filter (λ v. not (v.event == f.event)) s.waiting → n ≡ next_position s → d ≡ function_deed (facts_by (record s { waiting = ws }) f.request) f.request
-    → (carried (record s { waiting = ws }) f.request n f.event d ≡ function_if s (next_waiting s))
-    × (Immediate f.request ∷ carried_effects (record s { waiting = ws }) f.request n f.event d ≡ function_effects s (next_waiting s))
-function_is s f ws n d found waits number does = (rw (found, does, waits, number), rw (found, does, waits, number))
+    → after_effect (Immediate f.request) (carried (record s { waiting = ws }) f.request n f.event d) ≡ function_taken s (next_waiting s)
+function_is s f ws n d found waits number does = rw (found, does, waits, number)
 
 -- the function that waits for it
 found : (c : In-Some) → find (λ w. w.turn == c.self.inside.window.turned) c.self.inside.waiting.items ≡ Some c.in-Some.function
@@ -66,7 +64,7 @@ fewer c is items =
     let s : Core = record (the_view c.self.inside) { waiting = c.take_first.new.self.items } in
     let left = fewer_left (λ w. w.turn == c.self.inside.window.turned) (λ v. v.event == f.event) c.self.inside.waiting.items f is (eq-eqb f.event f.event refl) in
     let kept = (carried_stays s f.request (to_z w64 c.turned-number.result) f.event c.decide_function-deed.result (rw c.decide_function-deed.ensures (fits_function s f.request))).waiting in
-    omega (arith, left, ap (λ (u : Core). length u.waiting) c.carry_out.ensures.session, kept, ap length items)
+    omega (arith, left, ap (λ (u : Core). length u.waiting) c.carry_out.ensures.done.core, kept, ap length items)
 
 pub invariant_of-self : goal.invariant_of-self
 invariant_of-self c = rw c.in_default.ensures.rest c.self.invariant
@@ -94,27 +92,23 @@ carry_out-requires-clause-room c =
     let none = (whole_is (goal.at.carry_out-requires-clause-room c).After-decide_function-deed (may (goal.at.carry_out-requires-clause-room c).In-Some) (pos 0)).none_emptied in
     omega (arith, none, c.requires.room, c.push_reserved.ensures.len, c.push_reserved.ensures.capacity, ap (λ (u : Core). owed u.live u.sets) c.self.view_is, ap (λ (u : Core). length u.waiting) c.self.view_is, some_wait (goal.at.carry_out-requires-clause-room c).In-Some)
 
-pub returns-clause-session : goal.returns-clause-session
-returns-clause-session c =
-    let here = (goal.at.returns-clause-session c).In-Some in
-    rw (← c.self.view_is) (c.carry_out.ensures.session ∙ (function_is (the_view c.self.inside) c.in-Some.function c.take_first.new.self.items _ c.decide_function-deed.result (found here) (items_left here) (next here) c.decide_function-deed.ensures).0)
-
-pub returns-clause-effects : goal.returns-clause-effects
-returns-clause-effects c =
-    let here = (goal.at.returns-clause-effects c).In-Some in
-    let shown = (function_is (the_view c.self.inside) c.in-Some.function c.take_first.new.self.items _ c.decide_function-deed.result (found here) (items_left here) (next here) c.decide_function-deed.ensures).1 in
-    rw (← c.self.view_is, ← shown) (rw (c.push_reserved.ensures.items, append_assoc) at c.carry_out.ensures.effects)
+pub returns-clause-done : goal.returns-clause-done
+returns-clause-done c =
+    let here = (goal.at.returns-clause-done c).In-Some in
+    let x = c.carry_out.ensures.done in
+    let same = function_is (the_view c.self.inside) c.in-Some.function c.take_first.new.self.items _ c.decide_function-deed.result (found here) (items_left here) (next here) c.decide_function-deed.ensures in
+    rw (← c.self.view_is, ← same) (record { core = x.core; effects = x.effects ∙ rw (c.push_reserved.ensures.items, append_assoc); room = x.room ∙ c.push_reserved.ensures.capacity })
 
 pub returns-clause-spent : goal.returns-clause-spent
 returns-clause-spent c =
     let less = fewer (goal.at.returns-clause-spent c).After-carry_out (found (goal.at.returns-clause-spent c).In-Some) (items_left (goal.at.returns-clause-spent c).In-Some) in
     let places = (whole_is (goal.at.returns-clause-spent c).After-decide_function-deed (may (goal.at.returns-clause-spent c).In-Some) (to_z w64 c.turned-number.result)).places in
-    rw (← c.self.view_is) (omega (arith, less, c.carry_out.ensures.spent, c.push_reserved.ensures.len, ap (λ (u : Core). count_by is_held u.window.places) c.carry_out.ensures.session, ap (count_by is_held) places))
+    rw (← c.self.view_is) (omega (arith, less, c.carry_out.ensures.spent, c.push_reserved.ensures.len, ap (λ (u : Core). count_by is_held u.window.places) c.carry_out.ensures.done.core, ap (count_by is_held) places))
 
 pub returns-clause-fewer : goal.returns-clause-fewer
 returns-clause-fewer c = λ said. rw (← c.self.view_is) (omega (arith, fewer (goal.at.returns-clause-fewer c).After-carry_out (found (goal.at.returns-clause-fewer c).In-Some) (items_left (goal.at.returns-clause-fewer c).In-Some)))
 
 pub returns-clause-places : goal.returns-clause-places
 returns-clause-places c =
-    ap (λ (u : Core). u.window.places) c.carry_out.ensures.session ∙ (whole_is (goal.at.returns-clause-places c).After-decide_function-deed (may (goal.at.returns-clause-places c).In-Some) _).places
+    ap (λ (u : Core). u.window.places) c.carry_out.ensures.done.core ∙ (whole_is (goal.at.returns-clause-places c).After-decide_function-deed (may (goal.at.returns-clause-places c).In-Some) _).places
     ∙ ap (λ (u : Core). u.window.places) c.self.view_is

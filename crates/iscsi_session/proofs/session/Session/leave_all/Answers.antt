@@ -1,8 +1,9 @@
-use Rattle.std.proofs.Common.{◌≡◌, ◌∙◌, ℕ, arith, length-set, append_assoc}
+use Rattle.std.proofs.Common.{◌≡◌, ◌∙◌, ◌-◌, ℕ, [], ap, arith, length-set, append_assoc}
 use Rattle.iscsi_session.specs.private.Standing.{Core}
-use Rattle.iscsi_session.specs.private.Functions.{with_left}
-use Rattle.iscsi_session.specs.private.Closing.{covers_of}
+use Rattle.iscsi_session.specs.private.Steps.{commands_left, covers_of}
 use Rattle.iscsi_history.proofs.ListLemmas.{range_step}
+use Rattle.std.specs.List.{range_with_len}
+use Rattle.std.proofs.lemmas.List.{append-nil}
 use Rattle.iscsi_session.proofs.session.Session.leave_all.Goals as goal
 
 pub loop-unit-preserved : goal.loop-unit-preserved
@@ -12,13 +13,22 @@ loop-unit-preserved c =
     let u : ℕ = c.loop-unit.unit in
     let end : ℕ = c.units-unit-end.result in
     let step = range_step u end c.loop-unit-test.true in
-    let left : c.leave_covered.new.self ≡ with_left s u (covers_of c.args.scope) = c.leave_covered.ensures.session ∙ rw inv.cover in
+    let x = c.leave_covered.ensures.done in
+    let left : c.leave_covered.new.self ≡ (commands_left s u (covers_of c.args.scope)).core = x.core ∙ rw inv.cover in
     record {
       session = rw left (rw step at inv.session);
-      effects = rw (c.leave_covered.ensures.effects, left, inv.cover, append_assoc) (rw step at inv.effects);
+      effects = rw (x.effects, left, inv.cover, append_assoc) (rw step at inv.effects);
       cover = inv.cover;
       units = rw (left, length-set) inv.units;
       places = rw left inv.places;
       spent = omega (arith, c.leave_covered.ensures.spent, inv.spent);
-      capacity = c.leave_covered.ensures.capacity ∙ inv.capacity;
+      capacity = x.room ∙ inv.capacity;
     }
+
+pub returns-clause-done : goal.returns-clause-done
+returns-clause-done c =
+    let inv = c.loop-unit.invariant in
+    let u : ℕ = c.loop-unit.unit in
+    let end : ℕ = c.units-unit-end.result in
+    let none : range_with_len u (end - u) ≡ [] = ap (range_with_len u) (let z : end - u ≡ 0 = omega (arith, c.loop-unit-test.false) in z) in
+    record { core = rw none at inv.session; effects = rw (none, append-nil) at inv.effects; room = inv.capacity }

@@ -1,9 +1,9 @@
-use Rattle.std.proofs.Common.{◌≡◌, ◌∙◌, ◌<◌, ◌++◌, length, take, drop, get_or, set, ap, sym, arith, rules}
+use Rattle.std.proofs.Common.{◌≡◌, ◌∙◌, ◌<◌, ◌++◌, length, take, drop, get_or, set, ap, sym, arith}
 use Rattle.iscsi_tasks.specs.Sets.{opened, is_covered}
 use Rattle.iscsi_session.specs.private.Standing.{Core}
-use Rattle.iscsi_session.specs.private.Functions.{staying, set_staying, finished_by, tickets_covered, ungiven_in, owed}
+use Rattle.iscsi_session.specs.private.Steps.{set_staying, covered_tickets, staying, finished_by, ungiven_in, owed}
 use Rattle.iscsi_session.proofs.CountLemmas.{few_live}
-use Rattle.iscsi_session.proofs.LeavingParts.{ungiven_in-staying, rises, few_in, covered_live, covered_up, without_covered, leave_covered_each}
+use Rattle.iscsi_session.proofs.LeavingParts.{ungiven_in-staying, rises, few_in, covered_live, covered_up, without_covered}
 use Rattle.iscsi_session.proofs.LeftSound.{sets_written, left_sound}
 use Rattle.iscsi_session.proofs.session.Session.leave_covered.Goals.{After-deref_mut, After-deref}
 use Rattle.iscsi_session.proofs.session.Session.leave_covered.Goals as goal
@@ -27,7 +27,7 @@ dequeue_covered-requires-clause-room c =
     ))
 
 -- the tickets are those of the covered commands of the unit
-tickets_are : (c : After-deref) → c.deref.result.now ≡ tickets_covered (is_covered c.args.cover.now) (get_or c.self.inside.sets.items c.args.unit (opened 0))
+tickets_are : (c : After-deref) → c.deref.result.now ≡ covered_tickets (is_covered c.args.cover.now) (get_or c.self.inside.sets.items c.args.unit (opened 0)).list
 tickets_are c = c.deref.ensures.value ∙ rw c.deref_mut.ensures.value at c.dequeue_covered.ensures.left
 
 -- the sets, once the set of the unit was written
@@ -67,8 +67,6 @@ returns c =
     let covers = is_covered c.args.cover.now in
     let d = (goal.at.returns c).After-deref in
     record {
-      session = rw (← c.self.view_is, c.end_all.ensures.connections, window_is c, live_are c, sets_are d);
-      effects = rw (← c.self.view_is, c.end_all.ensures.effects, tickets_are d, leave_covered_each (get_or i.sets.items c.args.unit (opened 0)) covers c.args.unit);
+      done = record { core = rw (← c.self.view_is, c.end_all.ensures.connections, window_is c, live_are c, sets_are d); effects = rw (← c.self.view_is, c.end_all.ensures.effects.items, tickets_are d); room = c.end_all.ensures.effects.room };
       spent = omega (arith, c.end_all.ensures.spent, ap ungiven_in (sets_are d), ungiven_in-staying i.sets.items c.args.unit covers (inside (goal.at.returns c).After-deref_mut), ap (λ (x : Core). owed x.live x.sets) c.self.view_is);
-      capacity = search rules;
     }

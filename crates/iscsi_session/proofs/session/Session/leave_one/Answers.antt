@@ -1,7 +1,7 @@
-use Rattle.std.proofs.Common.{◌≡◌, ◌∙◌, ◌<◌, ◌++◌, length, take, drop, get_or, set, ap, sym, arith, rules}
+use Rattle.std.proofs.Common.{◌≡◌, ◌∙◌, ◌<◌, ◌++◌, length, take, drop, get_or, set, ap, sym, arith}
 use Rattle.iscsi_tasks.specs.Sets.{opened}
 use Rattle.iscsi_session.specs.private.Standing.{Core}
-use Rattle.iscsi_session.specs.private.Functions.{staying, set_staying, covers_ticket, has_covered, ungiven_in, owed}
+use Rattle.iscsi_session.specs.private.Steps.{set_staying, staying, covers_ticket, has_covered, ungiven_in, owed}
 use Rattle.iscsi_session.proofs.LeavingParts.{ungiven_in-staying, rises, one_found, one_live, one_leaves}
 use Rattle.iscsi_session.proofs.LeftSound.{sets_written, left_sound}
 use Rattle.iscsi_session.proofs.session.Session.leave_one.Goals.{After-dequeue_one-is_there}
@@ -39,8 +39,6 @@ returns c =
     let d = (goal.at.returns c).After-dequeue_one-is_there in
     let up = rises i.sets.items i.live.items c.args.unit (covers_ticket c.args.ticket) (inside d) c.self.invariant.commands.in_sets c.self.invariant.commands.ascending in
     record {
-      session = rw (← c.self.view_is, c.end_one.ensures.connections, c.end_one.ensures.window, live_are c, sets_are d);
-      effects = rw (← c.self.view_is, c.end_one.ensures.effects, there d, one_leaves c.args.ticket c.args.unit (get_or i.sets.items c.args.unit (opened 0)).list up);
+      done = record { core = rw (← c.self.view_is, c.end_one.ensures.connections, c.end_one.ensures.window, live_are c, sets_are d); effects = rw (← c.self.view_is, c.end_one.ensures.effects.items, there d, one_leaves c.args.ticket c.args.unit (get_or i.sets.items c.args.unit (opened 0)).list up); room = c.end_one.ensures.effects.room };
       spent = omega (arith, c.end_one.ensures.spent, ap ungiven_in (sets_are d), ungiven_in-staying i.sets.items c.args.unit (covers_ticket c.args.ticket) (inside d), ap (λ (x : Core). owed x.live x.sets) c.self.view_is);
-      capacity = search rules;
     }

@@ -1,14 +1,15 @@
-use Rattle.std.proofs.Common.{append_assoc}
-use Rattle.iscsi_session.specs.private.Standing.{Core}
-use Rattle.iscsi_session.specs.private.Closing.{units_of, covers_of, left_to}
-use Rattle.iscsi_session.proofs.LoggedOutLemmas.{Keeps, left_keeps, kept_conns, kept_emptying, kept_close}
+use Rattle.std.proofs.Common.{◌∙◌, append_assoc}
 use Rattle.iscsi_session.proofs.session.Session.log_out.Goals as goal
 
-pub returns-clause-effects : goal.returns-clause-effects
-returns-clause-effects c =
-    let s : Core = c.args.self.now in
-    let scope = c.args.scope in
-    let k : Keeps s (left_to s scope) = left_keeps s (units_of s) (covers_of scope) in
-    rw (c.announce_all.ensures.effects, c.close.ensures.effects, c.answer.ensures.effects, c.empty_all.ensures.effects, c.leave_all.ensures.effects)
-    (rw (c.close.ensures.session, c.answer.ensures.session, c.drop_waiting.ensures.session, c.empty_all.ensures.session, c.leave_all.ensures.session)
-    (simp (kept_conns s (left_to s scope) k scope, kept_emptying s (left_to s scope) k scope, kept_close s (left_to s scope) k scope, append_assoc)))
+pub returns-clause-done : goal.returns-clause-done
+returns-clause-done c =
+    let left = c.leave_all.ensures.done in
+    let emptied = c.empty_all.ensures.done in
+    let answer = c.answer.ensures.done in
+    let close = c.close.ensures.done in
+    let told = c.announce_all.ensures.done in
+    record {
+      core = rw (told.core, close.core, answer.core, c.drop_waiting.ensures.session, emptied.core, left.core);
+      effects = rw (told.effects, close.effects, answer.effects, emptied.effects, left.effects) (rw (close.core, answer.core, c.drop_waiting.ensures.session, emptied.core, left.core) (simp append_assoc));
+      room = told.room ∙ close.room ∙ answer.room ∙ emptied.room ∙ left.room;
+    }

@@ -5,7 +5,8 @@ use Rattle.iscsi_history.specs.declared.deed.Deed.{Deed}
 use Rattle.iscsi_history.specs.declared.deed.Deed.TheVariants.{CloseConn}
 use Rattle.iscsi_session.specs.private.Standing.{Core, is_held}
 use Rattle.iscsi_session.specs.private.Deeds.{Fits, most_emptied}
-use Rattle.iscsi_session.proofs.DeedLemmas.{fits_arrival, ready, Stays}
+use Rattle.iscsi_session.proofs.DeedLemmas.{fits_arrival, ready}
+use Rattle.iscsi_session.proofs.LoggedOutLemmas.{Stays}
 use Rattle.iscsi_session.proofs.PaceLemmas.{at_once_stays, immediate_is}
 use Rattle.iscsi_session.proofs.session.Session.receive_immediate.Goals as goal
 use Rattle.iscsi_session.proofs.session.Session.receive_immediate.Goals.{After-decide_arrival}
@@ -36,12 +37,10 @@ returns-in_default c =
     let s : Core = c.args.self.now in
     let r : Request = c.args.request in
     let d : Deed = c.decide_arrival.result in
-    let is = immediate_is s r d c.in_default.not-Wait in
-    let stays : Stays 0 s c.execute_at_once.new.self = rw c.execute_at_once.ensures.session (at_once_stays s r d (fits (goal.at.returns-in_default c).After-decide_arrival) c.requires.immediate) in
+    let done = c.execute_at_once.ensures.done in
+    let stays : Stays 0 s c.execute_at_once.new.self = rw done.core (at_once_stays s r d (fits (goal.at.returns-in_default c).After-decide_arrival) c.requires.immediate) in
     record {
-      session = rw (← c.decide_arrival.ensures, is.0) c.execute_at_once.ensures.session;
-      effects = rw (← c.decide_arrival.ensures, is.1) c.execute_at_once.ensures.effects;
+      done = rw (← c.decide_arrival.ensures, immediate_is s r d c.in_default.not-Wait) done;
       pace = omega (arith, stays);
       spent = omega (arith, stays, c.execute_at_once.ensures.spent);
-      capacity = c.execute_at_once.ensures.capacity;
     }

@@ -3,8 +3,7 @@ use Rattle.iscsi_history.specs.declared.effect.Effect.{Effect}
 use Rattle.iscsi_history.specs.rules.Settings.{Setting}
 use Rattle.iscsi_history.specs.rules.Trace.{Trace, Mark}
 use Rattle.iscsi_session.specs.private.Standing.{is_held}
-use Rattle.iscsi_session.specs.private.Steps.{KeepsPace}
-use Rattle.iscsi_session.specs.private.Functions.{owed}
+use Rattle.iscsi_session.specs.private.Steps.{KeepsPace, owed}
 use Rattle.iscsi_session.proofs.AgendaLemmas.{DueTurn}
 use Rattle.iscsi_session.proofs.session.Session.run_agenda.Given as goal
 

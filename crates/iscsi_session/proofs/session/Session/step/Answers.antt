@@ -4,13 +4,13 @@ use Rattle.iscsi_history.specs.declared.effect.Effect.{Effect}
 use Rattle.iscsi_history.specs.declared.event.Event.{Event}
 use Rattle.iscsi_history.specs.rules.Settings.{Setting}
 use Rattle.iscsi_session.specs.declared.fault.SessionFault.{SessionFault}
-use Rattle.iscsi_history.specs.rules.Run.{trace_of, next_entry, after_event}
+use Rattle.iscsi_history.specs.rules.Run.{trace_of, next_entry}
 use Rattle.iscsi_session.specs.promises.Refusals.{refusal_of}
 use Rattle.iscsi_session.specs.promises.Bounds.{effect_bound_of}
-use Rattle.iscsi_session.specs.private.Standing.{Core, Settled, StandsFor}
-use Rattle.iscsi_session.specs.private.Steps.{KeepsPace, refusal_by}
-use Rattle.iscsi_history.specs.rules.Trace.{received}
+use Rattle.iscsi_session.specs.private.Standing.{Core, StandsFor}
+use Rattle.iscsi_session.specs.private.Steps.{refusal_by, KeepsPace, Handles}
 use Rattle.iscsi_history.specs.promises.Flow.{Flows, HasOneMore}
+use Rattle.iscsi_history.specs.rules.Agenda.{items_of}
 use Rattle.iscsi_session.proofs.FlowLemmas.{Flows-step}
 use Rattle.iscsi_history.proofs.RunLemmas.{trace_of-push}
 use Rattle.iscsi_session.proofs.OwedLemmas.{owed_few}
@@ -47,21 +47,11 @@ pub apply-requires-clause-owed : goal.apply-requires-clause-owed
 apply-requires-clause-owed c = owed_few c.self.inside.sets.items c.self.inside.live.items c.self.invariant.commands.in_sets
 
 -- what the event that is taken does, where the session stood for those before
-record Applied (o : Setting) (h : List Event) (e : Event) (s : Core) (before after : List Effect) : Type 0 where
-  settled : Settled o s (after_event o (length h) (trace_of o h) e)
-  effects : after ≡ before ++ (next_entry o h e).effects
-  received : HasOneMore (received (trace_of o h)) (received (after_event o (length h) (trace_of o h) e))
-
-applied : (c : After-apply) (o : Setting) (h : List Event) → StandsFor o c.args.self.now h → Applied o h c.args.event.now c.apply.new.self c.reserve.new.self.items c.apply.new.out.items
+applied : (c : After-apply) (o : Setting) (h : List Event) → StandsFor o c.args.self.now h → Handles o (trace_of o h) (items_of o (length h) (trace_of o h) c.args.event.now) HasOneMore c.apply.new.self c.reserve.new.self.items c.apply.new.out.items
 applied c o h stands =
     let here = rw (← c.self.view_is) at stands in
     let index : c.self.inside.taken + 1 ≡ length h + 1 = omega (arith, here.taken) in
-    let from = Settled-counted o _ (trace_of o h) here.settled in
-    record {
-      settled = c.apply.ensures.settled o (length h) (trace_of o h) index from;
-      effects = c.apply.ensures.effects o (length h) (trace_of o h) index from;
-      received = c.apply.ensures.received o (length h) (trace_of o h) index from;
-    }
+    c.apply.ensures.items o (length h) (trace_of o h) index (Settled-counted o _ (trace_of o h) here.settled)
 
 -- the session stands for the event too
 stands_now : (c : After-apply) (o : Setting) (h : List Event) → StandsFor o c.args.self.now h → StandsFor o c.apply.new.self (h ++ c.args.event.now ∷ [])
@@ -77,7 +67,7 @@ flows : (c : After-apply) (o : Setting) (h : List Event) → StandsFor o c.args.
 flows c o h stands =
     let a = applied c o h stands in
     let pace : KeepsPace c.args.self.now.window c.apply.new.self.window = rw (← c.self.view_is) c.apply.ensures.pace in
-    rw (trace_of-push o h c.args.event.now) (Flows-step o c.args.self.now c.apply.new.self (length h) (trace_of o h) c.args.event.now a.received stands.settled a.settled pace)
+    rw (trace_of-push o h c.args.event.now) (Flows-step o c.args.self.now c.apply.new.self (length h) (trace_of o h) c.args.event.now a.receives stands.settled a.settled pace)
 
 bounded : (c : After-apply) (o : Setting) (h : List Event) → StandsFor o c.args.self.now h → length (next_entry o h c.args.event.now).effects ≤ effect_bound_of o (trace_of o h)
 bounded c o h stands =

@@ -5,6 +5,7 @@ use Rattle.iscsi_tasks.specs.Sets.{Members, opened, is_enabled_in}
 use Rattle.iscsi_commands.specs.declared.live.Live.{Live}
 use Rattle.iscsi_session.specs.private.Steps.{find_ticket}
 use Rattle.iscsi_history.proofs.ListLemmas.{find-passes}
+use Rattle.iscsi_session.proofs.LeavingParts.{one_leaving}
 use Rattle.iscsi_session.proofs.FoundLemmas.{found_ticket}
 use Rattle.iscsi_session.proofs.session.completion.take_enabled.Goals as goal
 use Rattle.iscsi_session.proofs.session.completion.take_enabled.Goals.{After-from}
@@ -37,4 +38,4 @@ returns-then-leave_enabled-clause-sets c =
     let f : After-from = (goal.at.returns-then-leave_enabled-clause-sets c).After-from in
     let l : Live = c.in_ok-command.field-0.command in
     let named : l.ticket ≡ c.args.ticket = found_ticket c.args.ticket c.args.live.now.items l (found f) in
-    rw (c.leave_enabled.ensures.left c.if-leave_enabled.true, set_is f c.index-sets-from.result, c.from.ensures, named)
+    rw (c.leave_enabled.ensures.left c.if-leave_enabled.true, set_is f c.index-sets-from.result, c.from.ensures, named, (one_leaving c.args.ticket (get_or c.args.sets.now l.unit (opened 0))).0)

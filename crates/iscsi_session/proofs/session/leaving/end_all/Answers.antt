@@ -3,8 +3,7 @@ use Rattle.std.specs.Prelude.{IsSome}
 use Rattle.std.proofs.lemmas.List.{append-nil, take_all}
 use Rattle.iscsi_history.proofs.ListLemmas.{fewer_counted}
 use Rattle.iscsi_commands.specs.declared.live.Live.{Live}
-use Rattle.iscsi_session.specs.private.Steps.{is_numbered, find_ticket, without_ticket}
-use Rattle.iscsi_session.specs.private.Functions.{finished_by, without_tickets, leave_each}
+use Rattle.iscsi_session.specs.private.Steps.{find_ticket, without_ticket, is_numbered, finished_by, leave_each, without_tickets}
 use Rattle.iscsi_session.proofs.KeptLemmas.{ascending-kept}
 use Rattle.iscsi_session.proofs.ListLemmas.{are_known-left}
 use Rattle.iscsi_session.proofs.LeavingParts.{without_none, without_more, leave_more, there_yet, finished_none, finished_on, without_shorter}
@@ -60,4 +59,7 @@ pub returns-clause-window : goal.returns-clause-window
 returns-clause-window c = c.loop-k.invariant.window ∙ ap (finished_by c.args.window.now c.args.live.now.items) (returns-clause-live c)
 
 pub returns-clause-effects : goal.returns-clause-effects
-returns-clause-effects c = c.loop-k.invariant.effects ∙ ap (λ ts. c.args.out.now.items ++ leave_each c.args.unit ts) (take_all c.loop-k.k c.args.tickets.now (omega arith))
+returns-clause-effects c = record {
+  items = c.loop-k.invariant.effects ∙ ap (λ ts. c.args.out.now.items ++ leave_each c.args.unit ts) (take_all c.loop-k.k c.args.tickets.now (omega arith));
+  room = c.loop-k.invariant.capacity;
+}

@@ -1,7 +1,6 @@
 use Rattle.std.proofs.Common.{◌≡◌, ◌+◌, ◌≤◌, ◌++◌, true, length, count_by, take, vec_len, vec_capacity}
 use Rattle.iscsi_session.specs.private.Standing.{are_ascending, are_known}
-use Rattle.iscsi_session.specs.private.Steps.{AreCounted, is_numbered}
-use Rattle.iscsi_session.specs.private.Functions.{without_tickets, finished_by, leave_each}
+use Rattle.iscsi_session.specs.private.Steps.{AreCounted, is_numbered, finished_by, leave_each, without_tickets}
 use Rattle.iscsi_session.proofs.session.leaving.end_all.Given as goal
 
 -- those are over whose tickets came so far

@@ -35,7 +35,8 @@ returns-clause-set c =
 
 pub returns-clause-effects : goal.returns-clause-effects
 returns-clause-effects c =
-    let same = rw ((all (goal.at.returns-clause-effects c).In_default).effects, append-nil) at c.loop-ticket.invariant.effects in same
+    let inv = c.loop-ticket.invariant in
+    record { items = rw ((all (goal.at.returns-clause-effects c).In_default).effects, append-nil) at inv.effects; room = inv.capacity }
 
 pub returns-clause-spent : goal.returns-clause-spent
 returns-clause-spent c = omega (arith, (all (goal.at.returns-clause-spent c).In_default).none_new, c.loop-ticket.invariant.spent)
