@@ -15,7 +15,7 @@ use Rattle.iscsi_history.proofs.BoolLemmas.{or_first, or_second, and_parts, and_
 use Rattle.iscsi_history.proofs.ListLemmas.{any_filter}
 use Rattle.iscsi_history.proofs.TraceLemmas.{unadmitted, filter-same, filter-true}
 use Rattle.iscsi_history.proofs.AbortLemmas.{Fits}
-use Rattle.iscsi_history.proofs.Forms.{Start, AtTurn, AtArrival, AfterWaiting, start_mark, Deeds, marks_done, Form, Ignored, Rejected, Received, Postponed, Completed, Executed, marks_of_form, begun, is_completed_by, Sweeps, IsFormed}
+use Rattle.iscsi_history.proofs.Forms.{Start, AtTurn, start_mark, Deeds, marks_done, Form, Executed, marks_of_form, begun, is_completed_by, Sweeps, IsFormed}
 use Rattle.iscsi_history.proofs.FormItems.{live-begun}
 use Rattle.iscsi_history.proofs.DeedTable.{unset}
 use Rattle.iscsi_history.proofs.FormRuns.{StandsAt, Stands, AnyArrival}
@@ -119,14 +119,8 @@ module _ (o : Setting) (t : Trace) (start : Start) (a : Arrival) (d : Deeds) (s 
 module _ (o : Setting) (now p : ℕ) (t : Trace) where
   -- nothing is delivered below the item's place
   delivers_here : (form : Form) → StandsAt AnyArrival o now p t form → (n : ℕ) → n < p → delivers_in n form ≡ false
-  delivers_here (Ignored why) x n lt = refl
-  delivers_here (Rejected a) x n lt = refl
-  delivers_here (Received a) x n lt = refl
-  delivers_here (Postponed a) x n lt = refl
-  delivers_here (Completed c status) x n lt = refl
   delivers_here (Executed AtTurn a d) x n lt = let number : a.number ≡ p = x.0 in let no : (a.number == n) ≡ false = grind (arith, nat_tests) in no
-  delivers_here (Executed AtArrival a d) x n lt = refl
-  delivers_here (Executed AfterWaiting a d) x n lt = refl
+  delivers_here form x n lt = refl
 
   -- Function complete is sent where the deeds say so
   completed_by : (start : Start) (a : Arrival) (d : Deeds) → list_any (completes a.request) (marks_of_form (Executed start a d)) ≡ true → is_completed_by a d ≡ true
@@ -144,20 +138,15 @@ module _ (o : Setting) (now p : ℕ) (t : Trace) where
   Ends f form = (f.number ≤ p) × ((k : ℕ) → is_ticket_covered o f (marks_of_form form) t k ≡ true → has (leaves_ticket k) (marks_of_form form ∷ t) ≡ true)
 
   ends_form : (form : Form) → StandsAt AnyArrival o now p t form → (f : Arrival) → IsCompleted f (marks_of_form form) → is_set_abort f.request ≡ true → Ends f form
-  ends_form (Ignored why) x f done set = no_arrival f done.executes
-  ends_form (Rejected a) x f done set = no_arrival f done.executes
-  ends_form (Received a) x f done set = no_arrival f done.executes
-  ends_form (Postponed a) x f done set = no_arrival f done.executes
-  ends_form (Completed c status) x f done set = no_arrival f done.executes
   ends_form (Executed start a d) x f done set = subst (λ (b : Arrival). IsCompleted b (marks_of_form (Executed start a d)) → is_set_abort b.request ≡ true → Ends b (Executed start a d)) (by_start start done.executes) own done set
     where
       by_start : (s : Start) → executed_in (start_mark s a ∷ marks_done a d) ≡ Some f → a ≡ f
       by_start AtTurn is = cc
-      by_start AtArrival is = cc
-      by_start AfterWaiting is = cc
+      by_start s is = cc
 
       own : IsCompleted a (marks_of_form (Executed start a d)) → is_set_abort a.request ≡ true → Ends a (Executed start a d)
       own done set = let r = x.1 done.aborts set (completed_by start a d done.complete) in (r.0, swept o t start a d r.1 set)
+  ends_form form x f done set = no_arrival f done.executes
 
   form_fits : (form : Form) → IsFormed o now t form → StandsAt AnyArrival o now p t form → Fits o p t (marks_of_form form)
   form_fits form x at =

@@ -8,7 +8,7 @@ use Rattle.std.proofs.lemmas.List.Folds.{list_any-append}
 use Rattle.iscsi_wire.specs.Fields.{opcode, function}
 use Rattle.iscsi_history.specs.declared.event.Event.{Event}
 use Rattle.iscsi_history.specs.rules.Settings.{Setting}
-use Rattle.iscsi_history.specs.rules.Trace.{Arrival, Command, Mark, Admits, Delivers, Executes, Voids, Empties, Waits, Leaves, Enters, Sends, ClosesConn, ClosesSession, Ignores, Trace, first_of, has, shown, number_received, contains, is_received, admits_at, admitted, delivers_number, is_delivered, empties_number, is_emptied, held, entered, leaves_ticket, live, live_in, is_among, was_free, enabled_in}
+use Rattle.iscsi_history.specs.rules.Trace.{Arrival, Command, Mark, Admits, Voids, Empties, Trace, first_of, has, shown, number_received, contains, is_received, admits_at, admitted, delivers_number, is_delivered, empties_number, is_emptied, held, entered, leaves_ticket, live, live_in, is_among, was_free, enabled_in}
 use Rattle.iscsi_history.specs.rules.Execution.{exp_of}
 use Rattle.iscsi_history.specs.rules.Run.{trace_of, effects_of_item, run_of}
 use Rattle.iscsi_history.specs.promises.Enabling.{is_enable}
@@ -98,9 +98,6 @@ shut_later o p n (item ∷ later) t x s =
 
 taken_cases : (n : ℕ) (item : List Mark) → list_any (takes_out n) item ≡ true → (list_any (empties_number n) item ≡ true) ⊎ (list_any (voids_number n) item ≡ true)
 taken_cases n [] h = absurd (false≢true h)
-taken_cases n (Admits a ∷ ms) h = taken_cases n ms h
-taken_cases n (Delivers a ∷ ms) h = taken_cases n ms h
-taken_cases n (Executes a ∷ ms) h = taken_cases n ms h
 taken_cases n (Voids k ∷ ms) h =
     ⊎_elim (λ here. inr (or_first (k == n) (list_any (voids_number n) ms) here))
     (λ later. ⊎_elim (λ e. inl e) (λ v. inr (or_second (k == n) (list_any (voids_number n) ms) v)) (taken_cases n ms later))
@@ -109,32 +106,17 @@ taken_cases n (Empties a ∷ ms) h =
     ⊎_elim (λ here. inl (or_first (a.number == n) (list_any (empties_number n) ms) here))
     (λ later. ⊎_elim (λ e. inl (or_second (a.number == n) (list_any (empties_number n) ms) e)) (λ v. inr v) (taken_cases n ms later))
     (or_cases (a.number == n) (list_any (takes_out n) ms) h)
-taken_cases n (Waits a ∷ ms) h = taken_cases n ms h
-taken_cases n (Leaves c ∷ ms) h = taken_cases n ms h
-taken_cases n (Enters c ∷ ms) h = taken_cases n ms h
-taken_cases n (Sends conn reply ∷ ms) h = taken_cases n ms h
-taken_cases n (ClosesConn conn ∷ ms) h = taken_cases n ms h
-taken_cases n (ClosesSession ∷ ms) h = taken_cases n ms h
-taken_cases n (Ignores why ∷ ms) h = taken_cases n ms h
+taken_cases n (m ∷ ms) h = taken_cases n ms h
 
 -- what is voided is received
 voided_received : (n : ℕ) (item : List Mark) → list_any (voids_number n) item ≡ true → contains (filter_map number_received item) n ≡ true
 voided_received n [] h = absurd (false≢true h)
 voided_received n (Admits a ∷ ms) h = or_second (a.number == n) (contains (filter_map number_received ms) n) (voided_received n ms h)
-voided_received n (Delivers a ∷ ms) h = voided_received n ms h
-voided_received n (Executes a ∷ ms) h = voided_received n ms h
 voided_received n (Voids k ∷ ms) h =
     ⊎_elim (λ here. or_first (k == n) (contains (filter_map number_received ms) n) here)
     (λ later. or_second (k == n) (contains (filter_map number_received ms) n) (voided_received n ms later))
     (or_cases (k == n) (list_any (voids_number n) ms) h)
-voided_received n (Empties a ∷ ms) h = voided_received n ms h
-voided_received n (Waits a ∷ ms) h = voided_received n ms h
-voided_received n (Leaves c ∷ ms) h = voided_received n ms h
-voided_received n (Enters c ∷ ms) h = voided_received n ms h
-voided_received n (Sends conn reply ∷ ms) h = voided_received n ms h
-voided_received n (ClosesConn conn ∷ ms) h = voided_received n ms h
-voided_received n (ClosesSession ∷ ms) h = voided_received n ms h
-voided_received n (Ignores why ∷ ms) h = voided_received n ms h
+voided_received n (m ∷ ms) h = voided_received n ms h
 
 -- a number that the item takes out is shut at its end
 taken_shut : (o : Setting) (p n : ℕ) (item : List Mark) (t : Trace) → Fits o p t item → list_any (takes_out n) item ≡ true → Shut n (item ∷ t)

@@ -11,7 +11,7 @@ use Rattle.iscsi_wire.specs.Fields.{connection_of, header_of, itt}
 use Rattle.iscsi_history.specs.declared.event.Event.{Event}
 use Rattle.iscsi_history.specs.declared.event.Event.TheVariants.{Arrive, Done}
 use Rattle.iscsi_history.specs.rules.Settings.{Setting}
-use Rattle.iscsi_history.specs.rules.Trace.{Arrival, Command, Mark, Delivers, Executes, Voids, Empties, Leaves, Enters, Sends, ClosesConn, ClosesSession, Trace, live, was_free}
+use Rattle.iscsi_history.specs.rules.Trace.{Arrival, Command, Mark, Delivers, Voids, Empties, Leaves, Enters, Sends, ClosesConn, ClosesSession, Trace, live, was_free}
 use Rattle.iscsi_history.specs.rules.Execution.{sense_of_status, completion}
 use Rattle.iscsi_history.specs.rules.Agenda.{command_of}
 use Rattle.iscsi_history.specs.promises.Replies.{executed_in, answered_in, replies_to}
@@ -24,7 +24,7 @@ use Rattle.iscsi_history.proofs.MomentLemmas.{log_effects}
 use Rattle.iscsi_history.proofs.CountLemmas.{one, count-one}
 use Rattle.iscsi_history.proofs.AbortMarks.{none_viewed}
 use Rattle.iscsi_history.proofs.NumberingLemmas.{unseen, passed}
-use Rattle.iscsi_history.proofs.Forms.{Start, AtTurn, AtArrival, AfterWaiting, Deeds, if_some, marks_done, Form, Ignored, Rejected, Received, Postponed, Completed, Executed, marks_of_form, IsDone, Each, IsFormed, HasForm, is_arrival, HaveForms}
+use Rattle.iscsi_history.proofs.Forms.{Start, AtTurn, Deeds, if_some, start_mark, marks_done, Form, Rejected, Completed, Executed, marks_of_form, IsDone, Each, IsFormed, HasForm, is_arrival, HaveForms}
 use Rattle.iscsi_history.proofs.FormRuns.{trace_has_forms}
 use Rattle.iscsi_history.proofs.ReplyForms.{comes_of, replies_seen}
 use Rattle.iscsi_history.proofs.ReplyTurns.{begins_of}
@@ -91,25 +91,15 @@ fitting_done o t start a b d x same conn reply h =
 
 fitting_form : (o : Setting) (now : ℕ) (t : Trace) (form : Form) → IsFormed o now t form → (a : Arrival) → executed_in (marks_of_form form) ≡ Some a → (conn : ℕ) (reply : Reply) → In (Sends conn reply) (marks_of_form form)
     → (conn ≡ connection_of a.request) × Answers a.request reply
-fitting_form o now t (Ignored why) x a is conn reply h = absurd cc
-fitting_form o now t (Rejected b) x a is conn reply h = absurd cc
-fitting_form o now t (Received b) x a is conn reply h = absurd cc
-fitting_form o now t (Postponed b) x a is conn reply h = absurd cc
-fitting_form o now t (Completed c status) x a is conn reply h = absurd cc
 fitting_form o now t (Executed AtTurn b d) x a is conn reply h = ⊎_elim (λ same. absurd cc) (λ later. fitting_done o t AtTurn b a d x.1 (cc) conn reply later) h
-fitting_form o now t (Executed AtArrival b d) x a is conn reply h = ⊎_elim (λ same. absurd cc) (λ later. fitting_done o t AtArrival b a d x.1 (cc) conn reply later) h
-fitting_form o now t (Executed AfterWaiting b d) x a is conn reply h = ⊎_elim (λ same. absurd cc) (λ later. fitting_done o t AfterWaiting b a d x.1 (cc) conn reply later) h
+fitting_form o now t (Executed start b d) x a is conn reply h = ⊎_elim (λ same. absurd cc) (λ later. fitting_done o t start b a d x.1 (cc) conn reply later) h
+fitting_form o now t form x a is conn reply h = absurd cc
 
 -- its commands that leave are those that are taken out
 left_form : (form : Form) (a : Arrival) (c : Command) → executed_in (marks_of_form form) ≡ Some a → In (Leaves c) (marks_of_form form) → In c (aborted_in form)
-left_form (Ignored why) a c is h = absurd cc
-left_form (Rejected b) a c is h = absurd cc
-left_form (Received b) a c is h = absurd cc
-left_form (Postponed b) a c is h = absurd cc
-left_form (Completed d status) a c is h = absurd cc
 left_form (Executed AtTurn b d) a c is h = subst (In c) (left_done b d) (viewed-in leaver_of (Delivers b ∷ marks_done b d) (Leaves c) c h refl)
-left_form (Executed AtArrival b d) a c is h = subst (In c) (left_done b d) (viewed-in leaver_of (Executes b ∷ marks_done b d) (Leaves c) c h refl)
-left_form (Executed AfterWaiting b d) a c is h = subst (In c) (left_done b d) (viewed-in leaver_of (Executes b ∷ marks_done b d) (Leaves c) c h refl)
+left_form (Executed start b d) a c is h = subst (In c) (left_done b d) (viewed-in leaver_of (start_mark start b ∷ marks_done b d) (Leaves c) c h refl)
+left_form form a c is h = absurd cc
 
 -- ---- an item that completes a command
 
@@ -117,27 +107,19 @@ abbrev Completes : Command → List Mark → Type 0
 Completes c ms = (status : ℕ) × (ms ≡ Sends (connection_of c.arrival.request) (Scsi (itt c.arrival.request) status (sense_of_status status)) ∷ [])
 
 completing_form : (form : Form) (c : Command) (ms : List Mark) → Leaves c ∷ ms ≡ marks_of_form form → Completes c ms
-completing_form (Ignored why) c ms is = absurd cc
-completing_form (Rejected b) c ms is = absurd cc
-completing_form (Received b) c ms is = absurd cc
-completing_form (Postponed b) c ms is = absurd cc
 completing_form (Completed d status) c ms is = (status, cc)
 completing_form (Executed AtTurn b d) c ms is = absurd cc
-completing_form (Executed AtArrival b d) c ms is = absurd cc
-completing_form (Executed AfterWaiting b d) c ms is = absurd cc
+completing_form form c ms is = absurd cc
 
 -- ---- an item that answers no request
 
 rejecting_form : (form : Form) → answered_in (marks_of_form form) ≡ None → (conn : ℕ) (reply : Reply) → In (Sends conn reply) (marks_of_form form)
     → (r : Request) × (marks_of_form form ≡ Sends (connection_of r) (Reject 5 (header_of r)) ∷ [])
-rejecting_form (Ignored why) is conn reply h = ⊎_elim (λ same. absurd cc) (λ none. absurd none) h
 rejecting_form (Rejected a) is conn reply h = (a.request, refl)
-rejecting_form (Received a) is conn reply h = ⊎_elim (λ same. absurd cc) (λ none. absurd none) h
-rejecting_form (Postponed a) is conn reply h = ⊎_elim (λ same. absurd cc) (λ none. absurd none) h
 rejecting_form (Completed c status) is conn reply h = absurd cc
 rejecting_form (Executed AtTurn a d) is conn reply h = absurd cc
-rejecting_form (Executed AtArrival a d) is conn reply h = absurd cc
-rejecting_form (Executed AfterWaiting a d) is conn reply h = absurd cc
+rejecting_form (Executed start a d) is conn reply h = absurd cc
+rejecting_form form is conn reply h = ⊎_elim (λ same. absurd cc) (λ none. absurd none) h
 
 -- ---- the clauses
 

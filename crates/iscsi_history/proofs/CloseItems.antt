@@ -85,8 +85,6 @@ OnOpen o t a = is_open o t (connection_of a.request) ≡ true
 
 -- what is received is in the window
 range_form : (o : Setting) (now p : ℕ) (t : Trace) (form : Form) → StandsAt (OnOpen o) o now p t form → (n : ℕ) (b : Arrival) → first_of (filter_map (admits_at n) (marks_of_form form)) ≡ Some b → (number_of_first o.first ≤ n) × (n < exp_of o t + o.window)
-range_form o now p t (Ignored why) at n b h = absurd cc
-range_form o now p t (Rejected a) at n b h = absurd cc
 range_form o now p t (Received a) at n b h = by_test (a.number == n) refl h
   where
     by_test : (v : Bool) → (a.number == n) ≡ v → first_of (cons_option (cond v (Some a) None) []) ≡ Some b → (number_of_first o.first ≤ n) × (n < exp_of o t + o.window)
@@ -97,9 +95,8 @@ range_form o now p t (Received a) at n b h = by_test (a.number == n) refl h
         let low : exp_of o t ≤ a.number = at.1.0 in
         let high : a.number < exp_of o t + o.window = in_window (exp_of o t) o.window (unfinished t) a.number (omega (arith, start)) low at.1.1 in
         ((let z : number_of_first o.first ≤ n = omega (arith, start, low, same) in z), (let z : n < exp_of o t + o.window = omega (arith, high, same) in z))
-range_form o now p t (Postponed a) at n b h = absurd cc
-range_form o now p t (Completed c status) at n b h = absurd cc
 range_form o now p t (Executed start a d) at n b h = absurd (let none : None ≡ Some b = sym (ap first_of (executed_at n start a d).admits) ∙ h in cc)
+range_form o now p t form at n b h = absurd cc
 
 -- ---- a request that executes
 
@@ -142,8 +139,7 @@ module _ (o : Setting) (now p : ℕ) (t : Trace) (start : Start) (a : Arrival) (
       where
         still : (s : Start) → is_open o (begun s a t) k ≡ true
         still AtTurn = open-item o (Delivers a ∷ []) t k on refl
-        still AtArrival = open-item o (Executes a ∷ []) t k on refl
-        still AfterWaiting = open-item o (Executes a ∷ []) t k on refl
+        still s = open-item o (Executes a ∷ []) t k on refl
 
         other : s.of_these k ≡ false → (conn : ℕ) → d.closing ≡ Some conn → (v : Bool) → (conn == k) ≡ v → v ≡ false
         other apart conn is true same = absurd (false≢true (sym apart ∙ ap s.of_these (sym (eqb-true conn k same)) ∙ each_is (λ n. s.of_these n ≡ true) d.closing conn s.closing is))
@@ -168,8 +164,7 @@ module _ (o : Setting) (now p : ℕ) (t : Trace) (start : Start) (a : Arrival) (
       where
         kept : (s : Start) → list_any (delivers_number n) (start_mark s a ∷ []) ≡ false → held (begun s a t) n ≡ Some b
         kept AtTurn later = held-kept t n (Delivers a ∷ []) refl later refl ∙ there
-        kept AtArrival later = held-kept t n (Executes a ∷ []) refl refl refl ∙ there
-        kept AfterWaiting later = held-kept t n (Executes a ∷ []) refl refl refl ∙ there
+        kept s later = held-kept t n (Executes a ∷ []) refl refl refl ∙ there
 
         emptied : list_any (delivers_number n) (start_mark start a ∷ []) ≡ false → In b d.emptied
         emptied later =

@@ -5,7 +5,7 @@ use Rattle.std.proofs.lemmas.Bool.{false≢true}
 use Rattle.iscsi_wire.specs.Serial.{number_of_first}
 use Rattle.iscsi_wire.specs.Fields.{connection_of}
 use Rattle.iscsi_history.specs.rules.Settings.{Setting, is_known}
-use Rattle.iscsi_history.specs.rules.Trace.{Arrival, Command, Mark, Admits, Delivers, Executes, Voids, Empties, Waits, Leaves, Enters, Sends, ClosesConn, ClosesSession, Ignores, Trace, has, shown, first_of, admits_at, admitted, delivers_number, is_delivered, empties_number, is_emptied, held, waiting_by, waiting_through, waiting, enters, entered, leaves_ticket, live, closes_conn, closes_session, is_ended, is_closed}
+use Rattle.iscsi_history.specs.rules.Trace.{Arrival, Command, Mark, Admits, Delivers, Executes, Waits, Enters, Sends, ClosesConn, ClosesSession, Ignores, Trace, has, shown, first_of, admits_at, admitted, delivers_number, is_delivered, empties_number, is_emptied, held, waiting_by, waiting_through, waiting, enters, entered, leaves_ticket, live, closes_conn, closes_session, is_ended, is_closed}
 use Rattle.iscsi_history.specs.rules.Execution.{exp_of}
 use Rattle.iscsi_history.specs.rules.Logout.{is_open}
 use Rattle.iscsi_history.proofs.ElementLemmas.{In, in-filter, in-append, in-cons}
@@ -60,20 +60,10 @@ entered_brought (m ∷ ms) c h = ⊎_elim (λ here. by_mark m here) (λ later. b
     conn = connection_of c.arrival.request
 
     by_mark : (m : Mark) → enters m ≡ Some c → Brought (connection_of c.arrival.request) (m ∷ ms)
-    by_mark (Admits a) is = absurd cc
-    by_mark (Delivers a) is = absurd cc
-    by_mark (Executes a) is = absurd cc
-    by_mark (Voids n) is = absurd cc
-    by_mark (Empties a) is = absurd cc
-    by_mark (Waits a) is = absurd cc
-    by_mark (Leaves d) is = absurd cc
     by_mark (Enters d) is =
         let same : d ≡ c = cc in
         brought_here (connection_of c.arrival.request) (Enters d) ms (eq-eqb (connection_of d.arrival.request) (connection_of c.arrival.request) (ap (λ (x : Command). connection_of x.arrival.request) same)) refl
-    by_mark (Sends k reply) is = absurd cc
-    by_mark (ClosesConn k) is = absurd cc
-    by_mark ClosesSession is = absurd cc
-    by_mark (Ignores why) is = absurd cc
+    by_mark m is = absurd cc
 
 pub admitted_brought : (n : ℕ) (ms : List Mark) (a : Arrival) → first_of (filter_map (admits_at n) ms) ≡ Some a → Brought (connection_of a.request) ms
 admitted_brought n [] a h = absurd cc
@@ -87,17 +77,7 @@ admitted_brought n (m ∷ ms) a h = ⊎_elim (λ here. by_mark m here) (λ later
               brought_here (connection_of a.request) (Admits b) ms (eq-eqb (connection_of b.request) (connection_of a.request) (ap (λ (x : Arrival). connection_of x.request) same)) refl
           | false ↦ λ found. absurd cc
         ] is
-    by_mark (Delivers b) is = absurd cc
-    by_mark (Executes b) is = absurd cc
-    by_mark (Voids k) is = absurd cc
-    by_mark (Empties b) is = absurd cc
-    by_mark (Waits b) is = absurd cc
-    by_mark (Leaves c) is = absurd cc
-    by_mark (Enters c) is = absurd cc
-    by_mark (Sends k reply) is = absurd cc
-    by_mark (ClosesConn k) is = absurd cc
-    by_mark ClosesSession is = absurd cc
-    by_mark (Ignores why) is = absurd cc
+    by_mark m is = absurd cc
 
 -- a function that waits at an item's end waited before, and its connection isn't closed in the item, or the item brought it
 waits_from : (ms : List Mark) (ws : List Arrival) (a : Arrival) → In a (waiting_through ms ws) → (In a ws × (closed_by ms (connection_of a.request) ≡ false)) ⊎ Brought (connection_of a.request) ms
@@ -106,24 +86,17 @@ waits_from (m ∷ ms) ws a h =
     ⊎_elim (λ before. by_mark m before.0 before.1) (λ later. inr (brought_later (connection_of a.request) m ms later)) (waits_from ms (waiting_by m ws) a h)
   where
     by_mark : (m : Mark) → In a (waiting_by m ws) → closed_by ms (connection_of a.request) ≡ false → (In a ws × (closed_by (m ∷ ms) (connection_of a.request) ≡ false)) ⊎ Brought (connection_of a.request) (m ∷ ms)
-    by_mark (Admits b) there stays = inl (there, stays)
-    by_mark (Delivers b) there stays = inl (there, stays)
     by_mark (Executes b) there stays = inl ((in-filter (λ (x : Arrival). not (x.event == b.event)) ws a there).0, stays)
-    by_mark (Voids k) there stays = inl (there, stays)
-    by_mark (Empties b) there stays = inl (there, stays)
     by_mark (Waits b) there stays =
         ⊎_elim (λ before. inl (before, stays))
         (λ last. ⊎_elim (λ same. inr (brought_here (connection_of a.request) (Waits b) ms (eq-eqb (connection_of b.request) (connection_of a.request) (ap (λ (x : Arrival). connection_of x.request) same)) refl)) (λ none. absurd none) last)
         (in-append ws (b ∷ []) a there)
-    by_mark (Leaves c) there stays = inl (there, stays)
-    by_mark (Enters c) there stays = inl (there, stays)
-    by_mark (Sends k reply) there stays = inl (there, stays)
     by_mark (ClosesConn k) there stays =
         let r = in-filter (λ (x : Arrival). not (connection_of x.request == k)) ws a there in
         let apart : (k == connection_of a.request) ≡ false = eq_sym k (connection_of a.request) ∙ not_true (connection_of a.request == k) r.1 in
         inl (r.0, ap (λ b. list_any closes_session ms || (b || list_any (closes_conn (connection_of a.request)) ms)) apart ∙ stays)
     by_mark ClosesSession there stays = absurd there
-    by_mark (Ignores why) there stays = inl (there, stays)
+    by_mark m there stays = inl (there, stays)
 
 -- a request that is held at an item's end was held before, and isn't taken in it, or the item admits it
 held_from : (item : List Mark) (t : Trace) (n : ℕ) (a : Arrival) → held (item ∷ t) n ≡ Some a

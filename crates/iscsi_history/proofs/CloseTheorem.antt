@@ -8,7 +8,7 @@ use Rattle.iscsi_history.specs.declared.effect.Effect.{Effect}
 use Rattle.iscsi_history.specs.declared.effect.Effect.TheVariants.{Enable}
 use Rattle.iscsi_history.specs.declared.event.Event.{Event}
 use Rattle.iscsi_history.specs.rules.Settings.{Setting, is_known}
-use Rattle.iscsi_history.specs.rules.Trace.{Command, Mark, Admits, Delivers, Executes, Voids, Empties, Waits, Leaves, Enters, Sends, ClosesConn, ClosesSession, Ignores, Trace, has, live, live_in, was_free, enabled_in, closes_conn, closes_session, is_ended}
+use Rattle.iscsi_history.specs.rules.Trace.{Command, Mark, Admits, Delivers, Executes, Waits, Sends, ClosesConn, Ignores, Trace, has, live, live_in, was_free, enabled_in, closes_conn, closes_session, is_ended}
 use Rattle.iscsi_history.specs.rules.Logout.{is_open}
 use Rattle.iscsi_history.specs.rules.Run.{trace_of, effects_of_mark, newly_enabled, effects_of_item, run_of}
 use Rattle.iscsi_history.specs.rules.Agenda.{belongs}
@@ -49,47 +49,20 @@ module _ (o : Setting) (p : Effect → Bool) (q : Mark → Bool) (none : (ticket
 
 session_mark : (o : Setting) (t : Trace) (m : Mark) → list_any is_session_close (effects_of_mark o t m) ≡ closes_session m
 session_mark o t (Admits a) = refl
-session_mark o t (Delivers a) = refl
-session_mark o t (Executes a) = refl
-session_mark o t (Voids n) = refl
-session_mark o t (Empties a) = refl
-session_mark o t (Waits a) = refl
-session_mark o t (Leaves c) = refl
-session_mark o t (Enters c) = refl
-session_mark o t (Sends conn reply) = refl
-session_mark o t (ClosesConn conn) = refl
-session_mark o t ClosesSession = refl
-session_mark o t (Ignores why) = refl
+session_mark o t m = refl
 
 conn_mark : (o : Setting) (k : ℕ) (t : Trace) (m : Mark) → list_any (is_close_of k) (effects_of_mark o t m) ≡ closes_conn k m
-conn_mark o k t (Admits a) = refl
-conn_mark o k t (Delivers a) = refl
-conn_mark o k t (Executes a) = refl
-conn_mark o k t (Voids n) = refl
-conn_mark o k t (Empties a) = refl
-conn_mark o k t (Waits a) = refl
-conn_mark o k t (Leaves c) = refl
-conn_mark o k t (Enters c) = refl
-conn_mark o k t (Sends conn reply) = refl
 conn_mark o k t (ClosesConn conn) = or_false (conn == k)
-conn_mark o k t ClosesSession = refl
-conn_mark o k t (Ignores why) = refl
+conn_mark o k t m = refl
 
 -- ---- what an item shows on a connection
 
 on_mark : (o : Setting) (k : ℕ) (t : Trace) (m : Mark) → is_at k m ≡ false → list_any (is_on k) (effects_of_mark o t m) ≡ false
-on_mark o k t (Admits a) h = refl
 on_mark o k t (Delivers a) h = ap (λ b. b || false) h
 on_mark o k t (Executes a) h = ap (λ b. b || false) h
-on_mark o k t (Voids n) h = refl
-on_mark o k t (Empties a) h = refl
 on_mark o k t (Waits a) h = ap (λ b. b || false) h
-on_mark o k t (Leaves c) h = refl
-on_mark o k t (Enters c) h = refl
 on_mark o k t (Sends conn reply) h = ap (λ b. b || false) h
-on_mark o k t (ClosesConn conn) h = refl
-on_mark o k t ClosesSession h = refl
-on_mark o k t (Ignores why) h = refl
+on_mark o k t m h = refl
 
 on_marks : (o : Setting) (k : ℕ) (t : Trace) (ms : List Mark) → list_any (is_at k) ms ≡ false → list_any (is_on k) (flat_map (effects_of_mark o t) ms) ≡ false
 on_marks o k t [] h = refl
@@ -108,18 +81,8 @@ on_item o k t item h =
 
 ignored_marks : (o : Setting) (t : Trace) (ms : List Mark) → list_all ignores ms ≡ true → list_all is_ignored (flat_map (effects_of_mark o t) ms) ≡ true
 ignored_marks o t [] h = refl
-ignored_marks o t (Admits a ∷ ms) h = absurd (false≢true h)
-ignored_marks o t (Delivers a ∷ ms) h = absurd (false≢true h)
-ignored_marks o t (Executes a ∷ ms) h = absurd (false≢true h)
-ignored_marks o t (Voids n ∷ ms) h = absurd (false≢true h)
-ignored_marks o t (Empties a ∷ ms) h = absurd (false≢true h)
-ignored_marks o t (Waits a ∷ ms) h = absurd (false≢true h)
-ignored_marks o t (Leaves c ∷ ms) h = absurd (false≢true h)
-ignored_marks o t (Enters c ∷ ms) h = absurd (false≢true h)
-ignored_marks o t (Sends conn reply ∷ ms) h = absurd (false≢true h)
-ignored_marks o t (ClosesConn conn ∷ ms) h = absurd (false≢true h)
-ignored_marks o t (ClosesSession ∷ ms) h = absurd (false≢true h)
 ignored_marks o t (Ignores why ∷ ms) h = ignored_marks o t ms h
+ignored_marks o t (m ∷ ms) h = absurd (false≢true h)
 
 none_in : {A : Type 0} (xs : List A) → ((x : A) → In x xs → ⊥) → xs ≡ []
 none_in [] none = refl

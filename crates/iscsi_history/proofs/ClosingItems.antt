@@ -7,7 +7,7 @@ use Rattle.iscsi_history.specs.rules.Settings.{Setting, is_known}
 use Rattle.iscsi_history.specs.rules.Logout.{is_open, is_last_open, parting}
 use Rattle.iscsi_history.specs.declared.effect.Effect.TheVariants.{Empty, Leave}
 use Rattle.iscsi_history.specs.rules.Run.{effects_of_mark}
-use Rattle.iscsi_history.proofs.BoolLemmas.{or_false, or_second, and_false}
+use Rattle.iscsi_history.proofs.BoolLemmas.{or_false, or_second}
 use Rattle.iscsi_history.proofs.NewlyLemmas.{Untouched}
 use Rattle.iscsi_history.proofs.DeliveryLemmas.{IsQuiet}
 use Rattle.std.proofs.lemmas.Bool.{false≢true}
@@ -65,12 +65,6 @@ quiet-closing o t a (Some closing) = by_last (is_last_open o t closing)
     by_last true = record { receives = refl; admits = λ n. refl; delivers_none = refl; delivers_no = λ n. refl; empties_no = λ n. refl }
     by_last false = record { receives = refl; admits = λ n. refl; delivers_none = refl; delivers_no = λ n. refl; empties_no = λ n. refl }
 
--- ---- the effects
-
-pub emptied-shown : (o : Setting) (t : Trace) (hs : List Arrival) → map (λ (a : Arrival). Empty (wire a.number)) hs ≡ flat_map (effects_of_mark o t) (map Empties hs)
-emptied-shown o t [] = refl
-emptied-shown o t (h ∷ hs) = ap (λ es. Empty (wire h.number) ∷ es) (emptied-shown o t hs)
-
 -- ---- lists of such marks
 
 pub emptied_sends : (hs : List Arrival) (rest : List Mark) → filter_map sent_on (map Empties hs ++ rest) ≡ filter_map sent_on rest
@@ -114,12 +108,6 @@ is_nil (c ∷ cs) = false
 pub nil_is : (cs : List ℕ) → is_nil cs ≡ true → cs ≡ []
 nil_is [] h = refl
 nil_is (c ∷ cs) h = absurd (false≢true h)
-
-pub none_open : (o : Setting) (t : Trace) (cids : List ℕ) → ((c : ℕ) → is_closed c t ≡ true) → filter (is_open o t) cids ≡ []
-none_open o t [] all = refl
-none_open o t (c ∷ cids) all =
-    ap (λ b. cond b (c ∷ filter (is_open o t) cids) (filter (is_open o t) cids)) (ap (λ b. is_known c o.conns && not b) (all c) ∙ and_false (is_known c o.conns))
-    ∙ none_open o t cids all
 
 -- none stays open but for the one that closes
 pub last_is : (o : Setting) (t : Trace) (closing : ℕ) (ds : List (ℕ × ℕ)) → ((k : ℕ) → is_known k ds ≡ true → is_known k o.conns ≡ true)

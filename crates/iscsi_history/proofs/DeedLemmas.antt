@@ -7,7 +7,7 @@ use Rattle.iscsi_wire.specs.Fields.{connection_of}
 use Rattle.iscsi_history.specs.rules.Trace.{Arrival, Command, Mark, Delivers, Executes, Voids, Empties, Leaves, Enters, Sends, ClosesConn, ClosesSession}
 use Rattle.iscsi_history.proofs.BoolLemmas.{or_first, or_second}
 use Rattle.iscsi_history.proofs.ElementLemmas.{In}
-use Rattle.iscsi_history.proofs.Forms.{Start, AtTurn, AtArrival, AfterWaiting, start_mark, Deeds, if_some, marks_done, Each, is_closing}
+use Rattle.iscsi_history.proofs.Forms.{Start, AtTurn, start_mark, Deeds, if_some, marks_done, Each, is_closing}
 
 pub each_is : {A : Type 0} (P : A → Type 0) (x : Option A) (y : A) → Each P x → x ≡ Some y → P y
 each_is P (Some z) y h is = let same : z ≡ y = cc in subst P same h
@@ -16,8 +16,7 @@ each_is P None y h is = absurd cc
 -- a test that the mark doesn't pass by which the request executes
 pub begun_any : (p : Mark → Bool) (start : Start) (a : Arrival) (ms : List Mark) → p (Delivers a) ≡ false → p (Executes a) ≡ false → list_any p (start_mark start a ∷ ms) ≡ list_any p ms
 begun_any p AtTurn a ms delivers executes = ap (λ b. b || list_any p ms) delivers
-begun_any p AtArrival a ms delivers executes = ap (λ b. b || list_any p ms) executes
-begun_any p AfterWaiting a ms delivers executes = ap (λ b. b || list_any p ms) executes
+begun_any p start a ms delivers executes = ap (λ b. b || list_any p ms) executes
 
 module _ (a : Arrival) (d : Deeds) where
   -- where it closes nothing

@@ -10,7 +10,7 @@ use Rattle.iscsi_history.specs.declared.effect.Effect.TheVariants.{Enable}
 use Rattle.iscsi_history.specs.declared.effect.Why.{Why}
 use Rattle.iscsi_history.specs.declared.event.Event.{Event}
 use Rattle.iscsi_history.specs.rules.Settings.{Setting}
-use Rattle.iscsi_history.specs.rules.Trace.{Arrival, Command, Mark, Admits, Delivers, Executes, Voids, Empties, Waits, Leaves, Enters, Sends, ClosesConn, ClosesSession, Ignores, Trace, after_items, shown, first_of, number_received, received, delivers_number, is_delivered, empties_number, is_emptied, held, admits_at, admitted}
+use Rattle.iscsi_history.specs.rules.Trace.{Arrival, Command, Mark, Delivers, Ignores, Trace, after_items, shown, first_of, number_received, received, delivers_number, is_delivered, empties_number, is_emptied, held, admits_at, admitted}
 use Rattle.iscsi_history.specs.rules.Agenda.{items_of}
 use Rattle.iscsi_history.specs.rules.Run.{after_event, after_events, effects_of_mark, newly_enabled, effects_of_item, effects_of, entries_from}
 use Rattle.iscsi_history.specs.promises.Executed.{request_at, executed_below, delivers, delivered_by, delivered}
@@ -19,18 +19,8 @@ use Rattle.iscsi_history.specs.promises.Executed.{request_at, executed_below, de
 
 marks_deliver : (o : Setting) (t : Trace) (item : List Mark) → flat_map delivered_by (flat_map (effects_of_mark o t) item) ≡ filter_map delivers item
 marks_deliver o t [] = refl
-marks_deliver o t (Admits a ∷ ms) = marks_deliver o t ms
 marks_deliver o t (Delivers a ∷ ms) = ap (λ rs. a.request ∷ rs) (marks_deliver o t ms)
-marks_deliver o t (Executes a ∷ ms) = marks_deliver o t ms
-marks_deliver o t (Voids n ∷ ms) = marks_deliver o t ms
-marks_deliver o t (Empties a ∷ ms) = marks_deliver o t ms
-marks_deliver o t (Waits a ∷ ms) = marks_deliver o t ms
-marks_deliver o t (Leaves c ∷ ms) = marks_deliver o t ms
-marks_deliver o t (Enters c ∷ ms) = marks_deliver o t ms
-marks_deliver o t (Sends conn reply ∷ ms) = marks_deliver o t ms
-marks_deliver o t (ClosesConn conn ∷ ms) = marks_deliver o t ms
-marks_deliver o t (ClosesSession ∷ ms) = marks_deliver o t ms
-marks_deliver o t (Ignores why ∷ ms) = marks_deliver o t ms
+marks_deliver o t (m ∷ ms) = marks_deliver o t ms
 
 enables_deliver : (cs : List Command) → flat_map delivered_by (map (λ (c : Command). Enable c.ticket c.unit) cs) ≡ []
 enables_deliver [] = refl

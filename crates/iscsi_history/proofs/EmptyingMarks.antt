@@ -43,16 +43,6 @@ pub record EmptiesOne (item : List Mark) (n : ℕ) : Type 0 where
   pub delivers_no : (k : ℕ) → list_any (delivers_number k) item ≡ false
   pub empties : (k : ℕ) → list_any (empties_number k) item ≡ (n == k)
 
--- a quiet mark before quiet ones
-pub quiet-both : (m : Mark) (ms : List Mark) → IsQuiet (m ∷ []) → IsQuiet ms → IsQuiet (m ∷ ms)
-quiet-both m ms q qs = record {
-  receives = ap (λ x. cons_option x (filter_map number_received ms)) (none_first (number_received m) q.receives) ∙ qs.receives;
-  admits = λ k. ap (λ x. cons_option x (filter_map (admits_at k) ms)) (none_first (admits_at k m) (q.admits k)) ∙ qs.admits k;
-  delivers_none = ap (λ x. cons_option x (filter_map delivers ms)) (none_first (delivers m) q.delivers_none) ∙ qs.delivers_none;
-  delivers_no = λ k. ap (λ b. b || list_any (delivers_number k) ms) (sym (or_false (delivers_number k m)) ∙ q.delivers_no k) ∙ qs.delivers_no k;
-  empties_no = λ k. ap (λ b. b || list_any (empties_number k) ms) (sym (or_false (empties_number k m)) ∙ q.empties_no k) ∙ qs.empties_no k;
-}
-
 pub voids-one : (m : Mark) (n : ℕ) (ms : List Mark) → IsQuiet (m ∷ []) → IsQuiet ms → VoidsOne (m ∷ Voids n ∷ ms) n
 voids-one m n ms q qs = record {
   receives = ap (λ x. cons_option x (n ∷ filter_map number_received ms)) (none_first (number_received m) q.receives) ∙ ap (λ ns. n ∷ ns) qs.receives;
@@ -203,15 +193,3 @@ module _ (m : Mark) (ms : List Mark) (t : Trace) where
     emptied_is = λ n. has-joined (empties_number n);
     delivers_is = shown-joined delivers;
   }
-
-module _ (t t' : Trace) (s : SameNumbers t t') where
-  pub held-same : (n : ℕ) → held t' n ≡ held t n
-  held-same n =
-      ap (λ b. cond (b || is_emptied t' n) None (admitted t' n)) (s.delivered_is n)
-      ∙ ap (λ b. cond (is_delivered t n || b) None (admitted t' n)) (s.emptied_is n)
-      ∙ ap (λ x. cond (is_delivered t n || is_emptied t n) None x) (s.admitted_is n)
-
-  pub request_at-same : (n : ℕ) → request_at t' n ≡ request_at t n
-  request_at-same n =
-      ap (λ b. cond b None (option_map (λ (a : Arrival). a.request) (admitted t' n))) (s.emptied_is n)
-      ∙ ap (λ x. cond (is_emptied t n) None (option_map (λ (a : Arrival). a.request) x)) (s.admitted_is n)

@@ -16,7 +16,7 @@ use Rattle.iscsi_history.proofs.ElementLemmas.{In}
 use Rattle.iscsi_history.proofs.ListLemmas.{list_any-map}
 use Rattle.iscsi_history.proofs.HeldLemmas.{unreceived_unheld}
 use Rattle.iscsi_history.proofs.TraceLemmas.{received-item, unadmitted}
-use Rattle.iscsi_history.proofs.Forms.{Start, AtTurn, AtArrival, AfterWaiting, start_mark, Deeds, if_some, marks_done, Form, Ignored, Rejected, Received, Postponed, Completed, Executed, marks_of_form, begun, Starts, Each, IsDone, IsFormed, HasForm, HaveForms}
+use Rattle.iscsi_history.proofs.Forms.{Start, AtTurn, start_mark, Deeds, if_some, marks_done, Form, Received, Executed, marks_of_form, begun, Starts, Each, IsDone, IsFormed, HasForm, HaveForms}
 use Rattle.iscsi_history.proofs.NumberingLemmas.{to_list, unseen, passed}
 
 -- ---- what an item does to a number
@@ -185,8 +185,7 @@ done_at n a d = record {
 
 pub executed_at : (n : ℕ) (start : Start) (a : Arrival) (d : Deeds) → ItemAt n (start_mark start a ∷ marks_done a d) (void_at n d) (void_at n d) (emptied_at n d) (delivered_at n start a) []
 executed_at n AtTurn a d = record { receives = (done_at n a d).receives; voided = (done_at n a d).voided; emptied = (done_at n a d).emptied; delivered = ap (λ b. (a.number == n) || b) (done_at n a d).delivered; admits = (done_at n a d).admits }
-executed_at n AtArrival a d = record { receives = (done_at n a d).receives; voided = (done_at n a d).voided; emptied = (done_at n a d).emptied; delivered = (done_at n a d).delivered; admits = (done_at n a d).admits }
-executed_at n AfterWaiting a d = record { receives = (done_at n a d).receives; voided = (done_at n a d).voided; emptied = (done_at n a d).emptied; delivered = (done_at n a d).delivered; admits = (done_at n a d).admits }
+executed_at n start a d = record { receives = (done_at n a d).receives; voided = (done_at n a d).voided; emptied = (done_at n a d).emptied; delivered = (done_at n a d).delivered; admits = (done_at n a d).admits }
 
 -- ---- where they may be
 
@@ -220,14 +219,12 @@ held_before t n AtTurn a b h = by_test (a.number == n) refl
     by_test : (v : Bool) → (a.number == n) ≡ v → HeldBefore t n AtTurn a b
     by_test true is = absurd (none_some b (sym (held_by (begun AtTurn a t) n (is_emptied t n) true (admitted (begun AtTurn a t) n) refl (ap (λ x. (x || false) || is_delivered t n) is) refl) ∙ h))
     by_test false is = record { before = sym (held-kept t n (Delivers a ∷ []) refl (ap (λ x. x || false) is) refl) ∙ h; apart = ap (λ x. x || false) is }
-held_before t n AtArrival a b h = record { before = sym (held-kept t n (Executes a ∷ []) refl refl refl) ∙ h; apart = refl }
-held_before t n AfterWaiting a b h = record { before = sym (held-kept t n (Executes a ∷ []) refl refl refl) ∙ h; apart = refl }
+held_before t n start a b h = record { before = sym (held-kept t n (Executes a ∷ []) refl refl refl) ∙ h; apart = refl }
 
 -- a request that is delivered was held
 delivered_held : (now : ℕ) (t : Trace) (n : ℕ) (start : Start) (a : Arrival) → Starts now t start a → delivered_at n start a ≡ true → held t n ≡ Some a
 delivered_held now t n AtTurn a starts h = ap (held t) (sym (eqb-true a.number n (sym (or_false (a.number == n)) ∙ h))) ∙ starts
-delivered_held now t n AtArrival a starts h = absurd (false≢true h)
-delivered_held now t n AfterWaiting a starts h = absurd (false≢true h)
+delivered_held now t n start a starts h = absurd (false≢true h)
 
 -- a request that executes does one thing to a number at the most
 touch_executed : (o : Setting) (now : ℕ) (t : Trace) (n : ℕ) (start : Start) (a : Arrival) (d : Deeds) → Starts now t start a → IsDone o t start a d → Touch t n (start_mark start a ∷ marks_done a d)
@@ -253,16 +250,13 @@ touch_executed o now t n start a d starts x = by_tests (void_at n d) (emptied_at
 
 -- so does an item of any form
 pub touch_form : (o : Setting) (now : ℕ) (t : Trace) (n : ℕ) (form : Form) → IsFormed o now t form → Touch t n (marks_of_form form)
-touch_form o now t n (Ignored why) x = NotTouched (record { receives = refl; voided = refl; emptied = refl; delivered = refl; admits = refl })
-touch_form o now t n (Rejected a) x = NotTouched (record { receives = refl; voided = refl; emptied = refl; delivered = refl; admits = refl })
 touch_form o now t n (Received a) x = by_test (a.number == n) refl
   where
     by_test : (v : Bool) → (a.number == n) ≡ v → Touch t n (Admits a ∷ [])
     by_test true is = AdmitsNow a (ap (is_received t) (sym (eqb-true a.number n is)) ∙ x.1) (record { receives = ap (λ b. b || false) is; voided = refl; emptied = refl; delivered = refl; admits = ap (λ b. cons_option (cond b (Some a) None) []) is })
     by_test false is = NotTouched (record { receives = ap (λ b. b || false) is; voided = refl; emptied = refl; delivered = refl; admits = ap (λ b. cons_option (cond b (Some a) None) []) is })
-touch_form o now t n (Postponed a) x = NotTouched (record { receives = refl; voided = refl; emptied = refl; delivered = refl; admits = refl })
-touch_form o now t n (Completed c status) x = NotTouched (record { receives = refl; voided = refl; emptied = refl; delivered = refl; admits = refl })
 touch_form o now t n (Executed start a d) x = touch_executed o now t n start a d x.0 x.1
+touch_form o now t n form x = NotTouched (record { receives = refl; voided = refl; emptied = refl; delivered = refl; admits = refl })
 
 -- ---- the whole trace
 

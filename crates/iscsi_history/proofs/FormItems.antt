@@ -28,24 +28,21 @@ use Rattle.iscsi_history.proofs.ElementLemmas.{In, in-filter, first-in}
 use Rattle.iscsi_history.proofs.TraceLemmas.{live-quiet}
 use Rattle.iscsi_history.proofs.HeldLemmas.{held-number}
 use Rattle.iscsi_history.proofs.DeedTable.{named_below, Befits, unset, befits_function, befits_deed, refused_otherwise, through_function}
-use Rattle.iscsi_history.proofs.Forms.{Start, AtTurn, AtArrival, AfterWaiting, Deeds, idle, marks_done, begun, Each, is_closing, is_completed_by, Sweeps, IsDone}
+use Rattle.iscsi_history.proofs.Forms.{Start, AtTurn, Deeds, idle, marks_done, begun, Each, is_closing, is_completed_by, Sweeps, IsDone}
 
 -- ---- the mark by which a request executes changes nothing else
 
 pub live-begun : (start : Start) (a : Arrival) (t : Trace) → live (begun start a t) ≡ live t
 live-begun AtTurn a t = live-quiet (Delivers a ∷ []) t refl (λ k. refl)
-live-begun AtArrival a t = live-quiet (Executes a ∷ []) t refl (λ k. refl)
-live-begun AfterWaiting a t = live-quiet (Executes a ∷ []) t refl (λ k. refl)
+live-begun start a t = live-quiet (Executes a ∷ []) t refl (λ k. refl)
 
 entered-begun : (start : Start) (a : Arrival) (t : Trace) → entered (begun start a t) ≡ entered t
 entered-begun AtTurn a t = append-nil (entered t)
-entered-begun AtArrival a t = append-nil (entered t)
-entered-begun AfterWaiting a t = append-nil (entered t)
+entered-begun start a t = append-nil (entered t)
 
 received-begun : (start : Start) (a : Arrival) (t : Trace) → received (begun start a t) ≡ received t
 received-begun AtTurn a t = append-nil (received t)
-received-begun AtArrival a t = append-nil (received t)
-received-begun AfterWaiting a t = append-nil (received t)
+received-begun start a t = append-nil (received t)
 
 -- ---- what is counted of a part
 

@@ -219,14 +219,9 @@ HaveForms-on o p q (item ∷ t) on x = (x.0, ((let z : x.0 < q = omega (arith, x
 
 -- an item that has its turn begins no arrival
 turn_arrives_not : (form : Form) → is_turn form ≡ true → is_arrival form ≡ false
-turn_arrives_not (Ignored why) h = refl
-turn_arrives_not (Rejected a) h = refl
-turn_arrives_not (Received a) h = absurd (false≢true h)
-turn_arrives_not (Postponed a) h = absurd (false≢true h)
-turn_arrives_not (Completed c status) h = refl
 turn_arrives_not (Executed AtTurn a d) h = refl
-turn_arrives_not (Executed AtArrival a d) h = absurd (false≢true h)
 turn_arrives_not (Executed AfterWaiting a d) h = refl
+turn_arrives_not form h = absurd (false≢true h)
 
 -- one item more: the first of its event, or one that has its turn
 HaveForms-more : (o : Setting) (now : ℕ) (t : Trace) (item : List Mark) (f : HasForm o now t item) → HaveForms o (cond (is_arrival f.form) now (now + 1)) t → HaveForms o (now + 1) (item ∷ t)

@@ -3,7 +3,7 @@ use Rattle.std.proofs.Common.{◌≡◌, ℕ, ◌==◌, ◌||◌, ◌⊎◌, inl
 use Rattle.std.specs.List.{list_any, filter_map, cons_option, range_with_len}
 use Rattle.std.proofs.lemmas.Bool.{eqb-true}
 use Rattle.std.proofs.lemmas.List.{append-nil}
-use Rattle.iscsi_history.specs.rules.Trace.{Arrival, Mark, Admits, Delivers, Executes, Voids, Empties, Waits, Leaves, Enters, Sends, ClosesConn, ClosesSession, Ignores, Trace, shown, first_of, is_received, is_delivered, is_emptied, held, admitted, admits_at, delivers_number, received, empties_number, held_among}
+use Rattle.iscsi_history.specs.rules.Trace.{Arrival, Mark, Admits, Delivers, Trace, shown, first_of, is_received, is_delivered, is_emptied, held, admitted, admits_at, delivers_number, received, empties_number, held_among}
 use Rattle.iscsi_history.specs.promises.Executed.{request_at}
 use Rattle.iscsi_history.proofs.TraceLemmas.{unadmitted}
 use Rattle.iscsi_history.proofs.DeliveryLemmas.{IsQuiet}
@@ -29,17 +29,7 @@ mark_number n (Admits b) a h =
       | true ↦ λ is found. let same : b ≡ a = cc in ap (λ (x : Arrival). x.number) (sym same) ∙ eqb-true b.number n is
       | false ↦ λ is found. absurd cc
     ] refl h
-mark_number n (Delivers b) a h = absurd cc
-mark_number n (Executes b) a h = absurd cc
-mark_number n (Voids k) a h = absurd cc
-mark_number n (Empties b) a h = absurd cc
-mark_number n (Waits b) a h = absurd cc
-mark_number n (Leaves c) a h = absurd cc
-mark_number n (Enters c) a h = absurd cc
-mark_number n (Sends conn reply) a h = absurd cc
-mark_number n (ClosesConn conn) a h = absurd cc
-mark_number n ClosesSession a h = absurd cc
-mark_number n (Ignores why) a h = absurd cc
+mark_number n m a h = absurd cc
 
 pub first_of-cons : {A : Type 0} (x : Option A) (xs : List A) (y : A) → first_of (cons_option x xs) ≡ Some y → (x ≡ Some y) ⊎ (first_of xs ≡ Some y)
 first_of-cons None xs y h = inr h

@@ -9,7 +9,7 @@ use Rattle.std.proofs.lemmas.List.Sums.{sum_by-cons}
 use Rattle.iscsi_history.specs.declared.effect.Effect.{Effect}
 use Rattle.iscsi_history.specs.declared.event.Event.{Event}
 use Rattle.iscsi_history.specs.rules.Settings.{Setting}
-use Rattle.iscsi_history.specs.rules.Trace.{Command, Mark, Admits, Delivers, Executes, Voids, Empties, Waits, Leaves, Enters, Sends, ClosesConn, ClosesSession, Ignores, Trace, has, enters, entered, leaves_ticket, live, is_among, was_free, is_free_at}
+use Rattle.iscsi_history.specs.rules.Trace.{Command, Mark, Enters, Trace, has, enters, entered, leaves_ticket, live, is_among, was_free, is_free_at}
 use Rattle.iscsi_history.specs.rules.Run.{effects_of_mark, newly_enabled, effects_of_item, trace_of, run_of}
 use Rattle.iscsi_history.specs.promises.Enabling.{effects_so_far, effects_in}
 use Rattle.iscsi_history.specs.promises.Lives.{ticket_entered, tickets_entered, names_ticket, life_of, is_life, StartsOnce}
@@ -336,18 +336,8 @@ state_life o t k (Gone q) = q.shown
 -- the tickets that effects show as entering are those of the commands that entered
 tickets_of_marks : (o : Setting) (t : Trace) (ms : List Mark) → tickets_entered (flat_map (effects_of_mark o t) ms) ≡ map (λ (c : Command). c.ticket) (filter_map enters ms)
 tickets_of_marks o t [] = refl
-tickets_of_marks o t (Admits a ∷ ms) = tickets_of_marks o t ms
-tickets_of_marks o t (Delivers a ∷ ms) = tickets_of_marks o t ms
-tickets_of_marks o t (Executes a ∷ ms) = tickets_of_marks o t ms
-tickets_of_marks o t (Voids n ∷ ms) = tickets_of_marks o t ms
-tickets_of_marks o t (Empties a ∷ ms) = tickets_of_marks o t ms
-tickets_of_marks o t (Waits a ∷ ms) = tickets_of_marks o t ms
-tickets_of_marks o t (Leaves c ∷ ms) = tickets_of_marks o t ms
 tickets_of_marks o t (Enters c ∷ ms) = ap (λ ns. c.ticket ∷ ns) (tickets_of_marks o t ms)
-tickets_of_marks o t (Sends conn reply ∷ ms) = tickets_of_marks o t ms
-tickets_of_marks o t (ClosesConn conn ∷ ms) = tickets_of_marks o t ms
-tickets_of_marks o t (ClosesSession ∷ ms) = tickets_of_marks o t ms
-tickets_of_marks o t (Ignores why ∷ ms) = tickets_of_marks o t ms
+tickets_of_marks o t (m ∷ ms) = tickets_of_marks o t ms
 
 tickets_of_enables : (cs : List Command) → tickets_entered (map enable_effect cs) ≡ []
 tickets_of_enables [] = refl

@@ -1,5 +1,5 @@
 -- Lists of connections and commands, and lists at large.
-use Rattle.std.proofs.Common.{◌≡◌, ℕ, suc, ◌+◌, ◌<◌, ◌≤◌, ◌==◌, ◌&&◌, ◌||◌, not, cond, Bool, true, false, List, [], ◌∷◌, ◌++◌, length, map, filter, find, count_by, Some, None, refl, ap, sym, ◌∙◌, arith, nat_lt, Option, is_some, option_map, All, zero, ◌-◌, ⊎_elim}
+use Rattle.std.proofs.Common.{◌≡◌, ℕ, suc, ◌+◌, ◌<◌, ◌≤◌, ◌==◌, ◌&&◌, ◌||◌, not, cond, Bool, true, false, List, [], ◌∷◌, ◌++◌, length, map, filter, find, count_by, Some, None, refl, ap, sym, ◌∙◌, arith, nat_lt, Option, is_some, All, zero, ◌-◌, ⊎_elim}
 use Rattle.std.specs.List.{list_any, list_all, flat_map, position, position_or_len, cons_option, range_with_len}
 use Rattle.std.proofs.lemmas.Bool.{false≢true, eqb-true, cases_eq}
 use Rattle.std.proofs.lemmas.Bool.Decides.{nat_tests}
@@ -132,14 +132,6 @@ none_first (Some x) h = absurd cc
 pub is_none : {A : Type 0} (x : Option A) → is_some x ≡ false → x ≡ None
 is_none None h = refl
 is_none (Some a) h = absurd cc
-
-pub some_cons : (x : Option ℕ) (k : ℕ) → option_map suc x ≡ Some k → (j : ℕ) × ((x ≡ Some j) × (k ≡ suc j))
-some_cons None k h = absurd cc
-some_cons (Some j) k h = (j, (refl, cc))
-
-pub none_cons : (x : Option ℕ) → option_map suc x ≡ None → x ≡ None
-none_cons None h = refl
-none_cons (Some j) h = absurd cc
 
 -- ---- maps and filters
 

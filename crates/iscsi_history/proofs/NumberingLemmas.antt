@@ -22,7 +22,7 @@ use Rattle.iscsi_history.specs.promises.Numbering.{stat_sn_shown, stat_sns_on, C
 use Rattle.iscsi_history.proofs.AbortMarks.{none_viewed}
 use Rattle.iscsi_history.proofs.DeliveryLemmas.{range_more}
 use Rattle.iscsi_history.proofs.MomentLemmas.{log_effects}
-use Rattle.iscsi_history.proofs.Forms.{AtTurn, AtArrival, AfterWaiting, Deeds, if_some, marks_done, Form, Ignored, Rejected, Received, Postponed, Completed, Executed, marks_of_form, HasForm, HaveForms}
+use Rattle.iscsi_history.proofs.Forms.{AtTurn, Deeds, if_some, marks_done, Form, Ignored, Rejected, Received, Postponed, Completed, Executed, marks_of_form, HasForm, HaveForms}
 use Rattle.iscsi_history.proofs.FormRuns.{trace_has_forms}
 
 -- ---- what marks show of one connection
@@ -34,18 +34,8 @@ sn_of_mark o t conn _ = None
 
 sns_of_marks : (o : Setting) (t : Trace) (conn : ℕ) (ms : List Mark) → stat_sns_on conn (flat_map (effects_of_mark o t) ms) ≡ filter_map (sn_of_mark o t conn) ms
 sns_of_marks o t conn [] = refl
-sns_of_marks o t conn (Admits a ∷ ms) = sns_of_marks o t conn ms
-sns_of_marks o t conn (Delivers a ∷ ms) = sns_of_marks o t conn ms
-sns_of_marks o t conn (Executes a ∷ ms) = sns_of_marks o t conn ms
-sns_of_marks o t conn (Voids n ∷ ms) = sns_of_marks o t conn ms
-sns_of_marks o t conn (Empties a ∷ ms) = sns_of_marks o t conn ms
-sns_of_marks o t conn (Waits a ∷ ms) = sns_of_marks o t conn ms
-sns_of_marks o t conn (Leaves c ∷ ms) = sns_of_marks o t conn ms
-sns_of_marks o t conn (Enters c ∷ ms) = sns_of_marks o t conn ms
 sns_of_marks o t conn (Sends c reply ∷ ms) = ap (cons_option (cond (c == conn) (Some (stat_sn_of o t c)) None)) (sns_of_marks o t conn ms)
-sns_of_marks o t conn (ClosesConn c ∷ ms) = sns_of_marks o t conn ms
-sns_of_marks o t conn (ClosesSession ∷ ms) = sns_of_marks o t conn ms
-sns_of_marks o t conn (Ignores why ∷ ms) = sns_of_marks o t conn ms
+sns_of_marks o t conn (m ∷ ms) = sns_of_marks o t conn ms
 
 sns_of_enables : (conn : ℕ) (cs : List Command) → stat_sns_on conn (map (λ (c : Command). Enable c.ticket c.unit) cs) ≡ []
 sns_of_enables conn [] = refl
@@ -119,8 +109,7 @@ seen_form view s admits waits ignores (Completed c status) =
     ap (λ x. cons_option x (filter_map view (reply_on c.arrival (Scsi (itt c.arrival.request) status (sense_of_status status))))) (s.leaves c)
     ∙ ap to_list (s.sends (connection_of c.arrival.request) _)
 seen_form view s admits waits ignores (Executed AtTurn a d) = ap (λ x. cons_option x (filter_map view (marks_done a d))) (s.delivers a) ∙ seen_done view s a d
-seen_form view s admits waits ignores (Executed AtArrival a d) = ap (λ x. cons_option x (filter_map view (marks_done a d))) (s.executes a) ∙ seen_done view s a d
-seen_form view s admits waits ignores (Executed AfterWaiting a d) = ap (λ x. cons_option x (filter_map view (marks_done a d))) (s.executes a) ∙ seen_done view s a d
+seen_form view s admits waits ignores (Executed start a d) = ap (λ x. cons_option x (filter_map view (marks_done a d))) (s.executes a) ∙ seen_done view s a d
 
 sent_form : (form : Form) → filter_map sent_on (marks_of_form form) ≡ to_list (sender form)
 sent_form form = seen_form sent_on (record {

@@ -15,7 +15,7 @@ use Rattle.iscsi_history.specs.promises.Closes.{is_ignored}
 use Rattle.iscsi_history.specs.promises.Order.{is_request, is_reply, rank, never_falls, IsInOrder}
 use Rattle.iscsi_history.proofs.BoolLemmas.{and_parts, and_both}
 use Rattle.iscsi_history.proofs.NewlyLemmas.{newly-untouched}
-use Rattle.iscsi_history.proofs.Forms.{AtTurn, AtArrival, AfterWaiting, Deeds, if_some, marks_done, Form, Ignored, Rejected, Received, Postponed, Completed, Executed, marks_of_form, HasForm}
+use Rattle.iscsi_history.proofs.Forms.{AtTurn, Deeds, if_some, marks_done, Form, Ignored, Rejected, Received, Postponed, Completed, Executed, marks_of_form, HasForm}
 
 -- ---- effects of rising ranks
 
@@ -150,8 +150,7 @@ form_in_order o t (Postponed a) = in_order 0 _ (rises_request (Wait a.request) _
 form_in_order o t (Completed c status) =
     in_order 2 _ (rises-again 2 (Leave c.ticket c.unit) _ refl refl refl refl (rises-on 2 5 _ (omega arith) (rises_reply _ _ _ _ (rises-on 6 8 _ (omega arith) (rises_enables (newly_enabled o t (marks_of_form (Completed c status))))))))
 form_in_order o t (Executed AtTurn a d) = in_order 0 _ (rises_request (Deliver a.request) _ refl refl refl (rises_done o t a d _ (rises_enables (newly_enabled o t (marks_of_form (Executed AtTurn a d))))))
-form_in_order o t (Executed AtArrival a d) = in_order 0 _ (rises_request (Immediate a.request) _ refl refl refl (rises_done o t a d _ (rises_enables (newly_enabled o t (marks_of_form (Executed AtArrival a d))))))
-form_in_order o t (Executed AfterWaiting a d) = in_order 0 _ (rises_request (Immediate a.request) _ refl refl refl (rises_done o t a d _ (rises_enables (newly_enabled o t (marks_of_form (Executed AfterWaiting a d))))))
+form_in_order o t (Executed start a d) = in_order 0 _ (rises_request (Immediate a.request) _ refl refl refl (rises_done o t a d _ (rises_enables (newly_enabled o t (marks_of_form (Executed start a d))))))
 
 -- the effects of each item stand in order
 pub item_in_order : (o : Setting) (now : ℕ) (t : Trace) (item : List Mark) → HasForm o now t item → IsInOrder (effects_of_item o t item)

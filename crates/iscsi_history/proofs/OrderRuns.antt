@@ -5,7 +5,7 @@ use Rattle.std.proofs.lemmas.Bool.{false≢true}
 use Rattle.std.proofs.lemmas.Bool.Decides.{nat_tests}
 use Rattle.std.proofs.lemmas.List.Sums.{sum_by-cons}
 use Rattle.iscsi_history.specs.declared.effect.Effect.{Effect}
-use Rattle.iscsi_history.specs.declared.effect.Effect.TheVariants.{Deliver, Immediate, Wait, Void, Empty, Enter, Enable, Leave, Send, CloseConn, CloseSession, Ignore}
+use Rattle.iscsi_history.specs.declared.effect.Effect.TheVariants.{Deliver, Immediate, Wait}
 use Rattle.iscsi_history.specs.declared.entry.Entry.{Entry}
 use Rattle.iscsi_history.specs.declared.event.Event.{Event}
 use Rattle.iscsi_history.specs.rules.Settings.{Setting}
@@ -14,7 +14,7 @@ use Rattle.iscsi_history.specs.rules.Agenda.{items_of}
 use Rattle.iscsi_history.specs.rules.Run.{after_event, effects_of_item, effects_of, entries_from, run_of}
 use Rattle.iscsi_history.specs.promises.Order.{is_request, rank, never_falls, onto_first, in_parts, IsInOrder, AreInOrder, KeepsOrder}
 use Rattle.iscsi_history.proofs.BoolLemmas.{and_parts, and_both}
-use Rattle.iscsi_history.proofs.Forms.{AtTurn, AtArrival, AfterWaiting, Form, Ignored, Rejected, Received, Postponed, Completed, Executed, marks_of_form, HasForm, is_turn}
+use Rattle.iscsi_history.proofs.Forms.{AtTurn, AfterWaiting, Form, Executed, marks_of_form, HasForm, is_turn}
 use Rattle.iscsi_history.proofs.FormRuns.{AnyArrival, Turns, TurnsOf, any_brought, event_stands}
 use Rattle.iscsi_history.proofs.OrderLemmas.{item_in_order}
 
@@ -43,29 +43,13 @@ asked_rank : (e : Effect) → nat_le 1 (rank e) ≡ true → is_request e ≡ fa
 asked_rank (Deliver r) h = absurd (false≢true h)
 asked_rank (Immediate r) h = absurd (false≢true h)
 asked_rank (Wait r) h = absurd (false≢true h)
-asked_rank (Void sn) h = refl
-asked_rank (Empty sn) h = refl
-asked_rank (Enter ticket unit attr) h = refl
-asked_rank (Enable ticket unit) h = refl
-asked_rank (Leave ticket unit) h = refl
-asked_rank (Send conn sn reply) h = refl
-asked_rank (CloseConn conn) h = refl
-asked_rank CloseSession h = refl
-asked_rank (Ignore why) h = refl
+asked_rank e h = refl
 
 unasked_rank : (e : Effect) → is_request e ≡ false → nat_le 1 (rank e) ≡ true
 unasked_rank (Deliver r) h = absurd (false≢true (sym h))
 unasked_rank (Immediate r) h = absurd (false≢true (sym h))
 unasked_rank (Wait r) h = absurd (false≢true (sym h))
-unasked_rank (Void sn) h = refl
-unasked_rank (Empty sn) h = refl
-unasked_rank (Enter ticket unit attr) h = refl
-unasked_rank (Enable ticket unit) h = refl
-unasked_rank (Leave ticket unit) h = refl
-unasked_rank (Send conn sn reply) h = refl
-unasked_rank (CloseConn conn) h = refl
-unasked_rank CloseSession h = refl
-unasked_rank (Ignore why) h = refl
+unasked_rank e h = refl
 
 none_asked : (n : ℕ) (es : List Effect) → 1 ≤ n → list_all (λ e. nat_le n (rank e)) es ≡ true → Unasked es
 none_asked n [] low h = refl
@@ -122,14 +106,9 @@ parts_in_order (e ∷ es) ys x f rest =
 -- ---- the items of an event: all but the first begin with a request
 
 fresh_form : (o : Setting) (t : Trace) (form : Form) (items : List (List Mark)) → is_turn form ≡ true → IsFresh (effects_of o t (marks_of_form form ∷ items))
-fresh_form o t (Ignored why) items h = absurd (false≢true h)
-fresh_form o t (Rejected a) items h = absurd (false≢true h)
-fresh_form o t (Received a) items h = absurd (false≢true h)
-fresh_form o t (Postponed a) items h = absurd (false≢true h)
-fresh_form o t (Completed c status) items h = absurd (false≢true h)
 fresh_form o t (Executed AtTurn a d) items h = record { parts = _; first = refl }
-fresh_form o t (Executed AtArrival a d) items h = absurd (false≢true h)
 fresh_form o t (Executed AfterWaiting a d) items h = record { parts = _; first = refl }
+fresh_form o t form items h = absurd (false≢true h)
 
 module _ (o : Setting) (now : ℕ) where
   fresh_turns : (p e : ℕ) (t : Trace) (items : List (List Mark)) → Turns AnyArrival o now p e t items → IsFresh (effects_of o t items)

@@ -1,10 +1,9 @@
 -- Places of a list: what is read and written there, and the first one that passes a test.
-use Rattle.std.proofs.Common.{Bool, List, [], refl, set, suc, true, zero, ℕ, ◌∷◌, ◌≡◌, ◌&&◌, ◌++◌, None, Option, Some, ap, drop, get_or, sym, ◌∙◌, ◌<◌, arith, length, ◌≤◌, take, replicate, ◌+◌, cond, false, nat_lt, not, option_map, position, ⊎_elim, subst, find}
+use Rattle.std.proofs.Common.{Bool, List, [], refl, set, suc, true, zero, ℕ, ◌∷◌, ◌≡◌, ◌&&◌, ◌++◌, None, Option, Some, ap, drop, get_or, sym, ◌∙◌, ◌<◌, arith, length, ◌≤◌, take, replicate, ◌+◌, cond, false, nat_lt, not, option_map, position, ⊎_elim, find}
 use Rattle.std.specs.List.{list_all, position_or_len}
 use Rattle.std.proofs.lemmas.List.Folds.{list_all-append}
 use Rattle.std.proofs.lemmas.List.{append-nil}
 use Rattle.std.proofs.lemmas.Bool.{cases_lt, le-ltb, lt-ltb}
-use Rattle.std.proofs.lemmas.Bool.Decides.{nat_tests}
 use Rattle.iscsi_history.proofs.BoolLemmas.{and_both, and_parts}
 
 -- ---- what is written, and what moves up
@@ -58,11 +57,6 @@ taken_at (suc n) [] k d lt = refl
 taken_at (suc n) (x ∷ xs) zero d lt = refl
 taken_at (suc n) (x ∷ xs) (suc k) d lt = taken_at n xs k d (omega (arith, lt))
 
-pub taken_fewer : {A : Type 0} (n : ℕ) (xs : List A) → length (take n xs) ≤ length xs
-taken_fewer zero xs = omega arith
-taken_fewer (suc n) [] = omega arith
-taken_fewer (suc n) (x ∷ xs) = omega (arith, taken_fewer n xs)
-
 drop_length : {A : Type 0} (xs : List A) → drop (length xs) xs ≡ []
 drop_length [] = refl
 drop_length (x ∷ xs) = drop_length xs
@@ -100,13 +94,6 @@ position-cons p x xs =
           (λ ge. ap (λ b. cond b (Some (1 + k)) None) (le-ltb (1 + k) (suc (length xs)) (omega arith)) ∙ sym (ap (λ b. option_map suc (cond b (Some k) None)) (le-ltb k (length xs) ge)))
           (cases_lt k (length xs))
     ]
-
-pub position-within : {A : Type 0} (p : A → Bool) (xs : List A) (k : ℕ) → position p xs ≡ Some k → k < length xs
-position-within p xs k h =
-    elim (nat_lt (position_or_len p xs) (length xs)) as (λ b. nat_lt (position_or_len p xs) (length xs) ≡ b → cond b (Some (position_or_len p xs)) None ≡ Some k → k < length xs) [
-      | true ↦ λ is found. let same : position_or_len p xs ≡ k = cc in let lt : position_or_len p xs < length xs = grind (arith, nat_tests) in subst (λ n. n < length xs) same lt
-      | false ↦ λ is found. absurd cc
-    ] refl h
 
 pub found_there : {A : Type 0} (p : A → Bool) (xs : List A) (k : ℕ) (d : A) → position p xs ≡ Some k → find p xs ≡ Some (get_or xs k d)
 found_there p [] k d h = absurd cc

@@ -15,7 +15,7 @@ use Rattle.iscsi_history.specs.declared.kind.Kind.TheVariants.{PassedOver, Unkno
 use Rattle.iscsi_history.specs.rules.Agenda.{arrival_as, arrival_open, kind_of, arrival_of, numbered, with_turns}
 use Rattle.iscsi_history.specs.declared.effect.Why.{Why}
 use Rattle.iscsi_history.proofs.BoolLemmas.{and_false, and_parts}
-use Rattle.iscsi_history.proofs.Forms.{Start, AtTurn, AtArrival, AfterWaiting, start_mark, Deeds, if_some, marks_done, Form, Ignored, Rejected, Received, Postponed, Completed, Executed, marks_of_form, Each}
+use Rattle.iscsi_history.proofs.Forms.{Start, AtTurn, AtArrival, AfterWaiting, start_mark, Deeds, if_some, marks_done, Form, Received, Executed, marks_of_form, Each}
 use Rattle.iscsi_history.proofs.FormItems.{Does, does_function, does_after}
 use Rattle.iscsi_history.proofs.FormRuns.{AnyArrival, immediate_stands}
 use Rattle.iscsi_history.proofs.FateLemmas.{voids_viewed}
@@ -38,8 +38,7 @@ executed_receives start a d = by_start start
 
     by_start : (s : Start) → received_by (start_mark s a ∷ marks_done a d) ≡ received_by (if_some Voids d.void)
     by_start AtTurn = done
-    by_start AtArrival = done
-    by_start AfterWaiting = done
+    by_start s = done
 
 -- none, where it is no immediate ABORT TASK
 receives_none : (o : Setting) (t : Trace) (start : Start) (a : Arrival) (ms : List Mark) → Does o t start a ms → (is_immediate a.request && (function a.request == 1)) ≡ false → received_by (start_mark start a ∷ ms) ≡ []
@@ -50,12 +49,9 @@ receives_none o t start a ms d other = ap (λ xs. received_by (start_mark start 
     by_void (Some n) missing = absurd (false≢true (sym other ∙ ap (λ b. b && (function a.request == 1)) missing.0 ∙ missing.1))
 
 one_received : (form : Form) → AtMostOne (received_by (marks_of_form form))
-one_received (Ignored why) = inl refl
-one_received (Rejected a) = inl refl
 one_received (Received a) = inr (a.number, refl)
-one_received (Postponed a) = inl refl
-one_received (Completed c status) = inl refl
 one_received (Executed start a d) = subst AtMostOne (sym (executed_receives start a d)) (elim d.void as (λ x. AtMostOne (received_by (if_some Voids x))) [ Some n ↦ inr (n, refl) | None ↦ inl refl ])
+one_received form = inl refl
 
 -- a function that waits is no ABORT TASK
 pub no_abort_task : (r : Request) → may_wait r ≡ true → (function r == 1) ≡ false

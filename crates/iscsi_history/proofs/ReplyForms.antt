@@ -15,7 +15,7 @@ use Rattle.iscsi_history.proofs.CountLemmas.{one, count-cons, count-filter, coun
 use Rattle.iscsi_history.proofs.ElementLemmas.{In, in-any}
 use Rattle.iscsi_history.proofs.TraceLemmas.{live-item}
 use Rattle.iscsi_history.proofs.AbortMarks.{none_viewed}
-use Rattle.iscsi_history.proofs.Forms.{AtTurn, AtArrival, AfterWaiting, Deeds, if_some, marks_done, Form, Ignored, Rejected, Received, Postponed, Completed, Executed, marks_of_form, IsFormed}
+use Rattle.iscsi_history.proofs.Forms.{AtTurn, Deeds, if_some, marks_done, Form, Completed, Executed, marks_of_form, IsFormed}
 use Rattle.iscsi_history.proofs.NumberingLemmas.{to_list, unseen, passed}
 use Rattle.iscsi_history.proofs.TouchLemmas.{leaving_in, entering_in, enters_form, leaves_form, leaving_few}
 
@@ -68,14 +68,10 @@ replies_form v form t =
     by_test false xs ys same = refl
 
     by_form : (f : Form) → length (cond (is_answer_to v (marks_of_form f)) (filter_map reply_sent (marks_of_form f)) []) ≡ answers_of v f
-    by_form (Ignored why) = refl
-    by_form (Rejected a) = refl
-    by_form (Received a) = refl
-    by_form (Postponed a) = refl
     by_form (Completed c status) = elim (comes_of v c) as (λ b. length (cond b (filter_map reply_sent (marks_of_form (Completed c status))) []) ≡ one b) [ true ↦ refl | false ↦ refl ]
     by_form (Executed AtTurn a d) = by_test (is_of v a) (filter_map reply_sent (marks_done a d)) (to_list d.reply) (replied_done a d)
-    by_form (Executed AtArrival a d) = by_test (is_of v a) (filter_map reply_sent (marks_done a d)) (to_list d.reply) (replied_done a d)
-    by_form (Executed AfterWaiting a d) = by_test (is_of v a) (filter_map reply_sent (marks_done a d)) (to_list d.reply) (replied_done a d)
+    by_form (Executed start a d) = by_test (is_of v a) (filter_map reply_sent (marks_done a d)) (to_list d.reply) (replied_done a d)
+    by_form form = refl
 
 -- ---- commands
 

@@ -6,7 +6,7 @@ use Rattle.iscsi_history.specs.rules.Settings.{Setting}
 use Rattle.iscsi_history.specs.rules.Trace.{Arrival, Command, Mark, Trace, entered, live}
 use Rattle.iscsi_history.specs.promises.Replies.{replies_to}
 use Rattle.iscsi_history.proofs.CountLemmas.{one, count-cons}
-use Rattle.iscsi_history.proofs.Forms.{Start, Deeds, Form, Ignored, Rejected, Received, Postponed, Completed, Executed, marks_of_form, IsDone, Each, EntersAs, IsFormed, HasForm, is_arrival, HaveForms}
+use Rattle.iscsi_history.proofs.Forms.{Start, Deeds, Form, Completed, Executed, marks_of_form, IsDone, Each, EntersAs, IsFormed, HasForm, is_arrival, HaveForms}
 use Rattle.iscsi_history.proofs.NumberingLemmas.{to_list}
 use Rattle.iscsi_history.proofs.TouchLemmas.{leaving_in, entering_in}
 use Rattle.iscsi_history.proofs.ReplyForms.{is_of, comes_of, answers_of, replies_form, entered_form, live_form}
@@ -35,22 +35,15 @@ done_once o t v start a d x = by_entering d.entering d.reply refl x.enters
 
 -- what enters executes
 entering_once : (o : Setting) (now v : ℕ) (t : Trace) (form : Form) → IsFormed o now t form → count_by (comes_of v) (to_list (entering_in form)) ≤ executes_of v form
-entering_once o now v t (Ignored why) x = omega arith
-entering_once o now v t (Rejected a) x = omega arith
-entering_once o now v t (Received a) x = omega arith
-entering_once o now v t (Postponed a) x = omega arith
-entering_once o now v t (Completed c status) x = omega arith
 entering_once o now v t (Executed start a d) x = omega (arith, done_once o t v start a d x.1)
+entering_once o now v t form x = omega arith
 
 -- what is answered executes, or leaves as it completes
 answered_once : (o : Setting) (now v : ℕ) (t : Trace) (form : Form) → IsFormed o now t form
     → answers_of v form + count_by (comes_of v) (to_list (entering_in form)) + count_by (comes_of v) (aborted_in form) ≤ executes_of v form + count_by (comes_of v) (leaving_in form)
-answered_once o now v t (Ignored why) x = omega arith
-answered_once o now v t (Rejected a) x = omega arith
-answered_once o now v t (Received a) x = omega arith
-answered_once o now v t (Postponed a) x = omega arith
 answered_once o now v t (Completed c status) x = omega (arith, count-cons (comes_of v) c [])
 answered_once o now v t (Executed start a d) x = omega (arith, done_once o t v start a d x.1)
+answered_once o now v t form x = omega arith
 
 -- ---- the requests of an event
 

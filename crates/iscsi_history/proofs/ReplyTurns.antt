@@ -7,13 +7,13 @@ use Rattle.std.proofs.lemmas.List.Elements.{filter-append}
 use Rattle.std.proofs.lemmas.List.Sums.{sum_by-append}
 use Rattle.iscsi_wire.specs.Fields.{connection_of}
 use Rattle.iscsi_history.specs.rules.Settings.{Setting}
-use Rattle.iscsi_history.specs.rules.Trace.{Arrival, Mark, Admits, Delivers, Executes, Voids, Empties, Waits, Leaves, Enters, Sends, ClosesConn, ClosesSession, Ignores, Trace, shown, admits_at, admitted, delivers_number, is_delivered, is_emptied, held, waiting_by, waiting_through, waiting}
+use Rattle.iscsi_history.specs.rules.Trace.{Arrival, Mark, Admits, Delivers, Executes, Voids, Empties, Waits, Leaves, Enters, Sends, ClosesConn, ClosesSession, Trace, shown, admits_at, admitted, delivers_number, is_delivered, is_emptied, held, waiting_by, waiting_through, waiting}
 use Rattle.iscsi_history.proofs.BoolLemmas.{and_parts, and_both}
 use Rattle.iscsi_history.proofs.ListLemmas.{fewer_counted, count_by-push}
 use Rattle.iscsi_history.proofs.CountLemmas.{one, count-cons, count-filter, count-weaker, count-lost, count-split}
 use Rattle.iscsi_history.proofs.ElementLemmas.{In, in-append, append-in_first, append-in_second, first-in}
 use Rattle.iscsi_history.proofs.HeldLemmas.{admitted_of_held}
-use Rattle.iscsi_history.proofs.Forms.{AtTurn, AtArrival, AfterWaiting, Deeds, if_some, marks_done, Form, Ignored, Rejected, Received, Postponed, Completed, Executed, marks_of_form, IsFormed, is_arrival}
+use Rattle.iscsi_history.proofs.Forms.{AtTurn, AtArrival, AfterWaiting, Deeds, if_some, marks_done, Form, Received, Postponed, Executed, marks_of_form, IsFormed, is_arrival}
 use Rattle.iscsi_history.proofs.NumberingLemmas.{unseen}
 use Rattle.iscsi_history.proofs.ReplyForms.{is_of, replies_seen}
 
@@ -38,17 +38,7 @@ admitted_here n (Admits b ∷ ms) a h =
       | true ↦ λ k. ⊎_elim (λ same. inl same) (λ later. inr (admitted_here n ms a later)) k
       | false ↦ λ k. inr (admitted_here n ms a k)
     ] h
-admitted_here n (Delivers b ∷ ms) a h = admitted_here n ms a h
-admitted_here n (Executes b ∷ ms) a h = admitted_here n ms a h
-admitted_here n (Voids k ∷ ms) a h = admitted_here n ms a h
-admitted_here n (Empties b ∷ ms) a h = admitted_here n ms a h
-admitted_here n (Waits b ∷ ms) a h = admitted_here n ms a h
-admitted_here n (Leaves c ∷ ms) a h = admitted_here n ms a h
-admitted_here n (Enters c ∷ ms) a h = admitted_here n ms a h
-admitted_here n (Sends conn reply ∷ ms) a h = admitted_here n ms a h
-admitted_here n (ClosesConn conn ∷ ms) a h = admitted_here n ms a h
-admitted_here n (ClosesSession ∷ ms) a h = admitted_here n ms a h
-admitted_here n (Ignores why ∷ ms) a h = admitted_here n ms a h
+admitted_here n (m ∷ ms) a h = admitted_here n ms a h
 
 -- the request that was admitted at a number is one that was admitted
 pub admitted_there : (n : ℕ) (t : Trace) (a : Arrival) → In a (shown (admits_at n) t) → In a (shown admits_request t)
@@ -129,9 +119,6 @@ through-append (m ∷ xs) ys ws = through-append xs ys (waiting_by m ws)
 shrinks-append : (xs ys : List Mark) → Shrinks xs → Shrinks ys → Shrinks (xs ++ ys)
 shrinks-append xs ys h k p ws = omega (arith, ap (count_by p) (through-append xs ys ws), h p ws, k p (waiting_through xs ws))
 
-shrinks-none : Shrinks []
-shrinks-none p ws = omega arith
-
 shrinks-map : {A : Type 0} (f : A → Mark) → ((x : A) → (p : Arrival → Bool) (ws : List Arrival) → count_by p (waiting_by (f x) ws) ≤ count_by p ws) → (xs : List A) → Shrinks (map f xs)
 shrinks-map f h [] p ws = omega arith
 shrinks-map f h (x ∷ xs) p ws = omega (arith, shrinks-map f h xs p (waiting_by (f x) ws), h x p ws)
@@ -195,13 +182,10 @@ admits_done a d = replies_seen admits_request (λ n. refl) (λ c. refl) (λ b. r
 
 -- one that executes was awaited, or its event begins
 pub awaited_form : (o : Setting) (now v : ℕ) (t : Trace) (form : Form) → IsFormed o now t form → awaited v (marks_of_form form ∷ t) + executes_of v form ≤ awaited v t + begins_of now v form
-awaited_form o now v t (Ignored why) x = omega (arith, owed_item (is_of v) (Ignores why ∷ []) t)
-awaited_form o now v t (Rejected a) x = omega (arith, owed_item (is_of v) (marks_of_form (Rejected a)) t)
 awaited_form o now v t (Received a) x =
     omega (arith, owed_item (is_of v) (Admits a ∷ []) t, count-cons (is_of v) a [], ap {B = ℕ} (λ n. one (n == v)) x.0)
 awaited_form o now v t (Postponed a) x =
     omega (arith, owed_item (is_of v) (Waits a ∷ []) t, count_by-push (is_of v) (waiting t) a, ap {B = ℕ} (λ n. one (n == v)) x)
-awaited_form o now v t (Completed c status) x = omega (arith, owed_item (is_of v) (marks_of_form (Completed c status)) t)
 awaited_form o now v t (Executed AtTurn a d) x = omega (arith, owed_turn (is_of v) a (marks_done a d) t (admits_done a d) x.0, shrinks_done a d (is_of v) (waiting t))
 awaited_form o now v t (Executed AtArrival a d) x =
     let ws : List Arrival = filter (λ b. not (b.event == a.event)) (waiting t) in
@@ -209,3 +193,4 @@ awaited_form o now v t (Executed AtArrival a d) x =
 awaited_form o now v t (Executed AfterWaiting a d) x =
     let ws : List Arrival = filter (λ b. not (b.event == a.event)) (waiting t) in
     omega (arith, owed_item (is_of v) (Executes a ∷ marks_done a d) t, ap (count_by (is_of v)) (admits_done a d), shrinks_done a d (is_of v) ws, waited v a (waiting t) x.0)
+awaited_form o now v t form x = omega (arith, owed_item (is_of v) (marks_of_form form) t)

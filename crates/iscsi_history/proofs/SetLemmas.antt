@@ -1,5 +1,5 @@
 -- A unit's set of commands: its tickets, and what has been shown of it.
-use Rattle.std.proofs.Common.{List, map, ℕ, [], ap, cond, false, refl, true, ◌∷◌, ◌≡◌, ◌==◌, None, Some, filter, find, not, Option, sym, ◌∙◌, ◌<◌, arith, get_or, replicate, suc, zero, ◌+◌, Bool, count_by, ◌≤◌, ◌++◌, ◌||◌, ◌&&◌, nat_lt, length, eq-eqb}
+use Rattle.std.proofs.Common.{List, map, ℕ, [], ap, cond, false, refl, true, ◌∷◌, ◌≡◌, ◌==◌, None, Some, filter, find, not, Option, sym, ◌∙◌, ◌<◌, arith, get_or, replicate, suc, zero, ◌+◌, Bool, count_by, ◌≤◌, ◌||◌, ◌&&◌, nat_lt, length, eq-eqb}
 use Rattle.std.specs.List.{list_any, list_all}
 use Rattle.std.proofs.lemmas.Bool.{eqb-true}
 use Rattle.std.proofs.lemmas.List.Sums.{sum_by-cons}
@@ -70,10 +70,6 @@ none_filtered q [] h = refl
 none_filtered q (x ∷ ms) h =
     let parts = or_none (q x) (list_any q ms) h in
     ap (λ b. cond b (x ∷ filter q ms) (filter q ms)) parts.0 ∙ none_filtered q ms parts.1
-
-pub any_push : (p : Member → Bool) (ms : List Member) (x : Member) → list_any p (ms ++ x ∷ []) ≡ (list_any p ms || p x)
-any_push p [] x = or_false (p x)
-any_push p (y ∷ ms) x = elim (p y) as (λ b. (b || list_any p (ms ++ x ∷ [])) ≡ ((b || list_any p ms) || p x)) [ true ↦ refl | false ↦ any_push p ms x ]
 
 -- ---- tickets go up along a set
 

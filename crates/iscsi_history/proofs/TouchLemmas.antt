@@ -10,7 +10,7 @@ use Rattle.iscsi_wire.specs.Fields.{connection_of}
 use Rattle.iscsi_history.specs.declared.effect.Effect.{Effect}
 use Rattle.iscsi_history.specs.declared.effect.Effect.TheVariants.{Enter, Enable, Leave}
 use Rattle.iscsi_history.specs.rules.Settings.{Setting}
-use Rattle.iscsi_history.specs.rules.Trace.{Arrival, Command, Mark, Admits, Delivers, Executes, Voids, Empties, Waits, Leaves, Enters, Sends, ClosesConn, ClosesSession, Ignores, Trace, enters, entered, leaves_ticket, live, is_among}
+use Rattle.iscsi_history.specs.rules.Trace.{Arrival, Command, Mark, Voids, Empties, Leaves, Enters, Sends, ClosesConn, ClosesSession, Trace, enters, entered, leaves_ticket, live, is_among}
 use Rattle.iscsi_history.specs.rules.Run.{effects_of_mark, newly_enabled, effects_of_item}
 use Rattle.iscsi_history.specs.promises.Lives.{names_ticket, life_of}
 use Rattle.iscsi_history.proofs.AbortMarks.{none_viewed, none_mapped}
@@ -18,7 +18,7 @@ use Rattle.iscsi_history.proofs.BoolLemmas.{or_false}
 use Rattle.iscsi_history.proofs.CommandItems.{leaves_only}
 use Rattle.iscsi_history.proofs.CountLemmas.{among_counted, counted_among}
 use Rattle.iscsi_history.proofs.ElementLemmas.{In}
-use Rattle.iscsi_history.proofs.Forms.{Start, AtTurn, AtArrival, AfterWaiting, start_mark, Deeds, if_some, marks_done, Form, Ignored, Rejected, Received, Postponed, Completed, Executed, marks_of_form, Each, EntersAs, IsFormed}
+use Rattle.iscsi_history.proofs.Forms.{Start, AtTurn, start_mark, Deeds, if_some, marks_done, Form, Completed, Executed, marks_of_form, Each, EntersAs, IsFormed}
 use Rattle.iscsi_history.proofs.NumberingLemmas.{to_list, unseen, passed}
 
 -- the commands with this ticket
@@ -67,11 +67,6 @@ module _ {B : Type 0} (view : Mark → Option B) (voids : (n : ℕ) → view (Vo
 
 -- what enters
 pub enters_form : (form : Form) → filter_map enters (marks_of_form form) ≡ to_list (entering_in form)
-enters_form (Ignored why) = refl
-enters_form (Rejected a) = refl
-enters_form (Received a) = refl
-enters_form (Postponed a) = refl
-enters_form (Completed c status) = refl
 enters_form (Executed start a d) = by_start start
   where
     entering : (x : Option Command) → filter_map enters (if_some Enters x) ≡ to_list x
@@ -86,16 +81,11 @@ enters_form (Executed start a d) = by_start start
 
     by_start : (s : Start) → filter_map enters (start_mark s a ∷ marks_done a d) ≡ to_list d.entering
     by_start AtTurn = done
-    by_start AtArrival = done
-    by_start AfterWaiting = done
+    by_start s = done
+enters_form form = refl
 
 -- which tickets leave
 pub leaves_form : (k : ℕ) (form : Form) → list_any (leaves_ticket k) (marks_of_form form) ≡ is_among k (leaving_in form)
-leaves_form k (Ignored why) = refl
-leaves_form k (Rejected a) = refl
-leaves_form k (Received a) = refl
-leaves_form k (Postponed a) = refl
-leaves_form k (Completed c status) = refl
 leaves_form k (Executed start a d) = by_start start
   where
     none_some : {A : Type 0} (f : A → Mark) (x : Option A) (ms : List Mark) → ((y : A) → leaves_ticket k (f y) ≡ false) → list_any (leaves_ticket k) (if_some f x ++ ms) ≡ list_any (leaves_ticket k) ms
@@ -121,8 +111,8 @@ leaves_form k (Executed start a d) = by_start start
 
     by_start : (s : Start) → list_any (leaves_ticket k) (start_mark s a ∷ marks_done a d) ≡ is_among k d.leaving
     by_start AtTurn = done
-    by_start AtArrival = done
-    by_start AfterWaiting = done
+    by_start s = done
+leaves_form k form = refl
 
 -- ---- the effects that name a ticket
 
@@ -138,18 +128,9 @@ kept_effect false e xs ys same = same
 
 life_of_marks : (o : Setting) (t : Trace) (k : ℕ) (ms : List Mark) → life_of k (flat_map (effects_of_mark o t) ms) ≡ filter_map (life_of_mark k) ms
 life_of_marks o t k [] = refl
-life_of_marks o t k (Admits a ∷ ms) = life_of_marks o t k ms
-life_of_marks o t k (Delivers a ∷ ms) = life_of_marks o t k ms
-life_of_marks o t k (Executes a ∷ ms) = life_of_marks o t k ms
-life_of_marks o t k (Voids n ∷ ms) = life_of_marks o t k ms
-life_of_marks o t k (Empties a ∷ ms) = life_of_marks o t k ms
-life_of_marks o t k (Waits a ∷ ms) = life_of_marks o t k ms
 life_of_marks o t k (Leaves c ∷ ms) = kept_effect (c.ticket == k) (leave_effect c) _ _ (life_of_marks o t k ms)
 life_of_marks o t k (Enters c ∷ ms) = kept_effect (c.ticket == k) (enter_effect c) _ _ (life_of_marks o t k ms)
-life_of_marks o t k (Sends conn reply ∷ ms) = life_of_marks o t k ms
-life_of_marks o t k (ClosesConn conn ∷ ms) = life_of_marks o t k ms
-life_of_marks o t k (ClosesSession ∷ ms) = life_of_marks o t k ms
-life_of_marks o t k (Ignores why ∷ ms) = life_of_marks o t k ms
+life_of_marks o t k (m ∷ ms) = life_of_marks o t k ms
 
 life_of_commands : (k : ℕ) (f : Command → Mark) (g : Command → Effect) → ((c : Command) → life_of_mark k (f c) ≡ cond (c.ticket == k) (Some (g c)) None) → (cs : List Command) → filter_map (life_of_mark k) (map f cs) ≡ map g (mine k cs)
 life_of_commands k f g is [] = refl
@@ -178,14 +159,10 @@ life_form o t k form = life_of_marks o t k (marks_of_form form) ∙ by_form form
         ∙ ap (λ xs. map leave_effect (mine k d.leaving) ++ xs) (entering d.entering)
 
     by_form : (f : Form) → filter_map (life_of_mark k) (marks_of_form f) ≡ map leave_effect (mine k (leaving_in f)) ++ map enter_effect (mine k (to_list (entering_in f)))
-    by_form (Ignored why) = refl
-    by_form (Rejected a) = refl
-    by_form (Received a) = refl
-    by_form (Postponed a) = refl
     by_form (Completed c status) = life_of_commands k Leaves leave_effect (λ d. refl) (c ∷ []) ∙ sym (append-nil (map leave_effect (mine k (c ∷ []))))
     by_form (Executed AtTurn a d) = done a d
-    by_form (Executed AtArrival a d) = done a d
-    by_form (Executed AfterWaiting a d) = done a d
+    by_form (Executed start a d) = done a d
+    by_form form = refl
 
 -- and what it enables
 life_of_enables : (k : ℕ) (cs : List Command) → life_of k (map enable_effect cs) ≡ map enable_effect (mine k cs)
@@ -207,10 +184,6 @@ life_item o t k form =
 
 -- those that leave are live, each once
 pub leaving_few : (o : Setting) (now : ℕ) (t : Trace) (form : Form) → IsFormed o now t form → (p : Command → Bool) → count_by p (leaving_in form) ≤ count_by p (live t)
-leaving_few o now t (Ignored why) x p = omega arith
-leaving_few o now t (Rejected a) x p = omega arith
-leaving_few o now t (Received a) x p = omega arith
-leaving_few o now t (Postponed a) x p = omega arith
 leaving_few o now t (Completed c status) x p = one_of (live t) x
   where
     one_of : (cs : List Command) → In c cs → count_by p (c ∷ []) ≤ count_by p cs
@@ -220,6 +193,7 @@ leaving_few o now t (Completed c status) x p = one_of (live t) x
         let one : count_by p (c ∷ []) ≡ cond (p c) 1 0 + 0 = sum_by-cons (λ y. cond (p y) 1 0) c [] in
         ⊎_elim (λ same. omega (arith, all, one, ap {B = ℕ} (λ (y : Command). cond (p y) 1 0) same)) (λ later. omega (arith, all, one_of cs later)) h
 leaving_few o now t (Executed start a d) x p = x.1.leaves p
+leaving_few o now t form x p = omega arith
 
 pub leaving_live : (o : Setting) (now : ℕ) (t : Trace) (form : Form) → IsFormed o now t form → (k : ℕ) → list_any (leaves_ticket k) (marks_of_form form) ≡ true → is_among k (live t) ≡ true
 leaving_live o now t form x k h = counted_among k (live t) (omega (arith, among_counted k (leaving_in form) (sym (leaves_form k form) ∙ h), leaving_few o now t form x (λ (c : Command). c.ticket == k)))
@@ -231,11 +205,6 @@ pub record EntersNext (o : Setting) (t : Trace) (form : Form) (c : Command) : Ty
   pub stays : leaving_in form ≡ []
 
 pub entering_next : (o : Setting) (now : ℕ) (t : Trace) (form : Form) → IsFormed o now t form → Each (EntersNext o t form) (entering_in form)
-entering_next o now t (Ignored why) x = tt
-entering_next o now t (Rejected a) x = tt
-entering_next o now t (Received a) x = tt
-entering_next o now t (Postponed a) x = tt
-entering_next o now t (Completed c status) x = tt
 entering_next o now t (Executed start a d) x = by_entering d.entering x.1.enters
   where
     by_entering : (y : Option Command) → Each (EntersAs o t a d) y → Each (EntersNext o t (Executed start a d)) y
@@ -245,3 +214,4 @@ entering_next o now t (Executed start a d) x = by_entering d.entering x.1.enters
       below = (let same : c.unit ≡ e.unit = ap (λ (z : Command). z.unit) e.next in let z : c.unit < o.units = omega (arith, e.below) in z);
       stays = e.stays;
     }
+entering_next o now t form x = tt

@@ -5,7 +5,7 @@ use Rattle.std.proofs.lemmas.Bool.{false≢true}
 use Rattle.std.proofs.lemmas.List.{append-nil}
 use Rattle.std.proofs.lemmas.List.Elements.{filter-append}
 use Rattle.std.proofs.lemmas.List.Folds.{list_any-append}
-use Rattle.iscsi_history.specs.rules.Trace.{Command, Mark, Trace, Admits, Delivers, Executes, Voids, Empties, Waits, Leaves, Enters, Sends, ClosesConn, ClosesSession, Ignores, after_items, has, shown, enters, entered, leaves_ticket, live, is_among, received, is_received, contains, number_received, admits_at}
+use Rattle.iscsi_history.specs.rules.Trace.{Command, Mark, Trace, Admits, Voids, after_items, has, shown, enters, entered, leaves_ticket, live, is_among, received, is_received, contains, number_received, admits_at}
 use Rattle.iscsi_history.proofs.BoolLemmas.{and_both, or_none, or_second}
 
 -- ---- filters
@@ -78,15 +78,6 @@ all_among (x ∷ xs) =
     (ap (λ b. b || is_among x.ticket xs) (eq-eqb x.ticket x.ticket refl))
     (weaker (λ c. is_among c.ticket xs) (λ c. is_among c.ticket (x ∷ xs)) xs (λ c h. or_second (x.ticket == c.ticket) (is_among c.ticket xs) h) (all_among xs))
 
--- none of these is new
-pub none_new : (set cs : List Command) → list_all (λ c. is_among c.ticket set) cs ≡ true → filter (λ c. not (is_among c.ticket set)) cs ≡ []
-none_new set [] h = refl
-none_new set (c ∷ cs) h =
-    elim (is_among c.ticket set) as (λ b. (b && list_all (λ d. is_among d.ticket set) cs) ≡ true → cond (not b) (c ∷ filter (λ d. not (is_among d.ticket set)) cs) (filter (λ d. not (is_among d.ticket set)) cs) ≡ []) [
-      | true ↦ λ rest. none_new set cs rest
-      | false ↦ λ rest. absurd (false≢true rest)
-    ] h
-
 -- ---- received numbers and admitted requests
 
 pub received-item : (item : List Mark) (t : Trace) (n : ℕ) → is_received (item ∷ t) n ≡ (is_received t n || contains (filter_map number_received item) n)
@@ -98,17 +89,8 @@ unadmitted_mark : (n : ℕ) (mark : Mark) (marks : List Mark) → contains (filt
 unadmitted_mark n (Admits a) marks h =
     let parts = or_none (a.number == n) (contains (filter_map number_received marks) n) h in
     (ap (λ b. cond b (Some a) None) parts.0, parts.1)
-unadmitted_mark n (Delivers a) marks h = (refl, h)
-unadmitted_mark n (Executes a) marks h = (refl, h)
 unadmitted_mark n (Voids k) marks h = (refl, (or_none (k == n) (contains (filter_map number_received marks) n) h).1)
-unadmitted_mark n (Empties a) marks h = (refl, h)
-unadmitted_mark n (Waits a) marks h = (refl, h)
-unadmitted_mark n (Leaves c) marks h = (refl, h)
-unadmitted_mark n (Enters c) marks h = (refl, h)
-unadmitted_mark n (Sends conn reply) marks h = (refl, h)
-unadmitted_mark n (ClosesConn conn) marks h = (refl, h)
-unadmitted_mark n ClosesSession marks h = (refl, h)
-unadmitted_mark n (Ignores why) marks h = (refl, h)
+unadmitted_mark n mark marks h = (refl, h)
 
 unadmitted_item : (n : ℕ) (item : List Mark) → contains (filter_map number_received item) n ≡ false → filter_map (admits_at n) item ≡ []
 unadmitted_item n [] h = refl
