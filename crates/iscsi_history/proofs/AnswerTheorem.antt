@@ -23,7 +23,7 @@ use Rattle.iscsi_history.proofs.ElementLemmas.{In, in-contains}
 use Rattle.iscsi_history.proofs.MomentLemmas.{log_effects}
 use Rattle.iscsi_history.proofs.CountLemmas.{one, count-one}
 use Rattle.iscsi_history.proofs.AbortMarks.{none_viewed}
-use Rattle.iscsi_history.proofs.NumberingLemmas.{unseen, passed}
+use Rattle.iscsi_history.proofs.DeedLemmas.{views}
 use Rattle.iscsi_history.proofs.Forms.{Start, AtTurn, Deeds, if_some, start_mark, marks_done, Form, Rejected, Completed, Executed, marks_of_form, IsDone, Each, IsFormed, HasForm, is_arrival, HaveForms}
 use Rattle.iscsi_history.proofs.FormRuns.{trace_has_forms}
 use Rattle.iscsi_history.proofs.ReplyForms.{comes_of, replies_seen}
@@ -65,20 +65,7 @@ sent_done a d conn reply h =
 
 -- what leaves
 left_done : (a : Arrival) (d : Deeds) → filter_map leaver_of (marks_done a d) ≡ d.leaving
-left_done a d =
-    passed leaver_of (if_some Voids d.void) _ (unseen leaver_of Voids d.void (λ n. refl))
-    ∙ filter_map-append leaver_of (map Leaves d.leaving) _
-    ∙ ap (λ xs. filter_map leaver_of (map Leaves d.leaving) ++ xs)
-    (passed leaver_of (map Empties d.emptied) _ (none_viewed leaver_of Empties d.emptied (λ b. refl))
-    ∙ passed leaver_of (if_some Enters d.entering) _ (unseen leaver_of Enters d.entering (λ c. refl))
-    ∙ passed leaver_of (if_some (Sends (connection_of a.request)) d.reply) _ (unseen leaver_of (Sends (connection_of a.request)) d.reply (λ reply. refl))
-    ∙ passed leaver_of (if_some ClosesConn d.closing) _ (unseen leaver_of ClosesConn d.closing (λ conn. refl))
-    ∙ elim d.ending as (λ b. filter_map leaver_of (cond b (ClosesSession ∷ []) []) ≡ []) [ true ↦ refl | false ↦ refl ])
-    ∙ append-nil (filter_map leaver_of (map Leaves d.leaving)) ∙ all d.leaving
-  where
-    all : (cs : List Command) → filter_map leaver_of (map Leaves cs) ≡ cs
-    all [] = refl
-    all (c ∷ cs) = ap (λ xs. c ∷ xs) (all cs)
+left_done a d = simp views
 
 -- ---- an item in which a request executes
 

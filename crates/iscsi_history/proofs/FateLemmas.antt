@@ -17,7 +17,7 @@ use Rattle.iscsi_history.proofs.ListLemmas.{list_any-map}
 use Rattle.iscsi_history.proofs.HeldLemmas.{unreceived_unheld}
 use Rattle.iscsi_history.proofs.TraceLemmas.{received-item, unadmitted}
 use Rattle.iscsi_history.proofs.Forms.{Start, AtTurn, start_mark, Deeds, if_some, marks_done, Form, Received, Executed, marks_of_form, begun, Starts, Each, IsDone, IsFormed, HasForm, HaveForms}
-use Rattle.iscsi_history.proofs.NumberingLemmas.{to_list, unseen, passed}
+use Rattle.iscsi_history.proofs.DeedLemmas.{views, tests}
 
 -- ---- what an item does to a number
 
@@ -115,43 +115,6 @@ next_fate t n item (Delivered s) x = Delivered (stays t n item false false true 
 
 -- ---- the marks of what is done
 
--- a test that only numbers pass that are voided or taken out
-module _ (p : Mark → Bool) (leaves : (c : Command) → p (Leaves c) ≡ false) (enters : (c : Command) → p (Enters c) ≡ false)
-    (sends : (conn : ℕ) (reply : Reply) → p (Sends conn reply) ≡ false) (closes : (conn : ℕ) → p (ClosesConn conn) ≡ false) (ends : p ClosesSession ≡ false) where
-  none_passes : {A : Type 0} (f : A → Mark) (x : Option A) (ms : List Mark) → ((y : A) → p (f y) ≡ false) → list_any p (if_some f x ++ ms) ≡ list_any p ms
-  none_passes f None ms none = refl
-  none_passes f (Some y) ms none = ap (λ b. b || list_any p ms) (none y)
-
-  end_passes : (b : Bool) → list_any p (cond b (ClosesSession ∷ []) []) ≡ false
-  end_passes true = ap (λ b. b || false) ends
-  end_passes false = refl
-
-  tested : (a : Arrival) (d : Deeds) → list_any p (marks_done a d) ≡ (list_any p (if_some Voids d.void) || list_any p (map Empties d.emptied))
-  tested a d =
-      list_any-append p (if_some Voids d.void) _
-      ∙ ap (λ b. list_any p (if_some Voids d.void) || b)
-      (list_any-append p (map Leaves d.leaving) _
-      ∙ ap (λ b. b || list_any p (map Empties d.emptied ++ (if_some Enters d.entering ++ (if_some (Sends (connection_of a.request)) d.reply ++ (if_some ClosesConn d.closing ++ cond d.ending (ClosesSession ∷ []) []))))) (none_mapped p Leaves d.leaving leaves)
-      ∙ list_any-append p (map Empties d.emptied) _
-      ∙ ap (λ b. list_any p (map Empties d.emptied) || b)
-      (none_passes Enters d.entering _ enters ∙ none_passes (Sends (connection_of a.request)) d.reply _ (sends (connection_of a.request)) ∙ none_passes ClosesConn d.closing _ closes ∙ end_passes d.ending)
-      ∙ or_false (list_any p (map Empties d.emptied)))
-
--- a view that sees nothing but numbers that are voided
-module _ {B : Type 0} (view : Mark → Option B) (leaves : (c : Command) → view (Leaves c) ≡ None) (empties : (a : Arrival) → view (Empties a) ≡ None) (enters : (c : Command) → view (Enters c) ≡ None)
-    (sends : (conn : ℕ) (reply : Reply) → view (Sends conn reply) ≡ None) (closes : (conn : ℕ) → view (ClosesConn conn) ≡ None) (ends : view ClosesSession ≡ None) where
-  pub voids_viewed : (a : Arrival) (d : Deeds) → filter_map view (marks_done a d) ≡ filter_map view (if_some Voids d.void)
-  voids_viewed a d =
-      filter_map-append view (if_some Voids d.void) _
-      ∙ ap (λ xs. filter_map view (if_some Voids d.void) ++ xs)
-      (passed view (map Leaves d.leaving) _ (none_viewed view Leaves d.leaving leaves)
-      ∙ passed view (map Empties d.emptied) _ (none_viewed view Empties d.emptied empties)
-      ∙ passed view (if_some Enters d.entering) _ (unseen view Enters d.entering enters)
-      ∙ passed view (if_some (Sends (connection_of a.request)) d.reply) _ (unseen view (Sends (connection_of a.request)) d.reply (sends (connection_of a.request)))
-      ∙ passed view (if_some ClosesConn d.closing) _ (unseen view ClosesConn d.closing closes)
-      ∙ elim d.ending as (λ b. filter_map view (cond b (ClosesSession ∷ []) []) ≡ []) [ true ↦ ap to_list ends | false ↦ refl ])
-      ∙ append-nil (filter_map view (if_some Voids d.void))
-
 -- what the marks do to a number: it is voided, or requests are taken out there, or the request that executes is delivered there
 abbrev void_at : ℕ → Deeds → Bool
 void_at n d = list_any (voids_number n) (if_some Voids d.void)
@@ -163,25 +126,7 @@ abbrev delivered_at : ℕ → Start → Arrival → Bool
 delivered_at n start a = list_any (delivers_number n) (start_mark start a ∷ [])
 
 pub done_at : (n : ℕ) (a : Arrival) (d : Deeds) → ItemAt n (marks_done a d) (void_at n d) (void_at n d) (emptied_at n d) false []
-done_at n a d = record {
-  receives = ap (λ ns. contains ns n) (voids_viewed number_received (λ c. refl) (λ b. refl) (λ c. refl) (λ conn reply. refl) (λ conn. refl) refl a d) ∙ numbers d.void;
-  voided = tested (voids_number n) (λ c. refl) (λ c. refl) (λ conn reply. refl) (λ conn. refl) refl a d ∙ ap (λ b. void_at n d || b) (none_mapped (voids_number n) Empties d.emptied (λ b. refl)) ∙ or_false (void_at n d);
-  emptied = tested (empties_number n) (λ c. refl) (λ c. refl) (λ conn reply. refl) (λ conn. refl) refl a d ∙ ap (λ b. b || list_any (empties_number n) (map Empties d.emptied)) (unemptied d.void) ∙ list_any-map (empties_number n) Empties d.emptied;
-  delivered = tested (delivers_number n) (λ c. refl) (λ c. refl) (λ conn reply. refl) (λ conn. refl) refl a d ∙ ap (λ b. b || list_any (delivers_number n) (map Empties d.emptied)) (undelivered d.void) ∙ none_mapped (delivers_number n) Empties d.emptied (λ b. refl);
-  admits = voids_viewed (admits_at n) (λ c. refl) (λ b. refl) (λ c. refl) (λ conn reply. refl) (λ conn. refl) refl a d ∙ unseen (admits_at n) Voids d.void (λ k. refl);
-}
-  where
-    numbers : (x : Option ℕ) → contains (filter_map number_received (if_some Voids x)) n ≡ list_any (voids_number n) (if_some Voids x)
-    numbers None = refl
-    numbers (Some k) = refl
-
-    unemptied : (x : Option ℕ) → list_any (empties_number n) (if_some Voids x) ≡ false
-    unemptied None = refl
-    unemptied (Some k) = refl
-
-    undelivered : (x : Option ℕ) → list_any (delivers_number n) (if_some Voids x) ≡ false
-    undelivered None = refl
-    undelivered (Some k) = refl
+done_at n a d = record { receives = simp (views, tests); voided = simp tests; emptied = simp tests; delivered = simp tests; admits = simp views }
 
 pub executed_at : (n : ℕ) (start : Start) (a : Arrival) (d : Deeds) → ItemAt n (start_mark start a ∷ marks_done a d) (void_at n d) (void_at n d) (emptied_at n d) (delivered_at n start a) []
 executed_at n AtTurn a d = record { receives = (done_at n a d).receives; voided = (done_at n a d).voided; emptied = (done_at n a d).emptied; delivered = ap (λ b. (a.number == n) || b) (done_at n a d).delivered; admits = (done_at n a d).admits }

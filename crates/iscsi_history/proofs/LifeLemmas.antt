@@ -11,7 +11,7 @@ use Rattle.iscsi_history.specs.rules.Trace.{Command, Mark, Trace, enters, entere
 use Rattle.iscsi_history.specs.rules.Run.{newly_enabled}
 use Rattle.iscsi_history.proofs.DeliveryLemmas.{range_more}
 use Rattle.iscsi_history.proofs.Forms.{Each, HasForm, HaveForms}
-use Rattle.iscsi_history.proofs.NumberingLemmas.{to_list}
+use Rattle.iscsi_history.proofs.DeedLemmas.{to_list}
 use Rattle.iscsi_history.proofs.TouchLemmas.{mine, entering_in, enters_form, EntersNext, entering_next}
 
 -- ---- lists of commands

@@ -19,7 +19,7 @@ use Rattle.iscsi_history.proofs.NewlyLemmas.{never_free}
 use Rattle.iscsi_history.proofs.MomentLemmas.{log_effects}
 use Rattle.iscsi_history.proofs.Forms.{Form, marks_of_form, Each, IsFormed, HasForm, HaveForms}
 use Rattle.iscsi_history.proofs.FormRuns.{trace_has_forms}
-use Rattle.iscsi_history.proofs.NumberingLemmas.{to_list}
+use Rattle.iscsi_history.proofs.DeedLemmas.{to_list}
 use Rattle.iscsi_history.proofs.TouchLemmas.{mine, leave_effect, enter_effect, enable_effect, leaving_in, entering_in, enters_form, leaves_form, life_item, leaving_few, EntersNext, entering_next}
 use Rattle.iscsi_history.proofs.LifeLemmas.{filter-swap, mine-none, among-mine, count-mine, tickets_count, beyond_entered, newly_none, newly_one}
 

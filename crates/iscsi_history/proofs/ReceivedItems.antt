@@ -18,7 +18,7 @@ use Rattle.iscsi_history.proofs.BoolLemmas.{and_false, and_parts}
 use Rattle.iscsi_history.proofs.Forms.{Start, AtTurn, AtArrival, AfterWaiting, start_mark, Deeds, if_some, marks_done, Form, Received, Executed, marks_of_form, Each}
 use Rattle.iscsi_history.proofs.FormItems.{Does, does_function, does_after}
 use Rattle.iscsi_history.proofs.FormRuns.{AnyArrival, immediate_stands}
-use Rattle.iscsi_history.proofs.FateLemmas.{voids_viewed}
+use Rattle.iscsi_history.proofs.DeedLemmas.{views}
 
 abbrev received_by : List Mark → List ℕ
 received_by item = filter_map number_received item
@@ -34,7 +34,7 @@ executed_receives : (start : Start) (a : Arrival) (d : Deeds) → received_by (s
 executed_receives start a d = by_start start
   where
     done : received_by (marks_done a d) ≡ received_by (if_some Voids d.void)
-    done = voids_viewed number_received (λ c. refl) (λ b. refl) (λ c. refl) (λ conn reply. refl) (λ conn. refl) refl a d
+    done = simp views
 
     by_start : (s : Start) → received_by (start_mark s a ∷ marks_done a d) ≡ received_by (if_some Voids d.void)
     by_start AtTurn = done

@@ -16,7 +16,7 @@ use Rattle.iscsi_history.proofs.ElementLemmas.{In, in-any}
 use Rattle.iscsi_history.proofs.TraceLemmas.{live-item}
 use Rattle.iscsi_history.proofs.AbortMarks.{none_viewed}
 use Rattle.iscsi_history.proofs.Forms.{AtTurn, Deeds, if_some, marks_done, Form, Completed, Executed, marks_of_form, IsFormed}
-use Rattle.iscsi_history.proofs.NumberingLemmas.{to_list, unseen, passed}
+use Rattle.iscsi_history.proofs.DeedLemmas.{to_list, views}
 use Rattle.iscsi_history.proofs.TouchLemmas.{leaving_in, entering_in, enters_form, leaves_form, leaving_few}
 
 -- the request arrived in this event
@@ -33,25 +33,12 @@ comes_of v c = c.arrival.event == v
 module _ {B : Type 0} (view : Mark → Option B) (voids : (n : ℕ) → view (Voids n) ≡ None) (leaves : (c : Command) → view (Leaves c) ≡ None) (empties : (a : Arrival) → view (Empties a) ≡ None)
     (enter : (c : Command) → view (Enters c) ≡ None) (closes : (conn : ℕ) → view (ClosesConn conn) ≡ None) (ends : view ClosesSession ≡ None) where
   pub replies_seen : (a : Arrival) (d : Deeds) → filter_map view (marks_done a d) ≡ filter_map view (if_some (Sends (connection_of a.request)) d.reply)
-  replies_seen a d =
-      passed view (if_some Voids d.void) _ (unseen view Voids d.void voids)
-      ∙ passed view (map Leaves d.leaving) _ (none_viewed view Leaves d.leaving leaves)
-      ∙ passed view (map Empties d.emptied) _ (none_viewed view Empties d.emptied empties)
-      ∙ passed view (if_some Enters d.entering) _ (unseen view Enters d.entering enter)
-      ∙ filter_map-append view (if_some (Sends (connection_of a.request)) d.reply) _
-      ∙ ap (λ xs. filter_map view (if_some (Sends (connection_of a.request)) d.reply) ++ xs)
-      (passed view (if_some ClosesConn d.closing) _ (unseen view ClosesConn d.closing closes)
-      ∙ elim d.ending as (λ b. filter_map view (cond b (ClosesSession ∷ []) []) ≡ []) [ true ↦ ap to_list ends | false ↦ refl ])
-      ∙ append-nil (filter_map view (if_some (Sends (connection_of a.request)) d.reply))
+  replies_seen a d = simp (views, voids, leaves, empties, enter, closes, ends)
 
 -- ---- replies
 
 replied_done : (a : Arrival) (d : Deeds) → filter_map reply_sent (marks_done a d) ≡ to_list d.reply
-replied_done a d = replies_seen reply_sent (λ n. refl) (λ c. refl) (λ b. refl) (λ c. refl) (λ conn. refl) refl a d ∙ by_reply d.reply
-  where
-    by_reply : (x : Option Reply) → filter_map reply_sent (if_some (Sends (connection_of a.request)) x) ≡ to_list x
-    by_reply (Some reply) = refl
-    by_reply None = refl
+replied_done a d = simp views
 
 -- how many replies an item of this form sends to the request of the event
 abbrev pub answers_of : ℕ → Form → ℕ

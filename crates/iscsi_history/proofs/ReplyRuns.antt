@@ -7,7 +7,7 @@ use Rattle.iscsi_history.specs.rules.Trace.{Arrival, Command, Mark, Trace, enter
 use Rattle.iscsi_history.specs.promises.Replies.{replies_to}
 use Rattle.iscsi_history.proofs.CountLemmas.{one, count-cons}
 use Rattle.iscsi_history.proofs.Forms.{Start, Deeds, Form, Completed, Executed, marks_of_form, IsDone, Each, EntersAs, IsFormed, HasForm, is_arrival, HaveForms}
-use Rattle.iscsi_history.proofs.NumberingLemmas.{to_list}
+use Rattle.iscsi_history.proofs.DeedLemmas.{to_list}
 use Rattle.iscsi_history.proofs.TouchLemmas.{leaving_in, entering_in}
 use Rattle.iscsi_history.proofs.ReplyForms.{is_of, comes_of, answers_of, replies_form, entered_form, live_form}
 use Rattle.iscsi_history.proofs.ReplyTurns.{executes_of, begins_of, awaited, awaited_form}

@@ -14,7 +14,7 @@ use Rattle.iscsi_history.proofs.CountLemmas.{one, count-cons, count-filter, coun
 use Rattle.iscsi_history.proofs.ElementLemmas.{In, in-append, append-in_first, append-in_second, first-in}
 use Rattle.iscsi_history.proofs.HeldLemmas.{admitted_of_held}
 use Rattle.iscsi_history.proofs.Forms.{AtTurn, AtArrival, AfterWaiting, Deeds, if_some, marks_done, Form, Received, Postponed, Executed, marks_of_form, IsFormed, is_arrival}
-use Rattle.iscsi_history.proofs.NumberingLemmas.{unseen}
+use Rattle.iscsi_history.proofs.DeedLemmas.{each_done, views}
 use Rattle.iscsi_history.proofs.ReplyForms.{is_of, replies_seen}
 
 -- ---- admitted requests
@@ -112,34 +112,11 @@ owed_turn p a ms t none here =
 abbrev Shrinks : List Mark → Type 0
 Shrinks ms = (p : Arrival → Bool) (ws : List Arrival) → count_by p (waiting_through ms ws) ≤ count_by p ws
 
-through-append : (xs ys : List Mark) (ws : List Arrival) → waiting_through (xs ++ ys) ws ≡ waiting_through ys (waiting_through xs ws)
-through-append [] ys ws = refl
-through-append (m ∷ xs) ys ws = through-append xs ys (waiting_by m ws)
-
-shrinks-append : (xs ys : List Mark) → Shrinks xs → Shrinks ys → Shrinks (xs ++ ys)
-shrinks-append xs ys h k p ws = omega (arith, ap (count_by p) (through-append xs ys ws), h p ws, k p (waiting_through xs ws))
-
-shrinks-map : {A : Type 0} (f : A → Mark) → ((x : A) → (p : Arrival → Bool) (ws : List Arrival) → count_by p (waiting_by (f x) ws) ≤ count_by p ws) → (xs : List A) → Shrinks (map f xs)
-shrinks-map f h [] p ws = omega arith
-shrinks-map f h (x ∷ xs) p ws = omega (arith, shrinks-map f h xs p (waiting_by (f x) ws), h x p ws)
-
-shrinks-some : {A : Type 0} (f : A → Mark) → ((x : A) → (p : Arrival → Bool) (ws : List Arrival) → count_by p (waiting_by (f x) ws) ≤ count_by p ws) → (x : Option A) → Shrinks (if_some f x)
-shrinks-some f h None p ws = omega arith
-shrinks-some f h (Some x) p ws = h x p ws
-
 shrinks_done : (a : Arrival) (d : Deeds) → Shrinks (marks_done a d)
 shrinks_done a d =
-    shrinks-append (if_some Voids d.void) _ (shrinks-some Voids (λ n p ws. omega arith) d.void)
-    (shrinks-append (map Leaves d.leaving) _ (shrinks-map Leaves (λ c p ws. omega arith) d.leaving)
-    (shrinks-append (map Empties d.emptied) _ (shrinks-map Empties (λ b p ws. omega arith) d.emptied)
-    (shrinks-append (if_some Enters d.entering) _ (shrinks-some Enters (λ c p ws. omega arith) d.entering)
-    (shrinks-append (if_some (Sends (connection_of a.request)) d.reply) _ (shrinks-some (Sends (connection_of a.request)) (λ reply p ws. omega arith) d.reply)
-    (shrinks-append (if_some ClosesConn d.closing) _ (shrinks-some ClosesConn (λ conn p ws. fewer_counted p (λ b. not (connection_of b.request == conn)) ws) d.closing)
-    (ending d.ending))))))
-  where
-    ending : (b : Bool) → Shrinks (cond b (ClosesSession ∷ []) [])
-    ending true = λ p ws. omega arith
-    ending false = λ p ws. omega arith
+    each_done a d Shrinks (λ p ws. omega arith) (λ n is ms rest. rest) (λ c there ms rest. rest) (λ b there ms rest. rest) (λ c is ms rest. rest) (λ reply is ms rest. rest)
+    (λ conn is ms rest p ws. omega (arith, rest p (filter (λ b. not (connection_of b.request == conn)) ws), fewer_counted p (λ b. not (connection_of b.request == conn)) ws))
+    (λ is ms rest p ws. omega (arith, rest p []))
 
 any_count : (p : Arrival → Bool) (ws : List Arrival) → list_any p ws ≡ true → 1 ≤ count_by p ws
 any_count p [] h = absurd (false≢true h)
@@ -178,7 +155,7 @@ abbrev pub awaited : ℕ → Trace → ℕ
 awaited v t = count_by (is_of v) (waiting t) + count_by (is_of v) (owed t)
 
 admits_done : (a : Arrival) (d : Deeds) → filter_map admits_request (marks_done a d) ≡ []
-admits_done a d = replies_seen admits_request (λ n. refl) (λ c. refl) (λ b. refl) (λ c. refl) (λ conn. refl) refl a d ∙ unseen admits_request (Sends (connection_of a.request)) d.reply (λ reply. refl)
+admits_done a d = simp views
 
 -- one that executes was awaited, or its event begins
 pub awaited_form : (o : Setting) (now v : ℕ) (t : Trace) (form : Form) → IsFormed o now t form → awaited v (marks_of_form form ∷ t) + executes_of v form ≤ awaited v t + begins_of now v form

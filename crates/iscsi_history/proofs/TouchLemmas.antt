@@ -19,7 +19,7 @@ use Rattle.iscsi_history.proofs.CommandItems.{leaves_only}
 use Rattle.iscsi_history.proofs.CountLemmas.{among_counted, counted_among}
 use Rattle.iscsi_history.proofs.ElementLemmas.{In}
 use Rattle.iscsi_history.proofs.Forms.{Start, AtTurn, start_mark, Deeds, if_some, marks_done, Form, Completed, Executed, marks_of_form, Each, EntersAs, IsFormed}
-use Rattle.iscsi_history.proofs.NumberingLemmas.{to_list, unseen, passed}
+use Rattle.iscsi_history.proofs.DeedLemmas.{to_list, views, tests}
 
 -- the commands with this ticket
 abbrev pub mine : ℕ → List Command → List Command
@@ -46,72 +46,16 @@ enable_effect c = Enable c.ticket c.unit
 
 -- ---- the marks of an item
 
--- a view that sees nothing but commands that leave and enter
-module _ {B : Type 0} (view : Mark → Option B) (voids : (n : ℕ) → view (Voids n) ≡ None) (empties : (a : Arrival) → view (Empties a) ≡ None)
-    (sends : (conn : ℕ) (reply : Reply) → view (Sends conn reply) ≡ None) (closes : (conn : ℕ) → view (ClosesConn conn) ≡ None) (ends : view ClosesSession ≡ None) where
-  unseen_end : (d : Deeds) (conn : ℕ) → filter_map view (if_some (Sends conn) d.reply ++ (if_some ClosesConn d.closing ++ cond d.ending (ClosesSession ∷ []) [])) ≡ []
-  unseen_end d conn =
-      passed view (if_some (Sends conn) d.reply) _ (unseen view (Sends conn) d.reply (sends conn))
-      ∙ passed view (if_some ClosesConn d.closing) _ (unseen view ClosesConn d.closing closes)
-      ∙ elim d.ending as (λ b. filter_map view (cond b (ClosesSession ∷ []) []) ≡ []) [ true ↦ ap to_list ends | false ↦ refl ]
-
-  commands_seen : (a : Arrival) (d : Deeds) → filter_map view (marks_done a d) ≡ filter_map view (map Leaves d.leaving) ++ filter_map view (if_some Enters d.entering)
-  commands_seen a d =
-      passed view (if_some Voids d.void) _ (unseen view Voids d.void voids)
-      ∙ filter_map-append view (map Leaves d.leaving) _
-      ∙ ap (λ xs. filter_map view (map Leaves d.leaving) ++ xs)
-      (passed view (map Empties d.emptied) _ (none_viewed view Empties d.emptied empties)
-      ∙ filter_map-append view (if_some Enters d.entering) _
-      ∙ ap (λ xs. filter_map view (if_some Enters d.entering) ++ xs) (unseen_end d (connection_of a.request))
-      ∙ append-nil (filter_map view (if_some Enters d.entering)))
-
 -- what enters
 pub enters_form : (form : Form) → filter_map enters (marks_of_form form) ≡ to_list (entering_in form)
-enters_form (Executed start a d) = by_start start
-  where
-    entering : (x : Option Command) → filter_map enters (if_some Enters x) ≡ to_list x
-    entering (Some c) = refl
-    entering None = refl
-
-    done : filter_map enters (marks_done a d) ≡ to_list d.entering
-    done =
-        commands_seen enters (λ n. refl) (λ b. refl) (λ conn reply. refl) (λ conn. refl) refl a d
-        ∙ ap (λ xs. xs ++ filter_map enters (if_some Enters d.entering)) (none_viewed enters Leaves d.leaving (λ c. refl))
-        ∙ entering d.entering
-
-    by_start : (s : Start) → filter_map enters (start_mark s a ∷ marks_done a d) ≡ to_list d.entering
-    by_start AtTurn = done
-    by_start s = done
+enters_form (Executed AtTurn a d) = simp views
+enters_form (Executed start a d) = simp views
 enters_form form = refl
 
 -- which tickets leave
 pub leaves_form : (k : ℕ) (form : Form) → list_any (leaves_ticket k) (marks_of_form form) ≡ is_among k (leaving_in form)
-leaves_form k (Executed start a d) = by_start start
-  where
-    none_some : {A : Type 0} (f : A → Mark) (x : Option A) (ms : List Mark) → ((y : A) → leaves_ticket k (f y) ≡ false) → list_any (leaves_ticket k) (if_some f x ++ ms) ≡ list_any (leaves_ticket k) ms
-    none_some f None ms none = refl
-    none_some f (Some y) ms none = ap (λ b. b || list_any (leaves_ticket k) ms) (none y)
-
-    none_end : (b : Bool) → list_any (leaves_ticket k) (cond b (ClosesSession ∷ []) []) ≡ false
-    none_end true = refl
-    none_end false = refl
-
-    done : list_any (leaves_ticket k) (marks_done a d) ≡ is_among k d.leaving
-    done =
-        none_some Voids d.void _ (λ n. refl)
-        ∙ leaves_only d.leaving _ k
-        ∙ ap (λ b. is_among k d.leaving || b)
-        (list_any-append (leaves_ticket k) (map Empties d.emptied) _
-        ∙ ap (λ b. b || list_any (leaves_ticket k) (if_some Enters d.entering ++ (if_some (Sends (connection_of a.request)) d.reply ++ (if_some ClosesConn d.closing ++ cond d.ending (ClosesSession ∷ []) [])))) (none_mapped (leaves_ticket k) Empties d.emptied (λ b. refl))
-        ∙ none_some Enters d.entering _ (λ c. refl)
-        ∙ none_some (Sends (connection_of a.request)) d.reply _ (λ r. refl)
-        ∙ none_some ClosesConn d.closing _ (λ c. refl)
-        ∙ none_end d.ending)
-        ∙ or_false (is_among k d.leaving)
-
-    by_start : (s : Start) → list_any (leaves_ticket k) (start_mark s a ∷ marks_done a d) ≡ is_among k d.leaving
-    by_start AtTurn = done
-    by_start s = done
+leaves_form k (Executed AtTurn a d) = simp tests
+leaves_form k (Executed start a d) = simp tests
 leaves_form k form = refl
 
 -- ---- the effects that name a ticket
@@ -132,36 +76,23 @@ life_of_marks o t k (Leaves c ∷ ms) = kept_effect (c.ticket == k) (leave_effec
 life_of_marks o t k (Enters c ∷ ms) = kept_effect (c.ticket == k) (enter_effect c) _ _ (life_of_marks o t k ms)
 life_of_marks o t k (m ∷ ms) = life_of_marks o t k ms
 
-life_of_commands : (k : ℕ) (f : Command → Mark) (g : Command → Effect) → ((c : Command) → life_of_mark k (f c) ≡ cond (c.ticket == k) (Some (g c)) None) → (cs : List Command) → filter_map (life_of_mark k) (map f cs) ≡ map g (mine k cs)
-life_of_commands k f g is [] = refl
-life_of_commands k f g is (c ∷ cs) =
-    ap (λ x. cons_option x (filter_map (life_of_mark k) (map f cs))) (is c)
-    ∙ ap (cons_option (cond (c.ticket == k) (Some (g c)) None)) (life_of_commands k f g is cs)
-    ∙ by_test (c.ticket == k)
-  where
-    by_test : (b : Bool) → cons_option (cond b (Some (g c)) None) (map g (mine k cs)) ≡ map g (cond b (c ∷ mine k cs) (mine k cs))
-    by_test true = refl
-    by_test false = refl
+-- the effects of those that have the ticket
+shown_mine : (k : ℕ) (g : Command → Effect) (cs : List Command) → filter_map (λ c. cond (c.ticket == k) (Some (g c)) None) cs ≡ map g (mine k cs)
+shown_mine k g [] = refl
+shown_mine k g (c ∷ cs) = elim (c.ticket == k) as (λ b. cons_option (cond b (Some (g c)) None) (filter_map (λ d. cond (d.ticket == k) (Some (g d)) None) cs) ≡ map g (cond b (c ∷ mine k cs) (mine k cs))) [
+  | true ↦ ap (λ es. g c ∷ es) (shown_mine k g cs)
+  | false ↦ shown_mine k g cs
+]
 
 -- what an item shows of the ticket, but for what it enables
 pub life_form : (o : Setting) (t : Trace) (k : ℕ) (form : Form)
     → life_of k (flat_map (effects_of_mark o t) (marks_of_form form)) ≡ map leave_effect (mine k (leaving_in form)) ++ map enter_effect (mine k (to_list (entering_in form)))
 life_form o t k form = life_of_marks o t k (marks_of_form form) ∙ by_form form
   where
-    entering : (x : Option Command) → filter_map (life_of_mark k) (if_some Enters x) ≡ map enter_effect (mine k (to_list x))
-    entering (Some c) = elim (c.ticket == k) as (λ b. cons_option (cond b (Some (enter_effect c)) None) [] ≡ map enter_effect (cond b (c ∷ []) [])) [ true ↦ refl | false ↦ refl ]
-    entering None = refl
-
-    done : (a : Arrival) (d : Deeds) → filter_map (life_of_mark k) (marks_done a d) ≡ map leave_effect (mine k d.leaving) ++ map enter_effect (mine k (to_list d.entering))
-    done a d =
-        commands_seen (life_of_mark k) (λ n. refl) (λ b. refl) (λ conn reply. refl) (λ conn. refl) refl a d
-        ∙ ap (λ xs. xs ++ filter_map (life_of_mark k) (if_some Enters d.entering)) (life_of_commands k Leaves leave_effect (λ c. refl) d.leaving)
-        ∙ ap (λ xs. map leave_effect (mine k d.leaving) ++ xs) (entering d.entering)
-
     by_form : (f : Form) → filter_map (life_of_mark k) (marks_of_form f) ≡ map leave_effect (mine k (leaving_in f)) ++ map enter_effect (mine k (to_list (entering_in f)))
-    by_form (Completed c status) = life_of_commands k Leaves leave_effect (λ d. refl) (c ∷ []) ∙ sym (append-nil (map leave_effect (mine k (c ∷ []))))
-    by_form (Executed AtTurn a d) = done a d
-    by_form (Executed start a d) = done a d
+    by_form (Completed c status) = shown_mine k leave_effect (c ∷ []) ∙ sym (append-nil (map leave_effect (mine k (c ∷ []))))
+    by_form (Executed AtTurn a d) = simp (views, shown_mine)
+    by_form (Executed start a d) = simp (views, shown_mine)
     by_form form = refl
 
 -- and what it enables
