@@ -57,16 +57,10 @@ touched_voided t n item (DeliversNow b there i) now = absurd (false≢true (sym 
 
 any_weaker : {A : Type 0} (f g : A → Bool) (xs : List A) → ((x : A) → f x ≡ true → g x ≡ true) → list_any f xs ≡ true → list_any g xs ≡ true
 any_weaker f g [] h found = absurd (false≢true found)
-any_weaker f g (x ∷ xs) h found =
-    ⊎_elim (λ here. or_first (g x) (list_any g xs) (h x here))
-    (λ later. or_second (g x) (list_any g xs) (any_weaker f g xs h later))
-    (or_cases (f x) (list_any f xs) found)
+any_weaker f g (x ∷ xs) h found = grind (arith, any_weaker f g xs)
 
 not_one : (r : Request) → is_set_abort r ≡ true → (function r == 1) ≡ false
-not_one r set = elim (function r == 1) as (λ b. (function r == 1) ≡ b → b ≡ false) [
-  | true ↦ λ is. absurd (false≢true (sym (unset r 1 is refl) ∙ set))
-  | false ↦ λ is. refl
-] refl
+not_one r set = grind arith
 
 module _ (o : Setting) (t : Trace) (start : Start) (a : Arrival) (d : Deeds) (s : Sweeps o (begun start a t) a d) where
   -- the earlier ones that didn't leave are among those that it takes out

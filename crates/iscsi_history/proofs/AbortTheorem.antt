@@ -36,19 +36,13 @@ has_since test (item ∷ later) t h = or_second (list_any test item) (has test (
 
 -- an abort that isn't ABORT TASK is one of a whole set
 set_abort : (f : Arrival) (item : List Mark) → IsCompleted f item → (function f.request == 1) ≡ false → is_set_abort f.request ≡ true
-set_abort f item done apart =
-    sym (ap (λ b. b || is_set_abort f.request) apart) ∙ (and_parts (opcode f.request == 0x02) (function f.request == 1 || is_set_abort f.request) done.aborts).1
+set_abort f item done apart = grind arith
 
 -- ---- tickets
 
 -- a covered command has left by the end of the abort's item
 covered_left : (o : Setting) (p : ℕ) (f : Arrival) (item : List Mark) (before : Trace) → Fits o p before item → IsCompleted f item → (k : ℕ) → is_ticket_covered o f item before k ≡ true → has (leaves_ticket k) (item ∷ before) ≡ true
-covered_left o p f item before fits done k covered =
-    let swept : Bool = is_among k (earlier o f before) || (function f.request == 5 && is_among k (filter (is_in_unit_of o f) (live before))) in
-    elim (function f.request == 1) as (λ b. (function f.request == 1) ≡ b → cond b (list_any (leaves_ticket k) item) swept ≡ true → has (leaves_ticket k) (item ∷ before) ≡ true) [
-      | true ↦ λ one left. or_first (list_any (leaves_ticket k) item) (has (leaves_ticket k) before) left
-      | false ↦ λ apart others. fits.sweeps f done (set_abort f item done apart) k covered
-    ] refl covered
+covered_left o p f item before fits done k covered = grind arith
 
 -- what isn't live isn't enabled
 unlive_unenabled : (o : Setting) (t : Trace) (item : List Mark) (k : ℕ) → is_among k (live (item ∷ t)) ≡ false → list_any (is_enable k) (effects_of_item o t item) ≡ false
@@ -70,11 +64,7 @@ none_either true = refl
 none_either false = refl
 
 shut_held : (n : ℕ) (t : Trace) → Shut n t → held t n ≡ None
-shut_held n t s =
-    ⊎_elim
-    (λ emptied. ap (λ b. cond (is_delivered t n || b) None (admitted t n)) emptied ∙ ap (λ b. cond b None (admitted t n)) (or_second (is_delivered t n) true refl))
-    (λ void. ap (λ xs. cond (is_delivered t n || is_emptied t n) None (first_of xs)) void.1 ∙ none_either (is_delivered t n || is_emptied t n))
-    s
+shut_held n t s = grind arith
 
 shut_more : (o : Setting) (p n : ℕ) (t : Trace) (item : List Mark) → Fits o p t item → Shut n t → Shut n (item ∷ t)
 shut_more o p n t item fits s =
@@ -98,24 +88,15 @@ shut_later o p n (item ∷ later) t x s =
 
 taken_cases : (n : ℕ) (item : List Mark) → list_any (takes_out n) item ≡ true → (list_any (empties_number n) item ≡ true) ⊎ (list_any (voids_number n) item ≡ true)
 taken_cases n [] h = absurd (false≢true h)
-taken_cases n (Voids k ∷ ms) h =
-    ⊎_elim (λ here. inr (or_first (k == n) (list_any (voids_number n) ms) here))
-    (λ later. ⊎_elim (λ e. inl e) (λ v. inr (or_second (k == n) (list_any (voids_number n) ms) v)) (taken_cases n ms later))
-    (or_cases (k == n) (list_any (takes_out n) ms) h)
-taken_cases n (Empties a ∷ ms) h =
-    ⊎_elim (λ here. inl (or_first (a.number == n) (list_any (empties_number n) ms) here))
-    (λ later. ⊎_elim (λ e. inl (or_second (a.number == n) (list_any (empties_number n) ms) e)) (λ v. inr v) (taken_cases n ms later))
-    (or_cases (a.number == n) (list_any (takes_out n) ms) h)
+taken_cases n (Voids k ∷ ms) h = grind (arith, taken_cases n ms)
+taken_cases n (Empties a ∷ ms) h = grind (arith, taken_cases n ms)
 taken_cases n (m ∷ ms) h = taken_cases n ms h
 
 -- what is voided is received
 voided_received : (n : ℕ) (item : List Mark) → list_any (voids_number n) item ≡ true → contains (filter_map number_received item) n ≡ true
 voided_received n [] h = absurd (false≢true h)
 voided_received n (Admits a ∷ ms) h = or_second (a.number == n) (contains (filter_map number_received ms) n) (voided_received n ms h)
-voided_received n (Voids k ∷ ms) h =
-    ⊎_elim (λ here. or_first (k == n) (contains (filter_map number_received ms) n) here)
-    (λ later. or_second (k == n) (contains (filter_map number_received ms) n) (voided_received n ms later))
-    (or_cases (k == n) (list_any (voids_number n) ms) h)
+voided_received n (Voids k ∷ ms) h = grind (arith, voided_received n ms)
 voided_received n (m ∷ ms) h = voided_received n ms h
 
 -- a number that the item takes out is shut at its end

@@ -40,8 +40,7 @@ cons-in (Some y) xs x h = inr h
 -- what a view shows of a mark, it shows of the marks
 viewed-in : {B : Type 0} (view : Mark → Option B) (ms : List Mark) (m : Mark) (x : B) → In m ms → view m ≡ Some x → In x (filter_map view ms)
 viewed-in view [] m x h is = absurd h
-viewed-in view (n ∷ ms) m x h is =
-    ⊎_elim (λ same. subst (λ y. In x (cons_option y (filter_map view ms))) (sym (ap view same ∙ is)) (inl refl)) (λ later. cons-in (view n) (filter_map view ms) x (viewed-in view ms m x later is)) h
+viewed-in view (n ∷ ms) m x h is = grind (arith, viewed-in view ms m x)
 
 -- a reply, and where it goes out
 abbrev send_of : Mark → Option (ℕ × Reply)

@@ -25,12 +25,7 @@ apart-push (d ∷ cs) c apart new =
 
 pub unamong-filter : (p : Command → Bool) (k : ℕ) (cs : List Command) → is_among k cs ≡ false → is_among k (filter p cs) ≡ false
 unamong-filter p k [] h = refl
-unamong-filter p k (c ∷ cs) h =
-    let parts = or_none (c.ticket == k) (is_among k cs) h in
-    elim (p c) as (λ v. is_among k (cond v (c ∷ filter p cs) (filter p cs)) ≡ false) [
-      | true ↦ ap (λ b. b || is_among k (filter p cs)) parts.0 ∙ unamong-filter p k cs parts.1
-      | false ↦ unamong-filter p k cs parts.1
-    ]
+unamong-filter p k (c ∷ cs) h = grind (arith, unamong-filter p k cs)
 
 pub apart-filter : (p : Command → Bool) (cs : List Command) → are_apart cs ≡ true → are_apart (filter p cs) ≡ true
 apart-filter p [] h = refl
@@ -44,9 +39,7 @@ apart-filter p (c ∷ cs) h =
 -- where no command has the ticket, nothing is taken out by it
 pub kept_all : (k : ℕ) (cs : List Command) → is_among k cs ≡ false → filter (λ d. not (d.ticket == k)) cs ≡ cs
 kept_all k [] h = refl
-kept_all k (c ∷ cs) h =
-    let parts = or_none (c.ticket == k) (is_among k cs) h in
-    ap (λ b. cond (not b) (c ∷ filter (λ d. not (d.ticket == k)) cs) (filter (λ d. not (d.ticket == k)) cs)) parts.0 ∙ ap (λ ds. c ∷ ds) (kept_all k cs parts.1)
+kept_all k (c ∷ cs) h = grind (arith, kept_all k cs)
 
 -- how many pass, without the command of a ticket
 pub count-without : (p : Command → Bool) (k : ℕ) (cs : List Command) (c : Command) → are_apart cs ≡ true → first_of (filter (λ d. d.ticket == k) cs) ≡ Some c

@@ -193,15 +193,7 @@ module _ (o : Setting) (now p : ℕ) (t : Trace) (start : Start) (a : Arrival) (
 
 -- an event is passed over
 sound_ignored : (o : Setting) (t : Trace) (why : Why) → Sound o t (Ignores why ∷ [])
-sound_ignored o t why = record {
-  on_open = λ k off. refl;
-  units = λ c h. absurd h;
-  range = λ n a h. absurd cc;
-  closes = λ k h. refl;
-  live_out = λ c there h. absurd (false≢true h);
-  held_out = λ n a there h. absurd (false≢true h);
-  ended = λ over. refl;
-}
+sound_ignored o t why = grind arith
 
 sound_form : (o : Setting) (now p : ℕ) (t : Trace) (form : Form) → IsFormed o now t form → StandsAt (OnOpen o) o now p t form → Clear o t → Sound o t (marks_of_form form)
 sound_form o now p t (Ignored why) x at c = sound_ignored o t why

@@ -1,6 +1,6 @@
 -- Nothing goes on in a session that is closed, nor on a connection that is, in the trace of each list of events that come on
 -- the session's connections. A request on another one would go on after the last of them is closed, and the session with it.
-use Rattle.std.proofs.Common.{◌≡◌, ℕ, ◌==◌, ◌&&◌, ◌||◌, inl, ⊎_elim, not, Bool, true, false, List, [], ◌∷◌, ◌++◌, map, filter, refl, ap, sym, subst, ◌∙◌}
+use Rattle.std.proofs.Common.{arith, ◌≡◌, ℕ, ◌==◌, ◌&&◌, ◌||◌, inl, ⊎_elim, not, Bool, true, false, List, [], ◌∷◌, ◌++◌, map, filter, refl, ap, sym, subst, ◌∙◌}
 use Rattle.std.specs.List.{list_all, list_any, flat_map, range_with_len}
 use Rattle.std.proofs.lemmas.Bool.{false≢true}
 use Rattle.std.proofs.lemmas.List.Folds.{list_any-append, list_all-append}
@@ -29,9 +29,7 @@ enables_none p none (c ∷ cs) = ap (λ b. b || list_any p (map (λ (d : Command
 module _ (o : Setting) (p : Effect → Bool) (q : Mark → Bool) (none : (ticket unit : ℕ) → p (Enable ticket unit) ≡ false) (same : (t : Trace) (m : Mark) → list_any p (effects_of_mark o t m) ≡ q m) where
   shown_marks : (t : Trace) (ms : List Mark) → list_any p (flat_map (effects_of_mark o t) ms) ≡ list_any q ms
   shown_marks t [] = refl
-  shown_marks t (m ∷ ms) =
-      list_any-append p (effects_of_mark o t m) (flat_map (effects_of_mark o t) ms)
-      ∙ ap (λ b. b || list_any p (flat_map (effects_of_mark o t) ms)) (same t m) ∙ ap (λ b. q m || b) (shown_marks t ms)
+  shown_marks t (m ∷ ms) = grind (arith, shown_marks t ms)
 
   shown_item : (t : Trace) (item : List Mark) → list_any p (effects_of_item o t item) ≡ list_any q item
   shown_item t item =
@@ -66,10 +64,7 @@ on_mark o k t m h = refl
 
 on_marks : (o : Setting) (k : ℕ) (t : Trace) (ms : List Mark) → list_any (is_at k) ms ≡ false → list_any (is_on k) (flat_map (effects_of_mark o t) ms) ≡ false
 on_marks o k t [] h = refl
-on_marks o k t (m ∷ ms) h =
-    let parts = or_none (is_at k m) (list_any (is_at k) ms) h in
-    list_any-append (is_on k) (effects_of_mark o t m) (flat_map (effects_of_mark o t) ms)
-    ∙ ap (λ b. b || list_any (is_on k) (flat_map (effects_of_mark o t) ms)) (on_mark o k t m parts.0) ∙ on_marks o k t ms parts.1
+on_marks o k t (m ∷ ms) h = grind (arith, on_marks o k t ms)
 
 on_item : (o : Setting) (k : ℕ) (t : Trace) (item : List Mark) → list_any (is_at k) item ≡ false → list_any (is_on k) (effects_of_item o t item) ≡ false
 on_item o k t item h =
@@ -114,8 +109,7 @@ part o (i ∷ later) before item x = part o later before item x.1
 
 -- a connection that is closed isn't open
 unopen : (o : Setting) (t : Trace) (conn : ℕ) → has (closes_conn conn) t ≡ true → is_open o t conn ≡ false
-unopen o t conn h =
-    ap (λ b. is_known conn o.conns && not b) (or_second (is_ended t) (has (closes_conn conn) t) h) ∙ and_false (is_known conn o.conns)
+unopen o t conn h = grind arith
 
 sounds_hold : (o : Setting) (t : Trace) → Sounds o t → ClosesHold o t
 sounds_hold o t x = record {

@@ -1,5 +1,5 @@
 -- Items that close connections or the session, or close none.
-use Rattle.std.proofs.Common.{List, false, ℕ, ◌≡◌, ap, ◌||◌, ◌∙◌, ◌∷◌, [], sym, ◌&&◌, ◌==◌, cond, eq-eqb, filter, map, refl, true, ◌++◌, None, Option, Some, Bool, not}
+use Rattle.std.proofs.Common.{arith, List, false, ℕ, ◌≡◌, ap, ◌||◌, ◌∙◌, ◌∷◌, [], sym, ◌&&◌, ◌==◌, cond, eq-eqb, filter, map, refl, true, ◌++◌, None, Option, Some, Bool, not}
 use Rattle.std.specs.List.{list_any, flat_map, filter_map, list_all}
 use Rattle.iscsi_wire.specs.Serial.{wire}
 use Rattle.iscsi_history.specs.rules.Trace.{Mark, closes_conn, closes_session, Trace, has, is_closed, is_ended, Arrival, Empties, ClosesConn, ClosesSession, sent_on, Command, Leaves, waiting_through}
@@ -31,10 +31,7 @@ closes-more m ms c cs = record {
 -- each connection of the session is open
 pub all_open : (o : Setting) (cs : List (ℕ × ℕ)) → ((cid : ℕ) → is_known cid cs ≡ true → is_known cid o.conns ≡ true) → filter (is_open o []) (map (λ (c : ℕ × ℕ). c.0) cs) ≡ map (λ (c : ℕ × ℕ). c.0) cs
 all_open o [] within = refl
-all_open o (c ∷ cs) within =
-    let rest : List ℕ = filter (is_open o []) (map (λ (d : ℕ × ℕ). d.0) cs) in
-    ap (λ b. cond (b && true) (c.0 ∷ rest) rest) (within c.0 (ap (λ b. b || is_known c.0 cs) (eq-eqb c.0 c.0 refl)))
-    ∙ ap (λ ds. c.0 ∷ ds) (all_open o cs (λ cid known. within cid (or_second (c.0 == cid) (is_known cid cs) known)))
+all_open o (c ∷ cs) within = grind (arith, all_open o cs)
 
 -- ---- the marks of a Logout
 
@@ -49,21 +46,13 @@ closing_marks o t a (Some closing) = parting a 0 ++ ClosesConn closing ∷ cond 
 
 pub untouched-closing : (o : Setting) (t : Trace) (a : Arrival) (scope : Option ℕ) → Untouched (closing_marks o t a scope)
 untouched-closing o t a None = record { enters_none = refl; leaves_no = λ k. refl }
-untouched-closing o t a (Some closing) =
-    elim (is_last_open o t closing) as (λ b. Untouched (parting a 0 ++ ClosesConn closing ∷ cond b (ClosesSession ∷ []) [])) [
-      | true ↦ record { enters_none = refl; leaves_no = λ k. refl }
-      | false ↦ record { enters_none = refl; leaves_no = λ k. refl }
-    ]
+untouched-closing o t a (Some closing) = grind arith
 
 -- ---- the marks that close something
 
 pub quiet-closing : (o : Setting) (t : Trace) (a : Arrival) (scope : Option ℕ) → IsQuiet (closing_marks o t a scope)
 quiet-closing o t a None = record { receives = refl; admits = λ n. refl; delivers_none = refl; delivers_no = λ n. refl; empties_no = λ n. refl }
-quiet-closing o t a (Some closing) = by_last (is_last_open o t closing)
-  where
-    by_last : (b : Bool) → IsQuiet (parting a 0 ++ ClosesConn closing ∷ (let ms : List Mark = cond b (ClosesSession ∷ []) [] in ms))
-    by_last true = record { receives = refl; admits = λ n. refl; delivers_none = refl; delivers_no = λ n. refl; empties_no = λ n. refl }
-    by_last false = record { receives = refl; admits = λ n. refl; delivers_none = refl; delivers_no = λ n. refl; empties_no = λ n. refl }
+quiet-closing o t a (Some closing) = grind arith
 
 -- ---- lists of such marks
 
@@ -113,15 +102,4 @@ nil_is (c ∷ cs) h = absurd (false≢true h)
 pub last_is : (o : Setting) (t : Trace) (closing : ℕ) (ds : List (ℕ × ℕ)) → ((k : ℕ) → is_known k ds ≡ true → is_known k o.conns ≡ true)
     → is_nil (filter (λ k. is_open o t k && not (k == closing)) (map (λ (d : ℕ × ℕ). d.0) ds)) ≡ list_all (λ d. (d.0 == closing) || is_closed d.0 t) ds
 last_is o t closing [] within = refl
-last_is o t closing (d ∷ ds) within =
-    let rest : List ℕ = filter (λ k. is_open o t k && not (k == closing)) (map (λ (x : ℕ × ℕ). x.0) ds) in
-    let later = last_is o t closing ds (λ k known. within k (or_second (d.0 == k) (is_known k ds) known)) in
-    ap (λ b. is_nil (cond ((b && not (is_closed d.0 t)) && not (d.0 == closing)) (d.0 ∷ rest) rest)) (within d.0 (ap (λ b. b || is_known d.0 ds) (eq-eqb d.0 d.0 refl)))
-    ∙ by_tests (d.0 == closing) (is_closed d.0 t) rest later
-  where
-    by_tests : (here closed : Bool) (rest : List ℕ) → is_nil rest ≡ list_all (λ x. (x.0 == closing) || is_closed x.0 t) ds
-        → is_nil (cond (not closed && not here) (d.0 ∷ rest) rest) ≡ ((here || closed) && list_all (λ x. (x.0 == closing) || is_closed x.0 t) ds)
-    by_tests true true rest later = later
-    by_tests true false rest later = later
-    by_tests false true rest later = later
-    by_tests false false rest later = refl
+last_is o t closing (d ∷ ds) within = grind (arith, last_is o t closing ds)

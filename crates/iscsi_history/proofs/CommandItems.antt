@@ -60,17 +60,7 @@ are_all_in unit out cs = list_all (λ c. not (out c.ticket) || (c.unit == unit))
 
 elsewhere_kept : (out : ℕ → Bool) (unit other : ℕ) (cs : List Command) → are_all_in unit out cs ≡ true → (other == unit) ≡ false → filter (λ c. not (out c.ticket)) (filter (λ c. c.unit == other) cs) ≡ filter (λ c. c.unit == other) cs
 elsewhere_kept out unit other [] all elsewhere = refl
-elsewhere_kept out unit other (x ∷ cs) all elsewhere =
-    let parts = and_parts (not (out x.ticket) || (x.unit == unit)) (are_all_in unit out cs) all in
-    let away : Command → Bool = λ c. not (out c.ticket) in
-    let rest : filter away (filter (λ c. c.unit == other) cs) ≡ filter (λ c. c.unit == other) cs = elsewhere_kept out unit other cs parts.1 elsewhere in
-    elim (x.unit == other) as (λ b. (x.unit == other) ≡ b → filter away (cond b (x ∷ filter (λ c. c.unit == other) cs) (filter (λ c. c.unit == other) cs)) ≡ cond b (x ∷ filter (λ c. c.unit == other) cs) (filter (λ c. c.unit == other) cs)) [
-      | true ↦ λ is.
-          let outside : (x.unit == unit) ≡ false = ap (λ n. n == unit) (eqb-true x.unit other is) ∙ elsewhere in
-          let stays : not (out x.ticket) ≡ true = sym (or_false (not (out x.ticket))) ∙ ap (λ b. not (out x.ticket) || b) (sym outside) ∙ parts.0 in
-          ap (λ b. cond b (x ∷ filter away (filter (λ c. c.unit == other) cs)) (filter away (filter (λ c. c.unit == other) cs))) stays ∙ ap (λ ds. x ∷ ds) rest
-      | false ↦ λ is. rest
-    ] refl
+elsewhere_kept out unit other (x ∷ cs) all elsewhere = grind (arith, elsewhere_kept out unit other cs)
 
 pub live_in-left_elsewhere : (item : List Mark) (t : Trace) (out : ℕ → Bool) (unit : ℕ) → LeavesSome item out → are_all_in unit out (live t) ≡ true → (other : ℕ) → (other == unit) ≡ false → live_in other (item ∷ t) ≡ live_in other t
 live_in-left_elsewhere item t out unit l all other elsewhere = live_in-left item t out other l ∙ elsewhere_kept out unit other (live t) all elsewhere
@@ -80,15 +70,11 @@ live_in-left_elsewhere item t out unit l all other elsewhere = live_in-left item
 -- where no command has the ticket, none that also passes a test has it
 none_with : (w : Command → Bool) (k : ℕ) (cs : List Command) → is_among k cs ≡ false → filter (λ c. c.ticket == k && w c) cs ≡ []
 none_with w k [] h = refl
-none_with w k (c ∷ cs) h =
-    let parts = or_none (c.ticket == k) (is_among k cs) h in
-    ap (λ b. cond (b && w c) (c ∷ filter (λ d. d.ticket == k && w d) cs) (filter (λ d. d.ticket == k && w d) cs)) parts.0 ∙ none_with w k cs parts.1
+none_with w k (c ∷ cs) h = grind (arith, none_with w k cs)
 
 pub none_any : (w : Command → Bool) (k : ℕ) (cs : List Command) → is_among k cs ≡ false → list_any (λ c. c.ticket == k && w c) cs ≡ false
 none_any w k [] h = refl
-none_any w k (c ∷ cs) h =
-    let parts = or_none (c.ticket == k) (is_among k cs) h in
-    ap (λ b. (b && w c) || list_any (λ d. d.ticket == k && w d) cs) parts.0 ∙ none_any w k cs parts.1
+none_any w k (c ∷ cs) h = grind (arith, none_any w k cs)
 
 -- the one command with the ticket passes, or none
 pub first_passing : (w : Command → Bool) (k : ℕ) (cs : List Command) (c : Command) → are_apart cs ≡ true → first_of (filter (λ d. d.ticket == k) cs) ≡ Some c
@@ -126,22 +112,13 @@ first_passing w k (x ∷ cs) c apart found =
 
 pub none_passing : (w : Command → Bool) (k : ℕ) (cs : List Command) → first_of (filter (λ d. d.ticket == k) cs) ≡ None → first_of (filter (λ d. d.ticket == k && w d) cs) ≡ None
 none_passing w k [] none = refl
-none_passing w k (x ∷ cs) none =
-    elim (x.ticket == k) as (λ b. first_of (cond b (x ∷ filter (λ d. d.ticket == k) cs) (filter (λ d. d.ticket == k) cs)) ≡ None → first_of (cond (b && w x) (x ∷ filter (λ d. d.ticket == k && w d) cs) (filter (λ d. d.ticket == k && w d) cs)) ≡ None) [
-      | true ↦ λ h. absurd cc
-      | false ↦ λ h. none_passing w k cs h
-    ] none
+none_passing w k (x ∷ cs) none = grind (arith, none_passing w k cs)
 
 -- ---- a completion
 
 pub first_passes : (p q : Command → Bool) (cs : List Command) (c : Command) → list_all q cs ≡ true → first_of (filter p cs) ≡ Some c → q c ≡ true
 first_passes p q [] c all found = absurd cc
-first_passes p q (x ∷ cs) c all found =
-    let parts = and_parts (q x) (list_all q cs) all in
-    elim (p x) as (λ b. first_of (cond b (x ∷ filter p cs) (filter p cs)) ≡ Some c → q c ≡ true) [
-      | true ↦ λ here. let same : x ≡ c = cc in ap q (sym same) ∙ parts.0
-      | false ↦ λ later. first_passes p q cs c parts.1 later
-    ] found
+first_passes p q (x ∷ cs) c all found = grind (arith, first_passes p q cs c)
 
 abbrev pub completion_item : Command → ℕ → List Mark
 completion_item c status = Leaves c ∷ reply_on c.arrival (Scsi (itt c.arrival.request) status (sense_of_status status))
@@ -188,11 +165,7 @@ any_in_units p n (x ∷ cs) inside =
 
 pub leaves_only : (cs : List Command) (ms : List Mark) (k : ℕ) → list_any (leaves_ticket k) (map Leaves cs ++ ms) ≡ (is_among k cs || list_any (leaves_ticket k) ms)
 leaves_only [] ms k = refl
-leaves_only (c ∷ cs) ms k = ap (λ b. (c.ticket == k) || b) (leaves_only cs ms k) ∙ assoc (c.ticket == k) (is_among k cs) (list_any (leaves_ticket k) ms)
-  where
-    assoc : (a b d : Bool) → (a || (b || d)) ≡ ((a || b) || d)
-    assoc true b d = refl
-    assoc false b d = refl
+leaves_only (c ∷ cs) ms k = grind (arith, leaves_only cs ms k)
 
 pub enters_only : (cs : List Command) (ms : List Mark) → filter_map enters (map Leaves cs ++ ms) ≡ filter_map enters ms
 enters_only [] ms = refl
@@ -202,9 +175,7 @@ enters_only (c ∷ cs) ms = enters_only cs ms
 
 pub quiet-leaving : (cs : List Command) (a : Arrival) (reply : Reply) → IsQuiet (map Leaves cs ++ reply_on a reply)
 quiet-leaving [] a reply = record { receives = refl; admits = λ n. refl; delivers_none = refl; delivers_no = λ n. refl; empties_no = λ n. refl }
-quiet-leaving (c ∷ cs) a reply =
-    let q : IsQuiet (map Leaves cs ++ reply_on a reply) = quiet-leaving cs a reply in
-    record { receives = q.receives; admits = λ n. q.admits n; delivers_none = q.delivers_none; delivers_no = λ n. q.delivers_no n; empties_no = λ n. q.empties_no n }
+quiet-leaving (c ∷ cs) a reply = grind (arith, quiet-leaving cs a reply)
 
 pub leaving-enters : (cs : List Command) (a : Arrival) (reply : Reply) → filter_map enters (map Leaves cs ++ reply_on a reply) ≡ []
 leaving-enters [] a reply = refl

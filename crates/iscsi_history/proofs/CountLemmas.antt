@@ -83,11 +83,7 @@ among_counted k (c ∷ cs) h = by_test (c.ticket == k) (sum_by-cons (λ (x : Com
 
 pub counted_among : (k : ℕ) (cs : List Command) → 1 ≤ count_by (λ (c : Command). c.ticket == k) cs → is_among k cs ≡ true
 counted_among k [] h = absurd (omega arith)
-counted_among k (c ∷ cs) h = by_test (c.ticket == k) (sum_by-cons (λ (x : Command). cond (x.ticket == k) 1 0) c cs) (counted_among k cs)
-  where
-    by_test : (v : Bool) → count_by (λ (x : Command). x.ticket == k) (c ∷ cs) ≡ cond v 1 0 + count_by (λ (x : Command). x.ticket == k) cs → (1 ≤ count_by (λ (x : Command). x.ticket == k) cs → is_among k cs ≡ true) → (v || is_among k cs) ≡ true
-    by_test true all rest = refl
-    by_test false all rest = rest (omega arith)
+counted_among k (c ∷ cs) h = grind (arith, counted_among k cs)
 
 -- ---- one element after the other
 
@@ -108,12 +104,7 @@ count_set p (y ∷ ps) (suc k) x d lt before now =
 
 pub at_most : {A : Type 0} (p : A → Bool) (ys : List A) → length (filter (λ z. not (p z)) ys) ≤ length ys
 at_most p [] = omega arith
-at_most p (z ∷ ys) =
-    let rest : length (filter (λ w. not (p w)) ys) ≤ length ys = at_most p ys in
-    elim (p z) as (λ b. length (cond (not b) (z ∷ filter (λ w. not (p w)) ys) (filter (λ w. not (p w)) ys)) ≤ suc (length ys)) [
-      | true ↦ omega (arith, rest)
-      | false ↦ omega (arith, rest)
-    ]
+at_most p (z ∷ ys) = grind (arith, at_most p ys)
 
 -- at least one command fewer
 pub fewer : {A : Type 0} (p : A → Bool) (xs : List A) (x : A) → find p xs ≡ Some x → length (filter (λ y. not (p y)) xs) + 1 ≤ length xs

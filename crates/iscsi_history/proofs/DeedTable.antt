@@ -15,15 +15,7 @@ use Rattle.iscsi_history.specs.promises.Aborts.{is_set_abort}
 
 -- the unit that a request names is one of the session's
 pub named_below : (units : ℕ) (r : Request) (u : ℕ) → unit_named units r ≡ Some u → u < units
-named_below units r u h = by_lun (unit_of (lun r)) h
-  where
-    by_lun : (x : Option ℕ) → elim x [ Some v ↦ cond (nat_lt v units) (Some v) None | None ↦ None ] ≡ Some u → u < units
-    by_lun None h = absurd cc
-    by_lun (Some v) h =
-        elim (nat_lt v units) as (λ b. nat_lt v units ≡ b → cond b (Some v) None ≡ Some u → u < units) [
-          | true ↦ λ is found. let same : v ≡ u = cc in let lt : v < units = grind (arith, nat_tests) in subst (λ w. w < units) same lt
-          | false ↦ λ is found. absurd cc
-        ] refl h
+named_below units r u h = grind arith
 
 -- ---- what is found where a request does this
 
@@ -60,15 +52,7 @@ module _ (f : Facts) (r : Request) where
   says_other x other = λ set is. other is
 
   befits_abort : (unit : ℕ) → f.unit ≡ Some unit → (function r == 1) ≡ true → Befits f r (abort_deed f unit)
-  befits_abort unit named one = by_live f.live refl
-    where
-      by_held : (y : Option ℕ) → f.held ≡ y → Befits f r (elim y [ Some sn ↦ Empty unit sn | None ↦ cond f.is_missing Void (Replies (Respond 1)) ])
-      by_held (Some sn) is = (one, named, is)
-      by_held None is = cond_both f.is_missing _ _ (Befits f r) (λ missing. (one, missing)) (λ none. says_other (Respond 1) (λ e. cc))
-
-      by_live : (x : Option ℕ) → f.live ≡ x → Befits f r (elim x [ Some ticket ↦ Abort unit ticket | None ↦ elim f.held [ Some sn ↦ Empty unit sn | None ↦ cond f.is_missing Void (Replies (Respond 1)) ] ])
-      by_live (Some ticket) is = (one, named, is)
-      by_live None is = by_held f.held refl
+  befits_abort unit named one = grind arith
 
   -- an answer of a function that is no abort of a whole set
   says_query : (there : Bool) (n : ℕ) → (function r == n) ≡ true → (n == 2 || n == 4 || n == 5) ≡ false → Befits f r (query_deed there)
@@ -118,19 +102,7 @@ module _ (f : Facts) (r : Request) where
       by_refusal None is = befits
 
   befits_command : Befits f r (command_deed f r)
-  befits_command =
-      cond_both (itt r == NO_TAG) _ _ (Befits f r) (λ is. says_other (Reject 9) (λ e. cc)) (λ is.
-      cond_both (nat_lt 3 (attr_code r)) _ _ (Befits f r) (λ is. says_other (Reject 9) (λ e. cc)) (λ is.
-      cond_both f.is_used _ _ (Befits f r) (λ is. says_other (Reject 7) (λ e. cc)) (λ unused. by_unit unused f.unit refl)))
-    where
-      by_unit : f.is_used ≡ false → (x : Option ℕ) → f.unit ≡ x → Befits f r (elim x [
-        | Some unit ↦ cond f.is_crowded (Replies (Reject 6)) (cond f.is_full (Replies Full) (Enter unit))
-        | None ↦ Replies NoUnit
-      ])
-      by_unit unused None named = says_other NoUnit (λ e. cc)
-      by_unit unused (Some unit) named =
-          cond_both f.is_crowded _ _ (Befits f r) (λ is. says_other (Reject 6) (λ e. cc)) (λ uncrowded.
-          cond_both f.is_full _ _ (Befits f r) (λ is. says_other Full (λ e. cc)) (λ not_full. record { named = named; unused = unused; uncrowded = uncrowded; not_full = not_full }))
+  befits_command = grind arith
 
   pub befits_deed : Befits f r (deed_of f r)
   befits_deed =
@@ -151,21 +123,7 @@ module _ (f : Facts) (r : Request) where
 -- those of functions, which are answered by responses
 pub with_answers : (P : Deed → Type 0) (f : Facts) (r : Request) → P Nothing → ((n : ℕ) → P (Replies (Respond n))) → P Void → ((unit sn : ℕ) → P (Empty unit sn)) → ((unit ticket : ℕ) → P (Abort unit ticket))
     → ((unit : ℕ) → P (AbortEarlier unit)) → ((unit : ℕ) → P (AbortAll unit)) → P (function_deed f r)
-with_answers P f r nothing reply void empty abort earlier all = by_unit f.unit
-  where
-    by_found : (unit : ℕ) (x y : Option ℕ) (b : Bool) → P (elim x [ Some ticket ↦ Abort unit ticket | None ↦ elim y [ Some sn ↦ Empty unit sn | None ↦ cond b Void (Replies (Respond 1)) ] ])
-    by_found unit (Some ticket) y b = abort unit ticket
-    by_found unit None (Some sn) b = empty unit sn
-    by_found unit None None true = void
-    by_found unit None None false = reply 1
-
-    by_unit : (x : Option ℕ) → P (elim x [ Some unit ↦ unit_deed f r unit | None ↦ Nothing ])
-    by_unit None = nothing
-    by_unit (Some unit) =
-        cond_both (function r == 1) _ _ P (λ is. by_found unit f.live f.held f.is_missing) (λ is.
-        cond_both (function r == 5) _ _ P (λ is. all unit) (λ is.
-        cond_both (function r == 9) _ _ P (λ is. reply _) (λ is.
-        cond_both (function r == 10) _ _ P (λ is. reply _) (λ is. earlier unit))))
+with_answers P f r nothing reply void empty abort earlier all = grind arith
 
 pub through_function : (P : Deed → Type 0) (f : Facts) (r : Request) → P Nothing → ((x : Answer) → P (Replies x)) → P Void → ((unit sn : ℕ) → P (Empty unit sn)) → ((unit ticket : ℕ) → P (Abort unit ticket))
     → ((unit : ℕ) → P (AbortEarlier unit)) → ((unit : ℕ) → P (AbortAll unit)) → P (function_deed f r)

@@ -13,19 +13,11 @@ In x (y ∷ ys) = (y ≡ x) ⊎ In x ys
 
 pub in-filter : {A : Type 0} (p : A → Bool) (xs : List A) (x : A) → In x (filter p xs) → In x xs × (p x ≡ true)
 in-filter p [] x h = absurd h
-in-filter p (y ∷ ys) x h =
-    elim (p y) as (λ b. p y ≡ b → In x (cond b (y ∷ filter p ys) (filter p ys)) → In x (y ∷ ys) × (p x ≡ true)) [
-      | true ↦ λ is k. ⊎_elim (λ same. (inl same, ap p (sym same) ∙ is)) (λ later. let r = in-filter p ys x later in (inr r.0, r.1)) k
-      | false ↦ λ is k. let r = in-filter p ys x k in (inr r.0, r.1)
-    ] refl h
+in-filter p (y ∷ ys) x h = grind (arith, in-filter p ys x)
 
 pub filter-in : {A : Type 0} (p : A → Bool) (xs : List A) (x : A) → In x xs → p x ≡ true → In x (filter p xs)
 filter-in p [] x h passes = absurd h
-filter-in p (y ∷ ys) x h passes =
-    elim (p y) as (λ b. p y ≡ b → In x (cond b (y ∷ filter p ys) (filter p ys))) [
-      | true ↦ λ is. ⊎_elim (λ same. inl same) (λ later. inr (filter-in p ys x later passes)) h
-      | false ↦ λ is. ⊎_elim (λ same. absurd (false≢true (sym is ∙ ap p same ∙ passes))) (λ later. filter-in p ys x later passes) h
-    ] refl
+filter-in p (y ∷ ys) x h passes = grind (arith, filter-in p ys x)
 
 pub in-append : {A : Type 0} (xs ys : List A) (x : A) → In x (xs ++ ys) → In x xs ⊎ In x ys
 in-append [] ys x h = inr h
@@ -61,11 +53,7 @@ in-any p (y ∷ ys) x h passes = ⊎_elim (λ same. or_first (p y) (list_any p y
 -- std's word for it
 pub in-contains : {A : Type 0} (xs : List A) (x : A) → Contains xs x → In x xs
 in-contains [] x h = absurd (let none : h.0 < 0 = h.1 in omega arith)
-in-contains (y ∷ xs) x h = at h.0 h.1 h.2 (in-contains xs x)
-  where
-    at : (k : ℕ) → k < length (y ∷ xs) → get_or (y ∷ xs) k x ≡ x → (Contains xs x → In x xs) → In x (y ∷ xs)
-    at zero lt is later = inl is
-    at (suc k) lt is later = inr (later (k, (let z : k < length xs = omega arith in z), is))
+in-contains (y ∷ xs) x h = grind (arith, in-contains xs x)
 
 pub first-in : {A : Type 0} (xs : List A) (x : A) → first_of xs ≡ Some x → In x xs
 first-in [] x h = absurd cc

@@ -177,13 +177,7 @@ module _ (m : Mark) (ms : List Mark) (t : Trace) where
       by_first (Some x) = sym (append_assoc (shown view t) (x ∷ []) (filter_map view ms))
 
   pub has-joined : (test : Mark → Bool) → has test ((m ∷ ms) ∷ t) ≡ has test (ms ∷ (m ∷ []) ∷ t)
-  has-joined test = by_tests (test m) (list_any test ms) (has test t)
-    where
-      by_tests : (a b c : Bool) → ((a || b) || c) ≡ (b || ((a || false) || c))
-      by_tests true true c = refl
-      by_tests true false c = refl
-      by_tests false true c = refl
-      by_tests false false c = refl
+  has-joined test = grind arith
 
   pub joined-same : SameNumbers (ms ∷ (m ∷ []) ∷ t) ((m ∷ ms) ∷ t)
   joined-same = record {

@@ -17,13 +17,7 @@ use Rattle.iscsi_history.proofs.ListLemmas.{any_all}
 use Rattle.iscsi_history.proofs.CommandItems.{LeavesSome, live-left, none_any}
 
 pub was_before : (c : Command) (item : List Mark) (t : Trace) → (was_free c t || was_free c (item ∷ t)) ≡ was_free c (item ∷ t)
-was_before c item t = absorb (was_free c t) (is_free_at c (item ∷ t))
-  where
-    absorb : (a b : Bool) → (a || (b || a)) ≡ (b || a)
-    absorb true true = refl
-    absorb true false = refl
-    absorb false true = refl
-    absorb false false = refl
+was_before c item t = grind arith
 
 flat_map-one : {A : Type 0} (f : ℕ → List A) (from n k : ℕ) → from ≤ k → k < from + n → ((j : ℕ) → (j == k) ≡ false → f j ≡ []) → flat_map f (range_with_len from n) ≡ f k
 flat_map-one f from zero k low high none = absurd (omega arith)
@@ -134,30 +128,12 @@ exact-untouched o item t u x k =
 -- those with other tickets don't matter
 any_without : (w : Command → Bool) (out : ℕ → Bool) (k : ℕ) (cs : List Command) → out k ≡ false → list_any (λ d. d.ticket == k && w d) (filter (λ d. not (out d.ticket)) cs) ≡ list_any (λ d. d.ticket == k && w d) cs
 any_without w out k [] stays = refl
-any_without w out k (x ∷ cs) stays =
-    let away : List Command = filter (λ d. not (out d.ticket)) cs in
-    elim (x.ticket == k) as (λ b. (x.ticket == k) ≡ b → list_any (λ d. d.ticket == k && w d) (filter (λ d. not (out d.ticket)) (x ∷ cs)) ≡ ((b && w x) || list_any (λ d. d.ticket == k && w d) cs)) [
-      | true ↦ λ is.
-          ap (λ b. list_any (λ d. d.ticket == k && w d) (cond (not b) (x ∷ away) away)) (ap out (eqb-true x.ticket k is) ∙ stays)
-          ∙ ap (λ b. (b && w x) || list_any (λ d. d.ticket == k && w d) away) is ∙ ap (λ b. w x || b) (any_without w out k cs stays)
-      | false ↦ λ is. elim (out x.ticket) as (λ b. list_any (λ d. d.ticket == k && w d) (cond (not b) (x ∷ away) away) ≡ list_any (λ d. d.ticket == k && w d) cs) [
-        | true ↦ any_without w out k cs stays
-        | false ↦ ap (λ b. (b && w x) || list_any (λ d. d.ticket == k && w d) away) is ∙ any_without w out k cs stays
-      ]
-    ] refl
+any_without w out k (x ∷ cs) stays = grind (arith, any_without w out k cs)
 
 -- those with the ticket are gone
 none_gone : (out : ℕ → Bool) (k : ℕ) (cs : List Command) → out k ≡ true → is_among k (filter (λ d. not (out d.ticket)) cs) ≡ false
 none_gone out k [] goes = refl
-none_gone out k (x ∷ cs) goes =
-    let away : List Command = filter (λ d. not (out d.ticket)) cs in
-    elim (x.ticket == k) as (λ b. (x.ticket == k) ≡ b → is_among k (filter (λ d. not (out d.ticket)) (x ∷ cs)) ≡ false) [
-      | true ↦ λ is. ap (λ b. is_among k (cond (not b) (x ∷ away) away)) (ap out (eqb-true x.ticket k is) ∙ goes) ∙ none_gone out k cs goes
-      | false ↦ λ is. elim (out x.ticket) as (λ b. is_among k (cond (not b) (x ∷ away) away) ≡ false) [
-        | true ↦ none_gone out k cs goes
-        | false ↦ ap (λ b. b || is_among k away) is ∙ none_gone out k cs goes
-      ]
-    ] refl
+none_gone out k (x ∷ cs) goes = grind (arith, none_gone out k cs)
 
 exact-left : (o : Setting) (item : List Mark) (t : Trace) (out : ℕ → Bool) → LeavesSome item out → list_all (λ d. nat_lt d.unit o.units) (live (item ∷ t)) ≡ true → Exact o t → Exact o (item ∷ t)
 exact-left o item t out l regular x k =

@@ -1,5 +1,5 @@
 -- What has become of a number: a received one has one fate, and any other none.
-use Rattle.std.proofs.Common.{◌≡◌, ℕ, ◌==◌, ◌||◌, inl, inr, cond, Bool, true, false, List, [], ◌∷◌, ◌++◌, map, count_by, Option, Some, None, is_some, refl, ap, sym, subst, ◌∙◌}
+use Rattle.std.proofs.Common.{arith, ◌≡◌, ℕ, ◌==◌, ◌||◌, inl, inr, cond, Bool, true, false, List, [], ◌∷◌, ◌++◌, map, count_by, Option, Some, None, is_some, refl, ap, sym, subst, ◌∙◌}
 use Rattle.std.specs.List.{list_any, filter_map, cons_option}
 use Rattle.std.proofs.lemmas.Bool.{false≢true, eqb-true}
 use Rattle.std.proofs.lemmas.List.{append-nil}
@@ -70,8 +70,7 @@ admitted-first t n item a new here = ap (λ xs. first_of (xs ++ filter_map (admi
 
 -- it is held as before, where the item neither takes it out nor delivers it
 pub held-kept : (t : Trace) (n : ℕ) (item : List Mark) → list_any (empties_number n) item ≡ false → list_any (delivers_number n) item ≡ false → filter_map (admits_at n) item ≡ [] → held (item ∷ t) n ≡ held t n
-held-kept t n item unemptied undelivered none =
-    held_by (item ∷ t) n (is_emptied t n) (is_delivered t n) (admitted t n) (ap (λ b. b || is_emptied t n) unemptied) (ap (λ b. b || is_delivered t n) undelivered) (admitted-same t n item none)
+held-kept t n item unemptied undelivered none = grind arith
 
 -- an item joins its facts to those of before
 joined : (t : Trace) (n : ℕ) (item : List Mark) (r v e d r' v' e' d' : Bool) (as' : List Arrival) (h x : Option Arrival) → NumberIs t n r v e d h → ItemAt n item r' v' e' d' as' → held (item ∷ t) n ≡ x
@@ -147,11 +146,7 @@ record TakenOut (n : ℕ) (bs : List Arrival) : Type 0 where
 
 taken_at : (n : ℕ) (bs : List Arrival) → list_any (λ (b : Arrival). b.number == n) bs ≡ true → TakenOut n bs
 taken_at n [] h = absurd (false≢true h)
-taken_at n (b ∷ bs) h = by_test (b.number == n) refl (taken_at n bs) h
-  where
-    by_test : (v : Bool) → (b.number == n) ≡ v → (list_any (λ (x : Arrival). x.number == n) bs ≡ true → TakenOut n bs) → (v || list_any (λ (x : Arrival). x.number == n) bs) ≡ true → TakenOut n (b ∷ bs)
-    by_test true is later k = record { request = b; there = inl refl; number = eqb-true b.number n is }
-    by_test false is later k = let rest : TakenOut n bs = later k in record { request = rest.request; there = inr rest.there; number = rest.number }
+taken_at n (b ∷ bs) h = grind (arith, taken_at n bs)
 
 -- what is held once a request executes was held before, at another number
 record HeldBefore (t : Trace) (n : ℕ) (start : Start) (a b : Arrival) : Type 0 where
@@ -159,11 +154,7 @@ record HeldBefore (t : Trace) (n : ℕ) (start : Start) (a b : Arrival) : Type 0
   apart : delivered_at n start a ≡ false
 
 held_before : (t : Trace) (n : ℕ) (start : Start) (a b : Arrival) → held (begun start a t) n ≡ Some b → HeldBefore t n start a b
-held_before t n AtTurn a b h = by_test (a.number == n) refl
-  where
-    by_test : (v : Bool) → (a.number == n) ≡ v → HeldBefore t n AtTurn a b
-    by_test true is = absurd (none_some b (sym (held_by (begun AtTurn a t) n (is_emptied t n) true (admitted (begun AtTurn a t) n) refl (ap (λ x. (x || false) || is_delivered t n) is) refl) ∙ h))
-    by_test false is = record { before = sym (held-kept t n (Delivers a ∷ []) refl (ap (λ x. x || false) is) refl) ∙ h; apart = ap (λ x. x || false) is }
+held_before t n AtTurn a b h = grind arith
 held_before t n start a b h = record { before = sym (held-kept t n (Executes a ∷ []) refl refl refl) ∙ h; apart = refl }
 
 -- a request that is delivered was held
@@ -213,12 +204,7 @@ fate o n (item ∷ t) next x =
 
 -- counted: one fate of a received number, none of any other
 counted : (t : Trace) (n : ℕ) (r v e d : Bool) (h : Option Arrival) → NumberIs t n r v e d h → count_by (λ b. b) (is_some h ∷ v ∷ e ∷ d ∷ []) ≡ cond r 1 0 → count_by (λ b. b) (fates_of t n) ≡ cond (is_received t n) 1 0
-counted t n r v e d h s is =
-    ap (λ b. count_by (λ x. x) (b ∷ has (voids_number n) t ∷ is_emptied t n ∷ is_delivered t n ∷ [])) (ap is_some s.holds)
-    ∙ ap (λ b. count_by (λ x. x) (is_some h ∷ b ∷ is_emptied t n ∷ is_delivered t n ∷ [])) s.voided
-    ∙ ap (λ b. count_by (λ x. x) (is_some h ∷ v ∷ b ∷ is_delivered t n ∷ [])) s.emptied
-    ∙ ap (λ b. count_by (λ x. x) (is_some h ∷ v ∷ e ∷ b ∷ [])) s.delivered
-    ∙ is ∙ sym (ap (λ b. cond b 1 0) s.received)
+counted t n r v e d h s is = grind arith
 
 pub one_fate : (t : Trace) (n : ℕ) → Fate t n → count_by (λ b. b) (fates_of t n) ≡ cond (is_received t n) 1 0
 one_fate t n (Unreceived s) = counted t n false false false false None s refl

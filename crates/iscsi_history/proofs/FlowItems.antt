@@ -77,12 +77,7 @@ split_last [] e (b ∷ before) after event is = absurd (two before (let z : [] �
     two [] z = cc
     two (x ∷ before) z = cc
 split_last (x ∷ h) e [] after event is = inr (h, cc)
-split_last (x ∷ h) e (b ∷ before) after event is =
-    let head : x ≡ b = cc in
-    let tail : h ++ e ∷ [] ≡ before ++ event ∷ after = cc in
-    ⊎_elim (λ last. inl (ap (λ es. b ∷ es) last.0 ∙ ap (λ y. y ∷ h) (sym head), last.1))
-    (λ inner. inr (inner.0, ap (λ es. x ∷ es) inner.1 ∙ ap (λ y. y ∷ before ++ event ∷ inner.0) head))
-    (split_last h e before after event tail)
+split_last (x ∷ h) e (b ∷ before) after event is = grind (arith, split_last h e before after event)
 
 pub FlowsThrough-push : (o : Setting) (h : List Event) (e : Event) → FlowsThrough o h → Flows o (trace_of o h) (trace_of o (h ++ e ∷ [])) → FlowsThrough o (h ++ e ∷ [])
 FlowsThrough-push o h e all now = λ before after event is.
@@ -93,6 +88,4 @@ FlowsThrough-push o h e all now = λ before after event is.
 -- so do the events with it
 pub belong_more : (o : Setting) (h : List Event) (e : Event) → list_all (belongs o) h ≡ true → belongs o e ≡ true → list_all (belongs o) (h ++ e ∷ []) ≡ true
 belong_more o [] e before here = and_both (belongs o e) true here refl
-belong_more o (d ∷ h) e before here =
-    let parts = and_parts (belongs o d) (list_all (belongs o) h) before in
-    and_both (belongs o d) (list_all (belongs o) (h ++ e ∷ [])) parts.0 (belong_more o h e parts.1 here)
+belong_more o (d ∷ h) e before here = grind (arith, belong_more o h e)

@@ -111,12 +111,7 @@ in-held_among t (n ∷ ns) b h = by_held (in-held_among t ns b) (held t n) refl 
 -- the connection that is closed with the last others
 known_last : (t : Trace) (closing k : ℕ) (conns : List (ℕ × ℕ)) → list_all (λ (c : ℕ × ℕ). (c.0 == closing) || is_closed c.0 t) conns ≡ true → is_known k conns ≡ true → ((k == closing) || is_closed k t) ≡ true
 known_last t closing k [] all known = absurd (false≢true known)
-known_last t closing k (c ∷ conns) all known =
-    let parts = and_parts ((c.0 == closing) || is_closed c.0 t) (list_all (λ (x : ℕ × ℕ). (x.0 == closing) || is_closed x.0 t) conns) all in
-    elim (c.0 == k) as (λ b. (c.0 == k) ≡ b → (b || is_known k conns) ≡ true → ((k == closing) || is_closed k t) ≡ true) [
-      | true ↦ λ is found. subst (λ n. ((n == closing) || is_closed n t) ≡ true) (eqb-true c.0 k is) parts.0
-      | false ↦ λ is found. known_last t closing k conns parts.1 found
-    ] refl known
+known_last t closing k (c ∷ conns) all known = grind (arith, known_last t closing k conns)
 
 pub record Does (o : Setting) (t : Trace) (start : Start) (a : Arrival) (ms : List Mark) : Type 0 where
   pub deeds : Deeds

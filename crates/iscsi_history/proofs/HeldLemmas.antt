@@ -24,11 +24,7 @@ first_of-append [] ys x h = inr h
 first_of-append (z ∷ xs) ys x h = inl h
 
 mark_number : (n : ℕ) (m : Mark) (a : Arrival) → admits_at n m ≡ Some a → a.number ≡ n
-mark_number n (Admits b) a h =
-    elim (b.number == n) as (λ v. (b.number == n) ≡ v → cond v (Some b) None ≡ Some a → a.number ≡ n) [
-      | true ↦ λ is found. let same : b ≡ a = cc in ap (λ (x : Arrival). x.number) (sym same) ∙ eqb-true b.number n is
-      | false ↦ λ is found. absurd cc
-    ] refl h
+mark_number n (Admits b) a h = grind arith
 mark_number n m a h = absurd cc
 
 pub first_of-cons : {A : Type 0} (x : Option A) (xs : List A) (y : A) → first_of (cons_option x xs) ≡ Some y → (x ≡ Some y) ⊎ (first_of xs ≡ Some y)
@@ -53,20 +49,11 @@ held-number t n a h =
 
 -- and was admitted
 pub admitted_of_held : (t : Trace) (n : ℕ) (a : Arrival) → held t n ≡ Some a → admitted t n ≡ Some a
-admitted_of_held t n a h =
-    elim (is_delivered t n || is_emptied t n) as (λ b. cond b None (admitted t n) ≡ Some a → admitted t n ≡ Some a) [
-      | true ↦ λ found. absurd cc
-      | false ↦ λ found. found
-    ] h
+admitted_of_held t n a h = grind arith
 
 -- and isn't taken out
 pub held_unemptied : (t : Trace) (n : ℕ) (a : Arrival) → held t n ≡ Some a → is_emptied t n ≡ false
-held_unemptied t n a h = by_tests (is_delivered t n) (is_emptied t n) h
-  where
-    by_tests : (d e : Bool) → cond (d || e) None (admitted t n) ≡ Some a → e ≡ false
-    by_tests true e found = absurd cc
-    by_tests false true found = absurd cc
-    by_tests false false found = refl
+held_unemptied t n a h = grind arith
 
 -- ---- one item more
 
@@ -94,8 +81,7 @@ held-turned t a ms n q apart =
 
 -- the request itself isn't held any more
 pub held-delivered : (t : Trace) (a : Arrival) (ms : List Mark) (n : ℕ) → a.number ≡ n → held ((Delivers a ∷ ms) ∷ t) n ≡ None
-held-delivered t a ms n here =
-    ap (λ b. cond (((b || list_any (delivers_number n) ms) || is_delivered t n) || is_emptied ((Delivers a ∷ ms) ∷ t) n) None (admitted ((Delivers a ∷ ms) ∷ t) n)) (eq-eqb a.number n here)
+held-delivered t a ms n here = grind arith
 
 pub request_at-turned : (t : Trace) (a : Arrival) (ms : List Mark) (n : ℕ) → IsQuiet ms → request_at ((Delivers a ∷ ms) ∷ t) n ≡ request_at t n
 request_at-turned t a ms n q =
@@ -105,12 +91,7 @@ request_at-turned t a ms n q =
 
 -- who is admitted after an admission
 pub admitted-cases : (t : Trace) (a : Arrival) (n : ℕ) (b : Arrival) → admitted ((Admits a ∷ []) ∷ t) n ≡ Some b → (admitted t n ≡ Some b) ⊎ (a ≡ b)
-admitted-cases t a n b h =
-    ⊎_elim (λ before. inl before) (λ now. inr (this (a.number == n) now)) (first_of-append (shown (admits_at n) t) (filter_map (admits_at n) (Admits a ∷ [])) b h)
-  where
-    this : (v : Bool) → first_of (cons_option (cond v (Some a) None) []) ≡ Some b → a ≡ b
-    this true h = cc
-    this false h = absurd cc
+admitted-cases t a n b h = grind arith
 
 -- ---- what is held was received
 
@@ -138,15 +119,7 @@ request_at-admits t a k apart = ap (λ x. cond (is_emptied t k) None (option_map
 
 -- what is held after an item that admits nothing was held before
 pub held_before : (item : List Mark) (t : Trace) (n : ℕ) (h : Arrival) → filter_map (admits_at n) item ≡ [] → held (item ∷ t) n ≡ Some h → held t n ≡ Some h
-held_before item t n h none found = by_tests (list_any (delivers_number n) item) (is_delivered t n) (list_any (empties_number n) item) (is_emptied t n)
-    (sym (ap (λ xs. cond (is_delivered (item ∷ t) n || is_emptied (item ∷ t) n) None (first_of (shown (admits_at n) t ++ xs))) none ∙ ap (λ xs. cond (is_delivered (item ∷ t) n || is_emptied (item ∷ t) n) None (first_of xs)) (append-nil (shown (admits_at n) t))) ∙ found)
-  where
-    by_tests : (d d' f f' : Bool) → cond ((d || d') || (f || f')) None (admitted t n) ≡ Some h → cond (d' || f') None (admitted t n) ≡ Some h
-    by_tests true d' f f' k = absurd cc
-    by_tests false true f f' k = absurd cc
-    by_tests false false true f' k = absurd cc
-    by_tests false false false true k = absurd cc
-    by_tests false false false false k = k
+held_before item t n h none found = grind arith
 
 -- ---- by what the window sees of a number
 

@@ -18,31 +18,16 @@ use Rattle.iscsi_history.proofs.TouchLemmas.{mine, entering_in, enters_form, Ent
 
 pub filter-swap : (p q : Command → Bool) (cs : List Command) → filter p (filter q cs) ≡ filter q (filter p cs)
 filter-swap p q [] = refl
-filter-swap p q (c ∷ cs) = by_tests (p c) (q c) refl refl (filter-swap p q cs)
-  where
-    by_tests : (a b : Bool) → p c ≡ a → q c ≡ b → filter p (filter q cs) ≡ filter q (filter p cs)
-        → filter p (cond b (c ∷ filter q cs) (filter q cs)) ≡ filter q (cond a (c ∷ filter p cs) (filter p cs))
-    by_tests true true i j rest = ap (λ v. cond v (c ∷ filter p (filter q cs)) (filter p (filter q cs))) i ∙ ap (λ ds. c ∷ ds) rest ∙ sym (ap (λ v. cond v (c ∷ filter q (filter p cs)) (filter q (filter p cs))) j)
-    by_tests true false i j rest = rest ∙ sym (ap (λ v. cond v (c ∷ filter q (filter p cs)) (filter q (filter p cs))) j)
-    by_tests false true i j rest = ap (λ v. cond v (c ∷ filter p (filter q cs)) (filter p (filter q cs))) i ∙ rest
-    by_tests false false i j rest = rest
+filter-swap p q (c ∷ cs) = grind (arith, filter-swap p q cs)
 
 -- no command has the ticket just where none is among them
 pub mine-none : (k : ℕ) (cs : List Command) → is_among k cs ≡ false → mine k cs ≡ []
 mine-none k [] h = refl
-mine-none k (c ∷ cs) h = by_test (c.ticket == k) h (mine-none k cs)
-  where
-    by_test : (b : Bool) → (b || is_among k cs) ≡ false → (is_among k cs ≡ false → mine k cs ≡ []) → cond b (c ∷ mine k cs) (mine k cs) ≡ []
-    by_test true h rest = absurd (false≢true (sym h))
-    by_test false h rest = rest h
+mine-none k (c ∷ cs) h = grind (arith, mine-none k cs)
 
 pub among-mine : (k : ℕ) (cs : List Command) → mine k cs ≡ [] → is_among k cs ≡ false
 among-mine k [] h = refl
-among-mine k (c ∷ cs) h = by_test (c.ticket == k) h (among-mine k cs)
-  where
-    by_test : (b : Bool) → cond b (c ∷ mine k cs) (mine k cs) ≡ [] → (mine k cs ≡ [] → is_among k cs ≡ false) → (b || is_among k cs) ≡ false
-    by_test true h rest = absurd cc
-    by_test false h rest = rest h
+among-mine k (c ∷ cs) h = grind (arith, among-mine k cs)
 
 pub mine-none_counted : (k : ℕ) (cs : List Command) → count_by (λ c. c.ticket == k) cs ≤ 0 → mine k cs ≡ []
 mine-none_counted k [] h = refl
@@ -134,11 +119,7 @@ other_unit : (item : List Mark) (t : Trace) (c : Command) (unit : ℕ) → (c.un
 other_unit item t c unit h = ap (λ b. filter (λ d. not (was_free d t)) (filter (λ d. was_free d (item ∷ t)) (cond b (c ∷ []) []))) h
 
 own_unit : (item : List Mark) (t : Trace) (c : Command) (unit : ℕ) → (c.unit == unit) ≡ true → newly_in item t (c ∷ []) unit ≡ cond (becomes_free item t c) (c ∷ []) []
-own_unit item t c unit h = ap (λ b. filter (λ d. not (was_free d t)) (filter (λ d. was_free d (item ∷ t)) (cond b (c ∷ []) []))) h ∙ by_tests (was_free c (item ∷ t)) (was_free c t) refl
-  where
-    by_tests : (a b : Bool) → was_free c t ≡ b → filter (λ d. not (was_free d t)) (cond a (c ∷ []) []) ≡ cond (a && not b) (c ∷ []) []
-    by_tests true b is = ap (λ v. cond (not v) (c ∷ []) []) is
-    by_tests false b is = refl
+own_unit item t c unit h = grind arith
 
 -- one command becomes enabled in its own unit alone
 one_unit_of : (item : List Mark) (t : Trace) (c : Command) (a n : ℕ) → a ≤ c.unit → c.unit < a + n → flat_map (newly_in item t (c ∷ [])) (range_with_len a n) ≡ cond (becomes_free item t c) (c ∷ []) []

@@ -314,10 +314,7 @@ module _ (o : Setting) (now : ℕ) (t : Trace) (next : ℕ) (x : HaveForms o nex
               (λ h. ⊎_elim (λ zeroth. inl zeroth) (λ later. inr (let z : length (entered t) + 1 < k = grind (arith, nat_tests, e.next) in z)) h)
 
 state_more : (o : Setting) (k : ℕ) (t : Trace) (next : ℕ) → HaveForms o next t → State o t k
-state_more o k [] next x = ToCome (record { not_yet = by_number (cases_eq k 0); unlive = refl; unleft = refl; shown = refl })
-  where
-    by_number : (k ≡ 0) ⊎ (k ≢ 0) → (k ≡ 0) ⊎ (0 < k)
-    by_number h = ⊎_elim (λ zeroth. inl zeroth) (λ apart. inr (let z : 0 < k = omega (arith, apart) in z)) h
+state_more o k [] next x = grind arith
 state_more o k (item ∷ t) next x =
     let f : HasForm o x.0 t item = x.1.1.0 in
     subst (λ i. State o (i ∷ t) k) (sym f.is) (other_enters o x.0 t _ x.1.1.1 f.form f.formed k (entering_in f.form) refl (entering_next o x.0 t f.form f.formed) (state_more o k t _ x.1.1.1))
@@ -326,11 +323,7 @@ state_more o k (item ∷ t) next x =
 
 state_life : (o : Setting) (t : Trace) (k : ℕ) → State o t k → is_life (life_of k (effects_so_far o t)) ≡ true
 state_life o t k (ToCome q) = ap is_life q.shown
-state_life o t k (Going g) = ap is_life g.shown ∙ by_test (was_free g.command t)
-  where
-    by_test : (b : Bool) → is_life (going_on g.command b) ≡ true
-    by_test true = ap (λ b. b && true) (eq-eqb g.command.unit g.command.unit refl)
-    by_test false = refl
+state_life o t k (Going g) = grind arith
 state_life o t k (Gone q) = q.shown
 
 -- the tickets that effects show as entering are those of the commands that entered

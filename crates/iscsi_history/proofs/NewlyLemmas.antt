@@ -18,9 +18,7 @@ use Rattle.iscsi_history.proofs.MomentLemmas.{free_now}
 
 pub filter_all : {A : Type 0} (f g : A → Bool) (p : A → Bool) (xs : List A) → list_all p xs ≡ true → ((x : A) → p x ≡ true → f x ≡ g x) → filter f xs ≡ filter g xs
 filter_all f g p [] all same = refl
-filter_all f g p (x ∷ xs) all same =
-    let parts = and_parts (p x) (list_all p xs) all in
-    ap (λ b. cond b (x ∷ filter f xs) (filter f xs)) (same x parts.0) ∙ ap (λ ys. cond (g x) (x ∷ ys) ys) (filter_all f g p xs parts.1 same)
+filter_all f g p (x ∷ xs) all same = grind (arith, filter_all f g p xs)
 
 pub filter-none : {A : Type 0} (f : A → Bool) (xs : List A) → ((x : A) → f x ≡ false) → filter f xs ≡ []
 filter-none f [] none = refl
@@ -28,18 +26,11 @@ filter-none f (x ∷ xs) none = ap (λ b. cond b (x ∷ filter f xs) (filter f x
 
 pub filter-twice : {A : Type 0} (f g : A → Bool) (xs : List A) → filter f (filter g xs) ≡ filter (λ x. g x && f x) xs
 filter-twice f g [] = refl
-filter-twice f g (x ∷ xs) =
-    elim (g x) as (λ b. filter f (cond b (x ∷ filter g xs) (filter g xs)) ≡ cond (b && f x) (x ∷ filter (λ y. g y && f y) xs) (filter (λ y. g y && f y) xs)) [
-      | true ↦ ap (λ ys. cond (f x) (x ∷ ys) ys) (filter-twice f g xs)
-      | false ↦ filter-twice f g xs
-    ]
+filter-twice f g (x ∷ xs) = grind (arith, filter-twice f g xs)
 
 pub both_all : {A : Type 0} (p q : A → Bool) (xs : List A) → list_all p xs ≡ true → list_all q xs ≡ true → list_all (λ x. p x && q x) xs ≡ true
 both_all p q [] h k = refl
-both_all p q (x ∷ xs) h k =
-    let a = and_parts (p x) (list_all p xs) h in
-    let b = and_parts (q x) (list_all q xs) k in
-    and_both (p x && q x) (list_all (λ y. p y && q y) xs) (and_both (p x) (q x) a.0 b.0) (both_all p q xs a.1 b.1)
+both_all p q (x ∷ xs) h k = grind (arith, both_all p q xs)
 
 -- ---- the live commands of a unit
 
@@ -135,14 +126,7 @@ is_new item t c = was_free c (item ∷ t) && not (was_free c t)
 
 pub any_or : {A : Type 0} (f g h : A → Bool) (xs : List A) → ((x : A) → f x ≡ (g x || h x)) → list_any f xs ≡ (list_any g xs || list_any h xs)
 any_or f g h [] same = refl
-any_or f g h (x ∷ xs) same = ap (λ b. b || list_any f xs) (same x) ∙ ap (λ b. (g x || h x) || b) (any_or f g h xs same) ∙ swap (g x) (h x) (list_any g xs) (list_any h xs)
-  where
-    swap : (a b c d : Bool) → ((a || b) || (c || d)) ≡ ((a || c) || (b || d))
-    swap true b c d = refl
-    swap false true true d = refl
-    swap false true false d = refl
-    swap false false true d = refl
-    swap false false false d = refl
+any_or f g h (x ∷ xs) same = grind (arith, any_or f g h xs)
 
 -- ---- what an item enables, of all units
 
@@ -153,10 +137,7 @@ any_never (x ∷ xs) = any_never xs
 -- some unit is that of the command, where it is one of the session's
 unit_among : (n from unit : ℕ) → from ≤ unit → unit < from + n → list_any (λ u. unit == u) (range_with_len from n) ≡ true
 unit_among zero from unit low high = absurd (omega arith)
-unit_among (suc n) from unit low high =
-    ⊎_elim (λ here. or_first (unit == from) (list_any (λ u. unit == u) (range_with_len (from + 1) n)) (eq-eqb unit from here))
-    (λ apart. or_second (unit == from) (list_any (λ u. unit == u) (range_with_len (from + 1) n)) (unit_among n (from + 1) unit (omega arith) (omega arith)))
-    (cases_eq unit from)
+unit_among (suc n) from unit low high = grind (arith, unit_among n (from + 1) unit)
 
 any_in_units : (n : ℕ) (g : Command → Bool) (cs : List Command) → list_all (λ d. nat_lt d.unit n) cs ≡ true → list_any (λ u. list_any (λ d. (d.unit == u) && g d) cs) (range_with_len 0 n) ≡ list_any g cs
 any_in_units n g [] all = any_never (range_with_len 0 n)
@@ -175,13 +156,7 @@ any_in_units n g (x ∷ cs) all =
     either false us h = any_same (λ u. (x.unit == u) && false) (λ u. false) us (λ u. and_false (x.unit == u)) ∙ any_never us
 
 pub was_or_new : (item : List Mark) (t : Trace) (d : Command) → was_free d (item ∷ t) ≡ (was_free d t || is_new item t d)
-was_or_new item t d = bools (is_free_at d (item ∷ t)) (was_free d t)
-  where
-    bools : (f g : Bool) → (f || g) ≡ (g || ((f || g) && not g))
-    bools true true = refl
-    bools true false = refl
-    bools false true = refl
-    bools false false = refl
+was_or_new item t d = grind arith
 
 -- the live commands that an item enables
 pub newly_among : (o : Setting) (item : List Mark) (t : Trace) (k : ℕ) → list_all (λ d. nat_lt d.unit o.units) (live (item ∷ t)) ≡ true → is_among k (newly_enabled o t item) ≡ list_any (λ d. d.ticket == k && is_new item t d) (live (item ∷ t))

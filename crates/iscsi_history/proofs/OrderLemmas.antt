@@ -30,15 +30,11 @@ record Rises (k : ℕ) (es : List Effect) : Type 0 where
 -- effects that a rank alone allows to begin with
 le_first : (k : ℕ) (es : List Effect) (n : ℕ) → list_all (λ e. nat_le k (rank e)) es ≡ true → never_falls (map rank es) ≡ true → n ≤ k → never_falls (n ∷ map rank es) ≡ true
 le_first k [] n from sorted low = refl
-le_first k (e ∷ es) n from sorted low =
-    let parts = and_parts (nat_le k (rank e)) (list_all (λ x. nat_le k (rank x)) es) from in
-    and_both (nat_le n (rank e)) (never_falls (map rank (e ∷ es))) (let z : nat_le n (rank e) ≡ true = grind (arith, nat_tests) in z) sorted
+le_first k (e ∷ es) n from sorted low = grind arith
 
 weaker_from : (j k : ℕ) (es : List Effect) → j ≤ k → list_all (λ e. nat_le k (rank e)) es ≡ true → list_all (λ e. nat_le j (rank e)) es ≡ true
 weaker_from j k [] low from = refl
-weaker_from j k (e ∷ es) low from =
-    let parts = and_parts (nat_le k (rank e)) (list_all (λ x. nat_le k (rank x)) es) from in
-    and_both (nat_le j (rank e)) (list_all (λ x. nat_le j (rank x)) es) (let z : nat_le j (rank e) ≡ true = grind (arith, nat_tests) in z) (weaker_from j k es low parts.1)
+weaker_from j k (e ∷ es) low from = grind (arith, weaker_from j k es)
 
 rises-on : (j k : ℕ) (es : List Effect) → j ≤ k → Rises k es → Rises j es
 rises-on j k es low r = record {
@@ -127,12 +123,7 @@ rises_reply_of o t conn (Some reply) ms rest r = rises_reply conn _ reply _ r
 -- ---- items
 
 in_order : (k : ℕ) (es : List Effect) → Rises k es → IsInOrder es
-in_order k es r = record {
-  kinds = r.sorted;
-  one_request = (let z : count_by is_request es ≤ 1 = grind (arith, nat_tests, r.requests) in z);
-  one_reply = (let z : count_by is_reply es ≤ 1 = grind (arith, nat_tests, r.replies) in z);
-  alone = λ h. absurd (false≢true (sym r.unignored ∙ h));
-}
+in_order k es r = grind arith
 
 rises_done : (o : Setting) (t : Trace) (a : Arrival) (d : Deeds) (rest : List Effect) → Rises 8 rest → Rises 1 (flat_map (effects_of_mark o t) (marks_done a d) ++ rest)
 rises_done o t a d rest r =

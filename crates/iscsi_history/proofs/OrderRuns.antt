@@ -53,9 +53,7 @@ unasked_rank e h = refl
 
 none_asked : (n : ℕ) (es : List Effect) → 1 ≤ n → list_all (λ e. nat_le n (rank e)) es ≡ true → Unasked es
 none_asked n [] low h = refl
-none_asked n (e ∷ es) low h =
-    let parts = and_parts (nat_le n (rank e)) (list_all (λ x. nat_le n (rank x)) es) h in
-    ap (λ b. b || list_any is_request es) (asked_rank e (let z : nat_le 1 (rank e) ≡ true = grind (arith, nat_tests) in z)) ∙ none_asked n es low parts.1
+none_asked n (e ∷ es) low h = grind (arith, none_asked n es)
 
 none_counted : (es : List Effect) → count_by is_request es ≤ 0 → Unasked es
 none_counted [] h = refl

@@ -85,15 +85,7 @@ all_none p (suc n) h = ap (λ b. b && list_all p (replicate n None)) h ∙ all_n
 -- ---- the first place that passes
 
 pub position-cons : {A : Type 0} (p : A → Bool) (x : A) (xs : List A) → position p (x ∷ xs) ≡ cond (p x) (Some 0) (option_map suc (position p xs))
-position-cons p x xs =
-    let k : ℕ = position_or_len p xs in
-    elim (p x) as (λ b. cond (nat_lt (cond (not b) (1 + k) 0) (suc (length xs))) (Some (cond (not b) (1 + k) 0)) None ≡ cond b (Some 0) (option_map suc (position p xs))) [
-      | true ↦ ap (λ b. cond b (Some 0) None) (lt-ltb 0 (suc (length xs)) (omega arith))
-      | false ↦ ⊎_elim
-          (λ lt. ap (λ b. cond b (Some (1 + k)) None) (lt-ltb (1 + k) (suc (length xs)) (omega arith)) ∙ ap (λ (n : ℕ). Some n) (let z : 1 + k ≡ suc k = omega arith in z) ∙ sym (ap (λ b. option_map suc (cond b (Some k) None)) (lt-ltb k (length xs) lt)))
-          (λ ge. ap (λ b. cond b (Some (1 + k)) None) (le-ltb (1 + k) (suc (length xs)) (omega arith)) ∙ sym (ap (λ b. option_map suc (cond b (Some k) None)) (le-ltb k (length xs) ge)))
-          (cases_lt k (length xs))
-    ]
+position-cons p x xs = grind arith
 
 pub found_there : {A : Type 0} (p : A → Bool) (xs : List A) (k : ℕ) (d : A) → position p xs ≡ Some k → find p xs ≡ Some (get_or xs k d)
 found_there p [] k d h = absurd cc
@@ -109,12 +101,4 @@ found_there p (x ∷ xs) k d h =
 
 pub found_nowhere : {A : Type 0} (p : A → Bool) (xs : List A) → position p xs ≡ None → find p xs ≡ None
 found_nowhere p [] h = refl
-found_nowhere p (x ∷ xs) h =
-    elim (p x) as (λ b. cond b (Some 0) (option_map suc (position p xs)) ≡ None → cond b (Some x) (find p xs) ≡ None) [
-      | true ↦ λ here. absurd cc
-      | false ↦ λ there. later (position p xs) (λ is. found_nowhere p xs is) there
-    ] (sym (position-cons p x xs) ∙ h)
-  where
-    later : (y : Option ℕ) → (y ≡ None → find p xs ≡ None) → option_map suc y ≡ None → find p xs ≡ None
-    later None found said = found refl
-    later (Some j) found said = absurd cc
+found_nowhere p (x ∷ xs) h = grind (arith, found_nowhere p xs)

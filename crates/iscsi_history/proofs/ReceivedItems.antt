@@ -1,5 +1,5 @@
 -- Which numbers an event and its items receive: none, or one.
-use Rattle.std.proofs.Common.{Bool, List, ℕ, [], ◌∷◌, ◌≡◌, ◌⊎◌, ◌++◌, refl, ◌&&◌, cond, false, inl, inr, true, ap, None, Option, Some, ◌==◌, ◌∙◌, sym, subst, ◌||◌}
+use Rattle.std.proofs.Common.{arith, Bool, List, ℕ, [], ◌∷◌, ◌≡◌, ◌⊎◌, ◌++◌, refl, ◌&&◌, cond, false, inl, inr, true, ap, None, Option, Some, ◌==◌, ◌∙◌, sym, subst, ◌||◌}
 use Rattle.std.specs.List.{filter_map, list_all}
 use Rattle.std.proofs.lemmas.Bool.{eqb-true, false≢true}
 use Rattle.std.proofs.lemmas.List.{append-nil}
@@ -55,13 +55,7 @@ one_received form = inl refl
 
 -- a function that waits is no ABORT TASK
 pub no_abort_task : (r : Request) → may_wait r ≡ true → (function r == 1) ≡ false
-no_abort_task r may = elim (function r == 1) as (λ b. (function r == 1) ≡ b → b ≡ false) [
-  | true ↦ λ is. absurd (false≢true (sym (none (eqb-true (function r) 1 is)) ∙ may))
-  | false ↦ λ is. refl
-] refl
-  where
-    none : function r ≡ 1 → may_wait r ≡ false
-    none is = ap (λ f. is_immediate r && (f == 2 || f == 4 || f == 5)) is ∙ and_false (is_immediate r)
+no_abort_task r may = grind arith
 
 pub function_receives_none : (o : Setting) (t : Trace) (a : Arrival) → may_wait a.request ≡ true → received_by (function_item o t a) ≡ []
 function_receives_none o t a may =
@@ -96,9 +90,7 @@ ignored_receives t items why is = inl (ap (λ (is : List (List Mark)). received 
 
 -- it is numbered
 pub is_numbered_arrival : (o : Setting) (index : ℕ) (t : Trace) (r : Request) → kind_of r ≡ ExecutesKind → is_immediate r ≡ false → arrival_open o t (arrival_of o index t r) ≡ numbered o t (arrival_of o index t r)
-is_numbered_arrival o index t r kind numbered_is =
-    let a : Arrival = arrival_of o index t r in
-    ap (arrival_as o t a) kind ∙ ap (λ b. cond b (with_turns o t (immediate_item o t a)) (numbered o t a)) numbered_is
+is_numbered_arrival o index t r kind numbered_is = grind arith
 
 -- ---- the functions of the next number
 

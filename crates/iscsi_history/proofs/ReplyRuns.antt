@@ -21,17 +21,7 @@ aborted_in _ = []
 
 -- a request that executes is answered, or its command enters
 done_once : (o : Setting) (t : Trace) (v : ℕ) (start : Start) (a : Arrival) (d : Deeds) → IsDone o t start a d → answers_of v (Executed start a d) + count_by (comes_of v) (to_list d.entering) ≤ one (is_of v a)
-done_once o t v start a d x = by_entering d.entering d.reply refl x.enters
-  where
-    none_sent : (b : Bool) → cond b (length (to_list {B = Reply} None)) 0 ≡ 0
-    none_sent true = refl
-    none_sent false = refl
-
-    by_entering : (e : Option Command) (r : Option Reply) → d.reply ≡ r → Each (EntersAs o t a d) e → cond (is_of v a) (length (to_list r)) 0 + count_by (comes_of v) (to_list e) ≤ one (is_of v a)
-    by_entering None None is h = elim (is_of v a) as (λ b. cond b (length (to_list {B = Reply} None)) 0 + 0 ≤ one b) [ true ↦ omega arith | false ↦ omega arith ]
-    by_entering None (Some reply) is h = elim (is_of v a) as (λ b. cond b (length (to_list (Some reply))) 0 + 0 ≤ one b) [ true ↦ omega arith | false ↦ omega arith ]
-    by_entering (Some c) r is h =
-        omega (arith, ap (λ (y : Option Reply). cond (is_of v a) (length (to_list y)) 0) (sym is ∙ h.silent), none_sent (is_of v a), count-cons (comes_of v) c [], ap (λ (c : Command). one (comes_of v c)) h.next)
+done_once o t v start a d x = grind arith
 
 -- what enters executes
 entering_once : (o : Setting) (now v : ℕ) (t : Trace) (form : Form) → IsFormed o now t form → count_by (comes_of v) (to_list (entering_in form)) ≤ executes_of v form

@@ -33,11 +33,7 @@ owed t = filter (is_owed t) (shown admits_request t)
 
 admitted_here : (n : ℕ) (ms : List Mark) (a : Arrival) → In a (filter_map (admits_at n) ms) → In a (filter_map admits_request ms)
 admitted_here n [] a h = absurd h
-admitted_here n (Admits b ∷ ms) a h =
-    elim (b.number == n) as (λ v. In a (cons_option (cond v (Some b) None) (filter_map (admits_at n) ms)) → In a (b ∷ filter_map admits_request ms)) [
-      | true ↦ λ k. ⊎_elim (λ same. inl same) (λ later. inr (admitted_here n ms a later)) k
-      | false ↦ λ k. inr (admitted_here n ms a k)
-    ] h
+admitted_here n (Admits b ∷ ms) a h = grind (arith, admitted_here n ms a)
 admitted_here n (m ∷ ms) a h = admitted_here n ms a h
 
 -- the request that was admitted at a number is one that was admitted
@@ -50,11 +46,7 @@ admitted_there n (item ∷ t) a h =
     (in-append (shown (admits_at n) t) (filter_map (admits_at n) item) a h)
 
 held_owed : (t : Trace) (a : Arrival) → held t a.number ≡ Some a → is_owed t a ≡ true
-held_owed t a h = by_tests (is_delivered t a.number) (is_emptied t a.number) h
-  where
-    by_tests : (d e : Bool) → cond (d || e) None (admitted t a.number) ≡ Some a → not d ≡ true
-    by_tests true e found = absurd cc
-    by_tests false e found = refl
+held_owed t a h = grind arith
 
 not_either : (a b : Bool) → not (a || b) ≡ true → not b ≡ true
 not_either true b h = absurd (false≢true h)

@@ -18,22 +18,14 @@ tickets ms = map (λ m. m.task.ticket) ms
 
 pub tickets-given_in : (ms : List Member) → tickets (given_in ms) ≡ tickets ms
 tickets-given_in [] = refl
-tickets-given_in (m ∷ ms) =
-    elim (is_new m) as (λ b. tickets (cond b (record { task = m.task; enabled = m.enabled; given = true } ∷ ms) (m ∷ given_in ms)) ≡ m.task.ticket ∷ tickets ms) [
-      | true ↦ refl
-      | false ↦ ap (λ ts. m.task.ticket ∷ ts) (tickets-given_in ms)
-    ]
+tickets-given_in (m ∷ ms) = grind (arith, tickets-given_in ms)
 
 pub tickets-moment : (ms : List Member) → tickets (after_moment ms) ≡ tickets ms
 tickets-moment ms = map-map (λ (m : Member). m.task.ticket) (looked_at ms) ms
 
 none_with : (k : ℕ) (ms : List Member) → find (λ (t : Task). t.ticket == k) (map (λ (m : Member). m.task) ms) ≡ None → filter (λ t. not (t == k)) (tickets ms) ≡ tickets ms
 none_with k [] h = refl
-none_with k (m ∷ ms) h =
-    elim (m.task.ticket == k) as (λ b. cond b (Some m.task) (find (λ (t : Task). t.ticket == k) (map (λ (x : Member). x.task) ms)) ≡ None → cond (not b) (m.task.ticket ∷ filter (λ t. not (t == k)) (tickets ms)) (filter (λ t. not (t == k)) (tickets ms)) ≡ m.task.ticket ∷ tickets ms) [
-      | true ↦ λ found. absurd cc
-      | false ↦ λ none. ap (λ ts. m.task.ticket ∷ ts) (none_with k ms none)
-    ] h
+none_with k (m ∷ ms) h = grind (arith, none_with k ms)
 
 -- a command that leaves takes its ticket with it
 pub tickets-left : (s : Members) (k : ℕ) → tickets (left_by s (with_ticket k (tasks_in s))).list ≡ filter (λ t. not (t == k)) (tickets s.list)
@@ -67,27 +59,17 @@ ungiven_given (m ∷ ms) =
 
 pub none_filtered : (q : Member → Bool) (ms : List Member) → list_any q ms ≡ false → filter q ms ≡ []
 none_filtered q [] h = refl
-none_filtered q (x ∷ ms) h =
-    let parts = or_none (q x) (list_any q ms) h in
-    ap (λ b. cond b (x ∷ filter q ms) (filter q ms)) parts.0 ∙ none_filtered q ms parts.1
+none_filtered q (x ∷ ms) h = grind (arith, none_filtered q ms)
 
 -- ---- tickets go up along a set
 
 pub none_found : (covers : Task → Bool) (ms : List Member) → find covers (map (λ (m : Member). m.task) ms) ≡ None → list_any (λ m. covers m.task) ms ≡ false
 none_found covers [] none = refl
-none_found covers (x ∷ ms) none =
-    elim (covers x.task) as (λ b. cond b (Some x.task) (find covers (map (λ (m : Member). m.task) ms)) ≡ None → (b || list_any (λ (m : Member). covers m.task) ms) ≡ false) [
-      | true ↦ λ here. absurd cc
-      | false ↦ λ later. none_found covers ms later
-    ] none
+none_found covers (x ∷ ms) none = grind (arith, none_found covers ms)
 
 pub some_covered : (covers : Task → Bool) (ms : List Member) (task : Task) → find covers (map (λ (m : Member). m.task) ms) ≡ Some task → list_any (λ m. covers m.task) ms ≡ true
 some_covered covers [] task found = absurd cc
-some_covered covers (x ∷ ms) task found =
-    elim (covers x.task) as (λ b. cond b (Some x.task) (find covers (map (λ (m : Member). m.task) ms)) ≡ Some task → (b || list_any (λ (m : Member). covers m.task) ms) ≡ true) [
-      | true ↦ λ here. refl
-      | false ↦ λ later. some_covered covers ms task later
-    ] found
+some_covered covers (x ∷ ms) task found = grind (arith, some_covered covers ms task)
 
 abbrev pub rising : List ℕ → Bool
 rising [] = true
@@ -102,9 +84,7 @@ all_at p (x ∷ ms) (suc k) d all lt = all_at p ms k d (and_parts (p x.task.tick
 
 pub none_covered : (covers : Task → Bool) (k : ℕ) (ms : List Member) → list_any (λ t. t == k) (tickets ms) ≡ false → list_any (λ m. m.task.ticket == k && covers m.task) ms ≡ false
 none_covered covers k [] h = refl
-none_covered covers k (x ∷ ms) h =
-    let parts = or_none (x.task.ticket == k) (list_any (λ t. t == k) (tickets ms)) h in
-    ap (λ b. (b && covers x.task) || list_any (λ m. m.task.ticket == k && covers m.task) ms) parts.0 ∙ none_covered covers k ms parts.1
+none_covered covers k (x ∷ ms) h = grind (arith, none_covered covers k ms)
 
 -- a command is gone just where it is covered
 pub gone_each : (covers : Task → Bool) (ms : List Member) (k : ℕ) (d : Member) → rising (tickets ms) ≡ true → k < length ms → list_any (λ m. m.task.ticket == (get_or ms k d).task.ticket && covers m.task) ms ≡ covers (get_or ms k d).task
@@ -123,15 +103,4 @@ gone_each covers (x ∷ ms) (suc k) d up lt =
 
 pub one_gone : (k j : ℕ) (ms : List Member) → list_any (λ m. m.task.ticket == j && m.task.ticket == k) ms ≡ (j == k && list_any (λ m. m.task.ticket == k) ms)
 one_gone k j [] = sym (and_false (j == k))
-one_gone k j (x ∷ ms) =
-    let has : Bool = list_any (λ (m : Member). m.task.ticket == k) ms in
-    let both : Bool = list_any (λ (m : Member). m.task.ticket == j && m.task.ticket == k) ms in
-    elim (x.task.ticket == k) as (λ b. (x.task.ticket == k) ≡ b → ((x.task.ticket == j && b) || both) ≡ (j == k && (b || has))) [
-      | true ↦ λ is. elim (j == k) as (λ b. (j == k) ≡ b → ((x.task.ticket == j && true) || both) ≡ (b && true)) [
-        | true ↦ λ same. ap (λ b. (b && true) || both) (eq-eqb x.task.ticket j (eqb-true x.task.ticket k is ∙ sym (eqb-true j k same)))
-        | false ↦ λ other.
-            ap (λ b. (b && true) || both) (ap (λ n. n == j) (eqb-true x.task.ticket k is) ∙ eq_sym k j ∙ other)
-            ∙ one_gone k j ms ∙ ap (λ b. b && has) other
-      ] refl
-      | false ↦ λ is. ap (λ b. b || both) (and_false (x.task.ticket == j)) ∙ one_gone k j ms
-    ] refl
+one_gone k j (x ∷ ms) = grind (arith, one_gone k j ms)

@@ -79,10 +79,7 @@ life_of_marks o t k (m ∷ ms) = life_of_marks o t k ms
 -- the effects of those that have the ticket
 shown_mine : (k : ℕ) (g : Command → Effect) (cs : List Command) → filter_map (λ c. cond (c.ticket == k) (Some (g c)) None) cs ≡ map g (mine k cs)
 shown_mine k g [] = refl
-shown_mine k g (c ∷ cs) = elim (c.ticket == k) as (λ b. cons_option (cond b (Some (g c)) None) (filter_map (λ d. cond (d.ticket == k) (Some (g d)) None) cs) ≡ map g (cond b (c ∷ mine k cs) (mine k cs))) [
-  | true ↦ ap (λ es. g c ∷ es) (shown_mine k g cs)
-  | false ↦ shown_mine k g cs
-]
+shown_mine k g (c ∷ cs) = grind (arith, shown_mine k g cs)
 
 -- what an item shows of the ticket, but for what it enables
 pub life_form : (o : Setting) (t : Trace) (k : ℕ) (form : Form)
@@ -98,10 +95,7 @@ life_form o t k form = life_of_marks o t k (marks_of_form form) ∙ by_form form
 -- and what it enables
 life_of_enables : (k : ℕ) (cs : List Command) → life_of k (map enable_effect cs) ≡ map enable_effect (mine k cs)
 life_of_enables k [] = refl
-life_of_enables k (c ∷ cs) = elim (c.ticket == k) as (λ b. cond b (enable_effect c ∷ life_of k (map enable_effect cs)) (life_of k (map enable_effect cs)) ≡ map enable_effect (cond b (c ∷ mine k cs) (mine k cs))) [
-  | true ↦ ap (λ es. enable_effect c ∷ es) (life_of_enables k cs)
-  | false ↦ life_of_enables k cs
-]
+life_of_enables k (c ∷ cs) = grind (arith, life_of_enables k cs)
 
 -- the life of a ticket in an item
 pub life_item : (o : Setting) (t : Trace) (k : ℕ) (form : Form)
@@ -136,13 +130,5 @@ pub record EntersNext (o : Setting) (t : Trace) (form : Form) (c : Command) : Ty
   pub stays : leaving_in form ≡ []
 
 pub entering_next : (o : Setting) (now : ℕ) (t : Trace) (form : Form) → IsFormed o now t form → Each (EntersNext o t form) (entering_in form)
-entering_next o now t (Executed start a d) x = by_entering d.entering x.1.enters
-  where
-    by_entering : (y : Option Command) → Each (EntersAs o t a d) y → Each (EntersNext o t (Executed start a d)) y
-    by_entering None e = tt
-    by_entering (Some c) e = record {
-      next = ap (λ (z : Command). z.ticket) e.next;
-      below = (let same : c.unit ≡ e.unit = ap (λ (z : Command). z.unit) e.next in let z : c.unit < o.units = omega (arith, e.below) in z);
-      stays = e.stays;
-    }
+entering_next o now t (Executed start a d) x = grind arith
 entering_next o now t form x = tt

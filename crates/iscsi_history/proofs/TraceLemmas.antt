@@ -1,5 +1,5 @@
 -- What one item more changes of what follows from a trace.
-use Rattle.std.proofs.Common.{◌≡◌, ℕ, ◌==◌, ◌&&◌, ◌||◌, not, cond, Bool, true, false, List, [], ◌∷◌, ◌++◌, filter, Some, None, refl, ap, sym, ◌∙◌, eq-eqb}
+use Rattle.std.proofs.Common.{arith, ◌≡◌, ℕ, ◌==◌, ◌&&◌, ◌||◌, not, cond, Bool, true, false, List, [], ◌∷◌, ◌++◌, filter, Some, None, refl, ap, sym, ◌∙◌, eq-eqb}
 use Rattle.std.specs.List.{list_any, list_all, filter_map, cons_option}
 use Rattle.std.proofs.lemmas.Bool.{false≢true}
 use Rattle.std.proofs.lemmas.List.{append-nil}
@@ -20,11 +20,7 @@ filter-true (x ∷ xs) = ap (λ ys. x ∷ ys) (filter-true xs)
 
 filter-nor : {A : Type 0} (a b : A → Bool) (xs : List A) → filter (λ x. not (a x || b x)) xs ≡ filter (λ x. not (a x)) (filter (λ x. not (b x)) xs)
 filter-nor a b [] = refl
-filter-nor a b (x ∷ xs) =
-    elim (b x) as (λ v. cond (not (a x || v)) (x ∷ filter (λ y. not (a y || b y)) xs) (filter (λ y. not (a y || b y)) xs) ≡ filter (λ y. not (a y)) (cond (not v) (x ∷ filter (λ y. not (b y)) xs) (filter (λ y. not (b y)) xs))) [
-      | true ↦ elim (a x) as (λ w. cond (not (w || true)) (x ∷ filter (λ y. not (a y || b y)) xs) (filter (λ y. not (a y || b y)) xs) ≡ filter (λ y. not (a y)) (filter (λ y. not (b y)) xs)) [ true ↦ filter-nor a b xs | false ↦ filter-nor a b xs ]
-      | false ↦ elim (a x) as (λ w. cond (not (w || false)) (x ∷ filter (λ y. not (a y || b y)) xs) (filter (λ y. not (a y || b y)) xs) ≡ cond (not w) (x ∷ filter (λ y. not (a y)) (filter (λ y. not (b y)) xs)) (filter (λ y. not (a y)) (filter (λ y. not (b y)) xs))) [ true ↦ filter-nor a b xs | false ↦ ap (λ ys. x ∷ ys) (filter-nor a b xs) ]
-    ]
+filter-nor a b (x ∷ xs) = grind (arith, filter-nor a b xs)
 
 -- ---- live commands
 
@@ -65,11 +61,7 @@ live-leaves item t out none some =
 
 pub weaker : {A : Type 0} (p q : A → Bool) (xs : List A) → ((x : A) → p x ≡ true → q x ≡ true) → list_all p xs ≡ true → list_all q xs ≡ true
 weaker p q [] h all = refl
-weaker p q (x ∷ xs) h all =
-    elim (p x) as (λ b. p x ≡ b → (b && list_all p xs) ≡ true → (q x && list_all q xs) ≡ true) [
-      | true ↦ λ is rest. and_both (q x) (list_all q xs) (h x is) (weaker p q xs h rest)
-      | false ↦ λ is rest. absurd (false≢true rest)
-    ] refl all
+weaker p q (x ∷ xs) h all = grind (arith, weaker p q xs)
 
 pub all_among : (xs : List Command) → list_all (λ c. is_among c.ticket xs) xs ≡ true
 all_among [] = refl
@@ -86,17 +78,13 @@ received-item item t n = list_any-append (λ k. k == n) (received t) (filter_map
 -- a mark that receives another number, or none, admits nothing at this one
 unadmitted_mark : (n : ℕ) (mark : Mark) (marks : List Mark) → contains (filter_map number_received (mark ∷ marks)) n ≡ false
     → (admits_at n mark ≡ None) × (contains (filter_map number_received marks) n ≡ false)
-unadmitted_mark n (Admits a) marks h =
-    let parts = or_none (a.number == n) (contains (filter_map number_received marks) n) h in
-    (ap (λ b. cond b (Some a) None) parts.0, parts.1)
+unadmitted_mark n (Admits a) marks h = grind arith
 unadmitted_mark n (Voids k) marks h = (refl, (or_none (k == n) (contains (filter_map number_received marks) n) h).1)
 unadmitted_mark n mark marks h = (refl, h)
 
 unadmitted_item : (n : ℕ) (item : List Mark) → contains (filter_map number_received item) n ≡ false → filter_map (admits_at n) item ≡ []
 unadmitted_item n [] h = refl
-unadmitted_item n (mark ∷ marks) h =
-    let parts = unadmitted_mark n mark marks h in
-    ap (λ x. cons_option x (filter_map (admits_at n) marks)) parts.0 ∙ unadmitted_item n marks parts.1
+unadmitted_item n (mark ∷ marks) h = grind (arith, unadmitted_item n marks)
 
 -- nothing is admitted at a number that isn't received
 pub unadmitted : (n : ℕ) (t : Trace) → is_received t n ≡ false → shown (admits_at n) t ≡ []

@@ -1,5 +1,5 @@
 -- Turns: which numbers an item delivers and empties. What is emptied is never delivered.
-use Rattle.std.proofs.Common.{◌≡◌, ℕ, ◌==◌, ◌||◌, inl, inr, ⊎_elim, cond, Bool, true, false, List, [], ◌∷◌, Some, None, refl, ap, sym, ◌∙◌}
+use Rattle.std.proofs.Common.{arith, ◌≡◌, ℕ, ◌==◌, ◌||◌, inl, inr, ⊎_elim, cond, Bool, true, false, List, [], ◌∷◌, Some, None, refl, ap, sym, ◌∙◌}
 use Rattle.std.specs.List.{list_any}
 use Rattle.std.proofs.lemmas.Bool.{false≢true, eqb-true, or_cases}
 use Rattle.iscsi_history.specs.rules.Settings.{Setting}
@@ -25,11 +25,7 @@ delivers_form n form = refl
 
 -- what is held isn't delivered
 held_undelivered : (t : Trace) (n : ℕ) (a : Arrival) → held t n ≡ Some a → is_delivered t n ≡ false
-held_undelivered t n a h = by_tests (is_delivered t n) (is_emptied t n) h
-  where
-    by_tests : (d e : Bool) → cond (d || e) None (admitted t n) ≡ Some a → d ≡ false
-    by_tests true e found = absurd cc
-    by_tests false e found = refl
+held_undelivered t n a h = grind arith
 
 -- a number at which a request is taken out
 some_emptied : (t : Trace) (n : ℕ) (bs : List Arrival) → ((b : Arrival) → In b bs → is_delivered t b.number ≡ false) → list_any (λ b. b.number == n) bs ≡ true → is_delivered t n ≡ false
@@ -53,11 +49,7 @@ emptied_form o now n t form x h = absurd (false≢true h)
 
 -- nothing is delivered at a number that was emptied
 unturned_form : (o : Setting) (now n : ℕ) (t : Trace) (form : Form) → IsFormed o now t form → is_emptied t n ≡ true → delivers_in n form ≡ false
-unturned_form o now n t (Executed AtTurn a d) x gone =
-    elim (a.number == n) as (λ b. (a.number == n) ≡ b → b ≡ false) [
-      | true ↦ λ is. absurd (false≢true (sym (held_unemptied t a.number a x.0) ∙ ap (is_emptied t) (eqb-true a.number n is) ∙ gone))
-      | false ↦ λ is. refl
-    ] refl
+unturned_form o now n t (Executed AtTurn a d) x gone = grind arith
 unturned_form o now n t form x gone = refl
 
 -- a request that executes delivers no number but its own
