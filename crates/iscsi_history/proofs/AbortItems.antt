@@ -96,17 +96,7 @@ module _ (o : Setting) (t : Trace) (start : Start) (a : Arrival) (d : Deeds) (s 
       (leaves_form k (Executed start a d) ∙ ap (is_among k) s.is ∙ ap (λ cs. is_among k (filter s.covers (filter (λ (c : Command). c.unit == s.unit) cs))) (live-begun start a t) ∙ h)
 
   swept : is_set_abort a.request ≡ true → (k : ℕ) → is_ticket_covered o a (marks_of_form (Executed start a d)) t k ≡ true → has (leaves_ticket k) (marks_of_form (Executed start a d) ∷ t) ≡ true
-  swept set k covered =
-      let item : List Mark = marks_of_form (Executed start a d) in
-      let which : (is_among k (earlier o a t) || (function a.request == 5 && is_among k (filter (is_in_unit_of o a) (live t)))) ≡ true =
-      sym (ap (λ c. cond c (list_any (leaves_ticket k) item) (is_among k (earlier o a t) || (function a.request == 5 && is_among k (filter (is_in_unit_of o a) (live t))))) (not_one a.request set)) ∙ covered in
-      ⊎_elim
-      (λ early. elim (has (leaves_ticket k) t) as (λ c. has (leaves_ticket k) t ≡ c → (list_any (leaves_ticket k) item || c) ≡ true) [
-        | true ↦ λ left. or_second (list_any (leaves_ticket k) item) true refl
-        | false ↦ λ unleft. sym (ap (λ c. list_any (leaves_ticket k) item || c) unleft) ∙ swept_leaves k (early_swept k unleft early)
-      ] refl)
-      (λ whole. let parts = and_parts (function a.request == 5) (is_among k (filter (is_in_unit_of o a) (live t))) whole in swept_leaves k (whole_swept k parts.0 parts.1))
-      (or_cases (is_among k (earlier o a t)) (function a.request == 5 && is_among k (filter (is_in_unit_of o a) (live t))) which)
+  swept set k covered = grind (arith, nat_tests, marks_of_form, Executed, not_one, or_second, swept_leaves, early_swept, and_parts, whole_swept, or_cases)
 
 -- ---- an item of any form
 
@@ -118,14 +108,8 @@ module _ (o : Setting) (now p : ℕ) (t : Trace) where
 
   -- Function complete is sent where the deeds say so
   completed_by : (start : Start) (a : Arrival) (d : Deeds) → list_any (completes a.request) (marks_of_form (Executed start a d)) ≡ true → is_completed_by a d ≡ true
-  completed_by start a d complete = elim (is_completed_by a d) as (λ b. is_completed_by a d ≡ b → b ≡ true) [ true ↦ λ is. refl | false ↦ λ is. absurd (false≢true (sym (none is) ∙ complete)) ] refl
-    where
-      none : is_completed_by a d ≡ false → list_any (completes a.request) (marks_of_form (Executed start a d)) ≡ false
-      none incomplete =
-          begun_any (completes a.request) start a (marks_done a d) refl refl
-          ∙ none_done a d (completes a.request) (λ n is. refl) (λ c there. refl) (λ b there. refl) (λ c is. refl)
-          (λ reply is. ap (λ b. (connection_of a.request == connection_of a.request) && b) (sym (ap (λ x. elim x [ Some r ↦ is_complete (itt a.request) r | None ↦ false ]) is) ∙ incomplete) ∙ and_false (connection_of a.request == connection_of a.request))
-          (λ conn is. refl) (λ is. refl)
+  completed_by start a d complete =
+      grind (arith, nat_tests, is_completed_by, false≢true, marks_of_form, Executed, begun_any, marks_done, none_done, and_false)
 
   -- an abort of a whole set stands at its number or later, and what it covers leaves, if it didn't before
   abbrev Ends : Arrival → Form → Type 0

@@ -67,14 +67,7 @@ shut_held : (n : ℕ) (t : Trace) → Shut n t → held t n ≡ None
 shut_held n t s = grind arith
 
 shut_more : (o : Setting) (p n : ℕ) (t : Trace) (item : List Mark) → Fits o p t item → Shut n t → Shut n (item ∷ t)
-shut_more o p n t item fits s =
-    ⊎_elim
-    (λ emptied. inl (or_second (list_any (empties_number n) item) (is_emptied t n) emptied))
-    (λ void. inr (
-      received-item item t n ∙ or_first (is_received t n) (contains (filter_map number_received item) n) void.0,
-      ap (λ xs. xs ++ filter_map (admits_at n) item) void.1 ∙ fits.admits n void.0,
-    ))
-    s
+shut_more o p n t item fits s = grind (arith, nat_tests, or_second, received-item, or_first)
 
 -- it stays so, and nothing is delivered there
 shut_later : (o : Setting) (p n : ℕ) (later t : Trace) → Fit o p (later ++ t) → Shut n t → Shut n (later ++ t) × (has (delivers_number n) later ≡ false)

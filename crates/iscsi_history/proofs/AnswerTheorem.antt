@@ -1,5 +1,6 @@
 -- A request that executed has at most one reply, and one whose command was taken out has none, in the trace of each list of events.
 use Rattle.std.proofs.Common.{◌≡◌, ℕ, ◌+◌, ◌<◌, ◌≤◌, inl, inr, ⊎_elim, cond, true, false, List, [], ◌∷◌, ◌++◌, map, length, count_by, Option, Some, None, refl, ap, sym, subst, ◌∙◌, arith, nat_lt, eq-eqb, ◌==◌, ◌&&◌}
+use Rattle.std.proofs.lemmas.Bool.Decides.{nat_tests}
 use Rattle.std.specs.List.{filter_map, cons_option}
 use Rattle.std.proofs.lemmas.Bool.{eqb-true}
 use Rattle.std.proofs.lemmas.List.{append-nil}
@@ -71,9 +72,7 @@ left_done a d = simp views
 -- its replies are to the request
 fitting_done : (o : Setting) (t : Trace) (start : Start) (a b : Arrival) (d : Deeds) → IsDone o t start a d → a ≡ b → (conn : ℕ) (reply : Reply) → In (Sends conn reply) (marks_done a d)
     → (conn ≡ connection_of b.request) × Answers b.request reply
-fitting_done o t start a b d x same conn reply h =
-    let sent = sent_done a d conn reply h in
-    (sent.0 ∙ ap (λ (y : Arrival). connection_of y.request) same, subst (λ (y : Arrival). Answers y.request reply) same (subst (Each (Answers a.request)) sent.1 x.answers))
+fitting_done o t start a b d x same conn reply h = grind (arith, nat_tests, sent_done, Each)
 
 fitting_form : (o : Setting) (now : ℕ) (t : Trace) (form : Form) → IsFormed o now t form → (a : Arrival) → executed_in (marks_of_form form) ≡ Some a → (conn : ℕ) (reply : Reply) → In (Sends conn reply) (marks_of_form form)
     → (conn ≡ connection_of a.request) × Answers a.request reply
@@ -151,13 +150,7 @@ answers_once o h = record {
 -- ---- the entries of completions
 
 completes_with : (o : Setting) (t : Trace) (ticket status : ℕ) → CompletesWith ticket status (effects_of o t (completion status (command_of t ticket)))
-completes_with o t ticket status = by_command (command_of t ticket) refl
-  where
-    by_command : (y : Option Command) → command_of t ticket ≡ y → CompletesWith ticket status (effects_of o t (completion status y))
-    by_command None is = refl
-    by_command (Some c) is =
-        let passes : (c.ticket == ticket && was_free c t) ≡ true = first_itself (λ d. d.ticket == ticket && was_free d t) (live t) c is in
-        (eqb-true c.ticket ticket (and_parts (c.ticket == ticket) _ passes).0, refl, refl)
+completes_with o t ticket status = grind (arith, nat_tests, first_itself, eqb-true, and_parts)
 
 completes_all : (o : Setting) (event : ℕ) (t : Trace) (h : List Event) → CompletesAll h (entries_from o event t h)
 completes_all o event t [] = tt

@@ -16,12 +16,7 @@ unamong-push k cs c h apart = list_any-append (λ (d : Command). d.ticket == k) 
 
 pub apart-push : (cs : List Command) (c : Command) → are_apart cs ≡ true → is_among c.ticket cs ≡ false → are_apart (cs ++ c ∷ []) ≡ true
 apart-push [] c apart new = refl
-apart-push (d ∷ cs) c apart new =
-    let parts = and_parts (not (is_among d.ticket cs)) (are_apart cs) apart in
-    let news = or_none (d.ticket == c.ticket) (is_among c.ticket cs) new in
-    and_both (not (is_among d.ticket (cs ++ c ∷ []))) (are_apart (cs ++ c ∷ []))
-    (ap not (unamong-push d.ticket cs c (not_true (is_among d.ticket cs) parts.0) (eq_sym c.ticket d.ticket ∙ news.0)))
-    (apart-push cs c parts.1 news.1)
+apart-push (d ∷ cs) c apart new = grind (arith, nat_tests, apart-push cs c, and_parts, or_none, and_both, unamong-push, not_true, eq_sym)
 
 pub unamong-filter : (p : Command → Bool) (k : ℕ) (cs : List Command) → is_among k cs ≡ false → is_among k (filter p cs) ≡ false
 unamong-filter p k [] h = refl
@@ -29,12 +24,7 @@ unamong-filter p k (c ∷ cs) h = grind (arith, unamong-filter p k cs)
 
 pub apart-filter : (p : Command → Bool) (cs : List Command) → are_apart cs ≡ true → are_apart (filter p cs) ≡ true
 apart-filter p [] h = refl
-apart-filter p (c ∷ cs) h =
-    let parts = and_parts (not (is_among c.ticket cs)) (are_apart cs) h in
-    elim (p c) as (λ v. are_apart (cond v (c ∷ filter p cs) (filter p cs)) ≡ true) [
-      | true ↦ and_both (not (is_among c.ticket (filter p cs))) (are_apart (filter p cs)) (ap not (unamong-filter p c.ticket cs (not_true (is_among c.ticket cs) parts.0))) (apart-filter p cs parts.1)
-      | false ↦ apart-filter p cs parts.1
-    ]
+apart-filter p (c ∷ cs) h = grind (arith, nat_tests, apart-filter p cs, and_parts, and_both, unamong-filter, not_true)
 
 -- where no command has the ticket, nothing is taken out by it
 pub kept_all : (k : ℕ) (cs : List Command) → is_among k cs ≡ false → filter (λ d. not (d.ticket == k)) cs ≡ cs

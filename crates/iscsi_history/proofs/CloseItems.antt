@@ -1,5 +1,6 @@
 -- Each item does and brings what is on open connections, and takes out what is going on on those that it closes.
 use Rattle.std.proofs.Common.{◌≡◌, ℕ, ◌+◌, ◌-◌, ◌<◌, ◌≤◌, ◌==◌, ◌||◌, inl, ⊎_elim, cond, Bool, true, false, List, [], ◌∷◌, Option, Some, None, refl, ap, sym, subst, ◌∙◌, arith, eq-eqb}
+use Rattle.std.proofs.lemmas.Bool.Decides.{nat_tests}
 use Rattle.std.specs.List.{list_any, list_all, filter_map, range_with_len, cons_option}
 use Rattle.std.proofs.lemmas.Bool.{false≢true, eqb-true}
 use Rattle.iscsi_wire.specs.Serial.{number_of_first}
@@ -71,9 +72,7 @@ module _ (o : Setting) (t : Trace) (conn : ℕ) (item : List Mark) (here : is_op
 
 -- a command that enters has a unit of the session
 units_form : (o : Setting) (now : ℕ) (t : Trace) (form : Form) → IsFormed o now t form → (c : Command) → In c (filter_map enters (marks_of_form form)) → c.unit < o.units
-units_form o now t form x c h =
-    ⊎_elim (λ is. (each_is (EntersNext o t form) (entering_in form) c (entering_next o now t form x) is).below) (λ none. absurd none)
-    (in-cons (entering_in form) [] c (subst (In c) (enters_form form) h))
+units_form o now t form x c h = grind (arith, nat_tests, each_is, EntersNext, entering_in, entering_next, in-cons, In, enters_form)
 
 -- a number that is neither below ExpCmdSN nor above MaxCmdSN
 in_window : (e window unfinished n : ℕ) → 1 ≤ e → e ≤ n → n ≤ e + window - 1 - unfinished → n < e + window
@@ -85,16 +84,7 @@ OnOpen o t a = is_open o t (connection_of a.request) ≡ true
 
 -- what is received is in the window
 range_form : (o : Setting) (now p : ℕ) (t : Trace) (form : Form) → StandsAt (OnOpen o) o now p t form → (n : ℕ) (b : Arrival) → first_of (filter_map (admits_at n) (marks_of_form form)) ≡ Some b → (number_of_first o.first ≤ n) × (n < exp_of o t + o.window)
-range_form o now p t (Received a) at n b h = by_test (a.number == n) refl h
-  where
-    by_test : (v : Bool) → (a.number == n) ≡ v → first_of (cons_option (cond v (Some a) None) []) ≡ Some b → (number_of_first o.first ≤ n) × (n < exp_of o t + o.window)
-    by_test false is found = absurd cc
-    by_test true is found =
-        let same : a.number ≡ n = eqb-true a.number n is in
-        let start : number_of_first o.first ≤ exp_of o t = expected_low o.first t in
-        let low : exp_of o t ≤ a.number = at.1.0 in
-        let high : a.number < exp_of o t + o.window = in_window (exp_of o t) o.window (unfinished t) a.number (omega (arith, start)) low at.1.1 in
-        ((let z : number_of_first o.first ≤ n = omega (arith, start, low, same) in z), (let z : n < exp_of o t + o.window = omega (arith, high, same) in z))
+range_form o now p t (Received a) at n b h = grind (arith, nat_tests, eqb-true, expected_low, in_window)
 range_form o now p t (Executed start a d) at n b h = absurd (let none : None ≡ Some b = sym (ap first_of (executed_at n start a d).admits) ∙ h in cc)
 range_form o now p t form at n b h = absurd cc
 
@@ -114,18 +104,11 @@ module _ (o : Setting) (now p : ℕ) (t : Trace) (start : Start) (a : Arrival) (
       by_start AfterWaiting waits here = c.waits a here.1
 
   only : Only (connection_of a.request) marks
-  only k apart =
-      begun_any (is_at k) start a (marks_done a d) apart apart
-      ∙ none_done a d (is_at k) (λ n is. refl) (λ e there. refl) (λ b there. refl)
-      (λ e is. let enters : EntersAs o t a d e = each_is (EntersAs o t a d) d.entering e x.1.enters is in ap (λ (y : Command). connection_of y.arrival.request == k) enters.next ∙ apart)
-      (λ reply is. apart) (λ conn is. refl) (λ is. refl)
+  only k apart = grind (arith, nat_tests, begun_any, is_at, marks_done, none_done, EntersAs, each_is)
 
   -- a connection that it doesn't close
   unclosed : (k : ℕ) → (d.ending ≡ true → ⊥) → ((conn : ℕ) → d.closing ≡ Some conn → (conn == k) ≡ false) → closed_by marks k ≡ false
-  unclosed k goes_on others =
-      ap (λ b. b || list_any (closes_conn k) marks)
-      (begun_any closes_session start a (marks_done a d) refl refl ∙ none_done a d closes_session (λ n is. refl) (λ e there. refl) (λ b there. refl) (λ e is. refl) (λ reply is. refl) (λ conn is. refl) (λ is. absurd (goes_on is)))
-      ∙ begun_any (closes_conn k) start a (marks_done a d) refl refl ∙ none_done a d (closes_conn k) (λ n is. refl) (λ e there. refl) (λ b there. refl) (λ e is. refl) (λ reply is. refl) others (λ is. refl)
+  unclosed k goes_on others = grind (arith, nat_tests, begun_any, marks_done, none_done)
 
   sound_staying : is_closing d ≡ false → Sound o t marks
   sound_staying stays =
@@ -135,18 +118,7 @@ module _ (o : Setting) (now p : ℕ) (t : Trace) (start : Start) (a : Arrival) (
   module _ (s : TakesOut o (begun start a t) d) where
     -- it takes out what there is of an open connection that it closes
     closes_these : (k : ℕ) → is_open o t k ≡ true → closed_by marks k ≡ true → s.of_these k ≡ true
-    closes_these k on closed = by_bool (s.of_these k ≡ true) (s.of_these k) (λ is. is) (λ apart. absurd (false≢true (sym (none apart) ∙ closed)))
-      where
-        still : (s : Start) → is_open o (begun s a t) k ≡ true
-        still AtTurn = open-item o (Delivers a ∷ []) t k on refl
-        still s = open-item o (Executes a ∷ []) t k on refl
-
-        other : s.of_these k ≡ false → (conn : ℕ) → d.closing ≡ Some conn → (v : Bool) → (conn == k) ≡ v → v ≡ false
-        other apart conn is true same = absurd (false≢true (sym apart ∙ ap s.of_these (sym (eqb-true conn k same)) ∙ each_is (λ n. s.of_these n ≡ true) d.closing conn s.closing is))
-        other apart conn is false same = refl
-
-        none : s.of_these k ≡ false → closed_by marks k ≡ false
-        none apart = unclosed k (λ is. false≢true (sym apart ∙ s.ending is k (still start))) (λ conn is. other apart conn is (conn == k) refl)
+    closes_these k on closed = grind (arith, nat_tests, by_bool, false≢true, Start, begun, AtTurn, open-item, eqb-true, each_is, closed_by, unclosed)
 
     live_leaves : (e : Command) → In e (live t) → closed_by marks (connection_of e.arrival.request) ≡ true → list_any (leaves_ticket e.ticket) marks ≡ true
     live_leaves e there closed =

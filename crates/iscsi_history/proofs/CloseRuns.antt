@@ -1,5 +1,6 @@
 -- In the trace of a list of events that come on the session's connections each item is sound.
-use Rattle.std.proofs.Common.{◌≡◌, ℕ, ◌+◌, not, true, List, [], ◌∷◌, ap}
+use Rattle.std.proofs.Common.{arith, ◌≡◌, ℕ, ◌+◌, not, true, List, [], ◌∷◌, ap}
+use Rattle.std.proofs.lemmas.Bool.Decides.{nat_tests}
 use Rattle.std.specs.List.{list_all}
 use Rattle.iscsi_history.specs.declared.event.Event.{Event}
 use Rattle.iscsi_history.specs.declared.event.Event.TheVariants.{Arrive, Done}
@@ -39,9 +40,7 @@ event_sound o event t e known x = by_items (items_of o event t e) (event_stands 
 
 events_sound : (o : Setting) (event : ℕ) (t : Trace) (h : List Event) → list_all (belongs o) h ≡ true → Sounds o t → Sounds o (after_events o event t h)
 events_sound o event t [] known x = x
-events_sound o event t (e ∷ h) known x =
-    let parts = and_parts (belongs o e) (list_all (belongs o) h) known in
-    events_sound o (event + 1) (after_event o event t e) h parts.1 (event_sound o event t e parts.0 x)
+events_sound o event t (e ∷ h) known x = grind (arith, nat_tests, events_sound o (event + 1) (after_event o event t e) h, and_parts, event_sound)
 
 -- in the trace of a list of events each item is sound
 pub trace_sounds : (o : Setting) (h : List Event) → list_all (belongs o) h ≡ true → Sounds o (trace_of o h)

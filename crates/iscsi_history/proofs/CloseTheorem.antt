@@ -1,6 +1,7 @@
 -- Nothing goes on in a session that is closed, nor on a connection that is, in the trace of each list of events that come on
 -- the session's connections. A request on another one would go on after the last of them is closed, and the session with it.
 use Rattle.std.proofs.Common.{arith, ◌≡◌, ℕ, ◌==◌, ◌&&◌, ◌||◌, inl, ⊎_elim, not, Bool, true, false, List, [], ◌∷◌, ◌++◌, map, filter, refl, ap, sym, subst, ◌∙◌}
+use Rattle.std.proofs.lemmas.Bool.Decides.{nat_tests}
 use Rattle.std.specs.List.{list_all, list_any, flat_map, range_with_len}
 use Rattle.std.proofs.lemmas.Bool.{false≢true}
 use Rattle.std.proofs.lemmas.List.Folds.{list_any-append, list_all-append}
@@ -39,11 +40,7 @@ module _ (o : Setting) (p : Effect → Bool) (q : Mark → Bool) (none : (ticket
 
   shown_so_far : (t : Trace) → list_any p (effects_so_far o t) ≡ has q t
   shown_so_far [] = refl
-  shown_so_far (item ∷ t) =
-      list_any-append p (effects_so_far o t) (effects_of_item o t item)
-      ∙ ap (λ b. b || list_any p (effects_of_item o t item)) (shown_so_far t)
-      ∙ ap (λ b. has q t || b) (shown_item t item)
-      ∙ or_comm (has q t) (list_any q item)
+  shown_so_far (item ∷ t) = grind (arith, nat_tests, shown_so_far t, list_any-append, shown_item, or_comm)
 
 session_mark : (o : Setting) (t : Trace) (m : Mark) → list_any is_session_close (effects_of_mark o t m) ≡ closes_session m
 session_mark o t (Admits a) = refl

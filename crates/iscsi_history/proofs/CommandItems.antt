@@ -81,34 +81,7 @@ pub first_passing : (w : Command → Bool) (k : ℕ) (cs : List Command) (c : Co
     → (first_of (filter (λ d. d.ticket == k && w d) cs) ≡ cond (w c) (Some c) None) × (list_any (λ d. d.ticket == k && w d) (filter (λ d. d.unit == c.unit) cs) ≡ w c)
 first_passing w k [] c apart found = absurd cc
 first_passing w k (x ∷ cs) c apart found =
-    let parts = and_parts (not (is_among x.ticket cs)) (are_apart cs) apart in
-    let test : Command → Bool = λ d. d.ticket == k && w d in
-    let in_unit : Command → Bool = λ d. d.unit == c.unit in
-    elim (x.ticket == k) as (λ b. (x.ticket == k) ≡ b → first_of (cond b (x ∷ filter (λ d. d.ticket == k) cs) (filter (λ d. d.ticket == k) cs)) ≡ Some c
-    → (first_of (cond (b && w x) (x ∷ filter test cs) (filter test cs)) ≡ cond (w c) (Some c) None) × (list_any test (cond (x.unit == c.unit) (x ∷ filter in_unit cs) (filter in_unit cs)) ≡ w c)) [
-      | true ↦ λ is here.
-          let same : x ≡ c = cc in
-          let gone : is_among k cs ≡ false = ap (λ n. is_among n cs) (sym (eqb-true x.ticket k is)) ∙ not_true (is_among x.ticket cs) parts.0 in
-          let unit_is : (x.unit == c.unit) ≡ true = eq-eqb x.unit c.unit (ap (λ (d : Command). d.unit) same) in (
-            ap (λ ds. first_of (cond (w x) (x ∷ ds) ds)) (none_with w k cs gone) ∙ ap (λ d. first_of (cond (w d) (d ∷ []) [])) same ∙ one (w c),
-            ap (λ b. list_any test (cond b (x ∷ filter in_unit cs) (filter in_unit cs))) unit_is
-                ∙ ap (λ b. (b && w x) || list_any test (filter in_unit cs)) is
-                ∙ ap (λ b. w x || b) (none_any w k (filter in_unit cs) (unamong-filter in_unit k cs gone))
-                ∙ or_false (w x) ∙ ap w same,
-          )
-      | false ↦ λ is later.
-          let rest = first_passing w k cs c parts.1 later in (
-            rest.0,
-            elim (x.unit == c.unit) as (λ b. list_any test (cond b (x ∷ filter in_unit cs) (filter in_unit cs)) ≡ w c) [
-              | true ↦ ap (λ b. (b && w x) || list_any test (filter in_unit cs)) is ∙ rest.1
-              | false ↦ rest.1
-            ],
-          )
-    ] refl found
-  where
-    one : (b : Bool) → first_of (cond b (c ∷ []) []) ≡ cond b (Some c) None
-    one true = refl
-    one false = refl
+    grind (arith, nat_tests, first_passing w k cs c, and_parts, eqb-true, not_true, eq-eqb, none_with, none_any, unamong-filter, or_false)
 
 pub none_passing : (w : Command → Bool) (k : ℕ) (cs : List Command) → first_of (filter (λ d. d.ticket == k) cs) ≡ None → first_of (filter (λ d. d.ticket == k && w d) cs) ≡ None
 none_passing w k [] none = refl

@@ -1,5 +1,6 @@
 -- How many of a list pass tests, one weaker than the other.
 use Rattle.std.proofs.Common.{◌≡◌, ℕ, ◌+◌, ◌≤◌, ◌==◌, ◌&&◌, ◌||◌, not, ⊎_elim, cond, Bool, true, false, List, [], ◌∷◌, filter, count_by, refl, ap, sym, ◌∙◌, arith, length, ◌<◌, get_or, set, suc, zero, Some, find, ◌++◌, None, Option, drop, replicate}
+use Rattle.std.proofs.lemmas.Bool.Decides.{nat_tests}
 use Rattle.std.proofs.lemmas.Bool.{false≢true}
 use Rattle.std.proofs.lemmas.List.Sums.{sum_by-cons, sum_by-append}
 use Rattle.iscsi_history.specs.rules.Trace.{Command, is_among}
@@ -38,24 +39,12 @@ count-weaker p q (x ∷ xs) h = omega (arith, count-cons p x xs, count-cons q x 
 -- and one more, where it alone passes an element
 pub count-lost : {A : Type 0} (p q : A → Bool) (xs : List A) (x : A) → ((y : A) → p y ≡ true → q y ≡ true) → In x xs → p x ≡ false → q x ≡ true → count_by p xs + 1 ≤ count_by q xs
 count-lost p q [] x h there none some = absurd there
-count-lost p q (y ∷ xs) x h there none some =
-    let ps : count_by p (y ∷ xs) ≡ one (p y) + count_by p xs = count-cons p y xs in
-    let qs : count_by q (y ∷ xs) ≡ one (q y) + count_by q xs = count-cons q y xs in
-    ⊎_elim
-    (λ same.
-    omega (arith, ps, qs, one_same p y x false same none, one_same q y x true same some, count-weaker p q xs h))
-    (λ later. omega (arith, ps, qs, one_weaker (p y) (q y) (h y), count-lost p q xs x h later none some))
-    there
+count-lost p q (y ∷ xs) x h there none some = grind (arith, nat_tests, count-lost p q xs x, count-cons, one_same, count-weaker, one_weaker)
 
 -- an element that passes counts
 pub count-one : {A : Type 0} (p : A → Bool) (xs : List A) (x : A) → In x xs → p x ≡ true → 1 ≤ count_by p xs
 count-one p [] x there passes = absurd there
-count-one p (y ∷ xs) x there passes =
-    let ps : count_by p (y ∷ xs) ≡ one (p y) + count_by p xs = count-cons p y xs in
-    ⊎_elim
-    (λ same. omega (arith, ps, one_same p y x true same passes))
-    (λ later. omega (arith, ps, count-one p xs x later passes))
-    there
+count-one p (y ∷ xs) x there passes = grind (arith, nat_tests, count-one p xs x, count-cons, one_same)
 
 split_one : (b c : Bool) → one (b && c) + one (not b && c) ≡ one c
 split_one true true = refl
@@ -109,11 +98,7 @@ at_most p (z ∷ ys) = grind (arith, at_most p ys)
 -- at least one command fewer
 pub fewer : {A : Type 0} (p : A → Bool) (xs : List A) (x : A) → find p xs ≡ Some x → length (filter (λ y. not (p y)) xs) + 1 ≤ length xs
 fewer p [] x h = absurd cc
-fewer p (y ∷ xs) x h =
-    elim (p y) as (λ b. cond b (Some y) (find p xs) ≡ Some x → length (cond (not b) (y ∷ filter (λ z. not (p z)) xs) (filter (λ z. not (p z)) xs)) + 1 ≤ suc (length xs)) [
-      | true ↦ λ here. omega (arith, at_most p xs)
-      | false ↦ λ later. omega (arith, fewer p xs x later)
-    ] h
+fewer p (y ∷ xs) x h = grind (arith, nat_tests, fewer p xs x, at_most)
 
 -- ---- places
 
@@ -141,19 +126,7 @@ count_replaced p (y ∷ ps) (suc k) x d lt =
 -- at least the one that is found is left out
 pub fewer_left : {A : Type 0} (p q : A → Bool) (xs : List A) (x : A) → find p xs ≡ Some x → q x ≡ true → length (filter (λ y. not (q y)) xs) + 1 ≤ length xs
 fewer_left p q [] x found is = absurd cc
-fewer_left p q (y ∷ xs) x found is =
-    elim (p y) as (λ b. cond b (Some y) (find p xs) ≡ Some x → length (filter (λ z. not (q z)) (y ∷ xs)) + 1 ≤ suc (length xs)) [
-      | true ↦ λ here.
-          let same : y ≡ x = cc in
-          let out : q y ≡ true = ap q same ∙ is in
-          omega (arith, at_most q xs, ap (λ b. length (cond (not b) (y ∷ filter (λ z. not (q z)) xs) (filter (λ z. not (q z)) xs))) out)
-      | false ↦ λ there.
-          let rest : length (filter (λ z. not (q z)) xs) + 1 ≤ length xs = fewer_left p q xs x there is in
-          elim (q y) as (λ b. length (cond (not b) (y ∷ filter (λ z. not (q z)) xs) (filter (λ z. not (q z)) xs)) + 1 ≤ suc (length xs)) [
-            | true ↦ omega (arith, rest)
-            | false ↦ omega (arith, rest)
-          ]
-    ] found
+fewer_left p q (y ∷ xs) x found is = grind (arith, nat_tests, fewer_left p q xs x, at_most)
 
 pub none_counted : {A : Type 0} (p : Option A → Bool) (n : ℕ) → p None ≡ false → count_by p (replicate n None) ≡ 0
 none_counted p zero h = refl

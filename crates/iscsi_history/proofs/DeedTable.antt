@@ -59,64 +59,24 @@ module _ (f : Facts) (r : Request) where
   says_query there n is other = λ set e. false≢true (sym (unset r n is other) ∙ set)
 
   pub befits_function : Befits f r (function_deed f r)
-  befits_function = by_unit f.unit refl
-    where
-      by_unit : (x : Option ℕ) → f.unit ≡ x → Befits f r (elim x [ Some unit ↦ unit_deed f r unit | None ↦ Nothing ])
-      by_unit None named = tt
-      by_unit (Some unit) named =
-          cond_both (function r == 1) _ _ (Befits f r) (λ one. befits_abort unit named one) (λ is.
-          cond_both (function r == 5) _ _ (Befits f r) (λ is. named) (λ other.
-          cond_both (function r == 9) _ _ (Befits f r) (λ is. says_query (is_some f.live) 9 is refl) (λ is.
-          cond_both (function r == 10) _ _ (Befits f r) (λ is. says_query f.has_commands 10 is refl) (λ is. (named, other)))))
+  befits_function = grind (arith, nat_tests)
 
   -- a refusal isn't Function complete
   pub refused_otherwise : (x : Answer) → refusal f.level f.unit r ≡ Some x → x ≡ Respond 0 → ⊥
-  refused_otherwise x is = by_tests (itt r == NO_TAG) (function r == 8) (not (is_supported f.level (function r))) f.unit is
-    where
-      by_tests : (b c d : Bool) (y : Option ℕ) → cond b (Some (Reject 9)) (cond c (Some (Respond 4)) (cond d (Some (Respond 5)) (elim y [ Some u ↦ None | None ↦ Some (Respond 2) ]))) ≡ Some x → x ≡ Respond 0 → ⊥
-      by_tests true c d y h e = cc
-      by_tests false true d y h e = cc
-      by_tests false false true y h e = cc
-      by_tests false false false (Some u) h e = cc
-      by_tests false false false None h e = cc
+  refused_otherwise x is = grind (arith, nat_tests)
 
   -- nor a Logout Response
   pub refused_plainly : (x : Answer) → refusal f.level f.unit r ≡ Some x → is_parting x ≡ false
-  refused_plainly x is = by_tests (itt r == NO_TAG) (function r == 8) (not (is_supported f.level (function r))) f.unit is
-    where
-      fits : (y : Answer) → is_parting y ≡ false → Some y ≡ Some x → is_parting x ≡ false
-      fits y plain same = let z : y ≡ x = cc in ap is_parting (sym z) ∙ plain
-
-      by_tests : (b c d : Bool) (y : Option ℕ) → cond b (Some (Reject 9)) (cond c (Some (Respond 4)) (cond d (Some (Respond 5)) (elim y [ Some u ↦ None | None ↦ Some (Respond 2) ]))) ≡ Some x → is_parting x ≡ false
-      by_tests true c d y h = fits (Reject 9) refl h
-      by_tests false true d y h = fits (Respond 4) refl h
-      by_tests false false true y h = fits (Respond 5) refl h
-      by_tests false false false (Some u) h = absurd cc
-      by_tests false false false None h = fits (Respond 2) refl h
+  refused_plainly x is = grind (arith, nat_tests)
 
   unless_refused : (d : Deed) → Befits f r d → Befits f r (elim (refusal f.level f.unit r) [ Some x ↦ Replies x | None ↦ d ])
-  unless_refused d befits = by_refusal (refusal f.level f.unit r) refl
-    where
-      by_refusal : (x : Option Answer) → refusal f.level f.unit r ≡ x → Befits f r (elim x [ Some y ↦ Replies y | None ↦ d ])
-      by_refusal (Some y) is = says_other y (refused_otherwise y is)
-      by_refusal None is = befits
+  unless_refused d befits = grind (arith, nat_tests)
 
   befits_command : Befits f r (command_deed f r)
   befits_command = grind arith
 
   pub befits_deed : Befits f r (deed_of f r)
-  befits_deed =
-      cond_both (opcode r == 0x02) _ _ (Befits f r) (λ is. unless_refused (function_deed f r) befits_function) (λ is.
-      cond_both (opcode r == 0x06) _ _ (Befits f r) (λ is. logout) (λ is.
-      cond_both (opcode r == 0x00) _ _ (Befits f r) (λ is. cond_both (itt r == NO_TAG) _ _ (Befits f r) (λ is. tt) (λ is. says_other Pong (λ e. cc))) (λ is.
-      cond_both (opcode r == 0x04) _ _ (Befits f r) (λ is. says_other (Reject 5) (λ e. cc)) (λ is. befits_command))))
-    where
-      logout : Befits f r (logout_deed f r)
-      logout =
-          cond_both (itt r == NO_TAG) _ _ (Befits f r) (λ is. says_other (Reject 9) (λ e. cc)) (λ is.
-          cond_both (function r == 0) _ _ (Befits f r) (λ is. tt) (λ is.
-          cond_both (function r == 1) _ _ (Befits f r) (λ is. cond_both f.is_open _ _ (Befits f r) (λ is. (refl, is)) (λ is. says_other (LogOut 1) (λ e. cc))) (λ is.
-          cond_both (function r == 2) _ _ (Befits f r) (λ is. says_other (LogOut 2) (λ e. cc)) (λ is. says_other (Reject 9) (λ e. cc)))))
+  befits_deed = grind (arith, nat_tests)
 
 -- ---- what holds of each deed of a table
 
@@ -130,32 +90,7 @@ pub through_function : (P : Deed → Type 0) (f : Facts) (r : Request) → P Not
 through_function P f r nothing reply void empty abort earlier all = with_answers P f r nothing (λ n. reply (Respond n)) void empty abort earlier all
 
 pub through_deed : (P : Deed → Type 0) (f : Facts) (r : Request) → P (function_deed f r) → P Nothing → ((x : Answer) → P (Replies x)) → ((unit : ℕ) → P (Enter unit)) → ((closing : ℕ) → P (CloseConn closing)) → P CloseSession → P (deed_of f r)
-through_deed P f r functions nothing reply enter close end =
-    cond_both (opcode r == 0x02) _ _ P (λ is. by_refusal (refusal f.level f.unit r)) (λ is.
-    cond_both (opcode r == 0x06) _ _ P (λ is. logout) (λ is.
-    cond_both (opcode r == 0x00) _ _ P (λ is. cond_both (itt r == NO_TAG) _ _ P (λ is. nothing) (λ is. reply Pong)) (λ is.
-    cond_both (opcode r == 0x04) _ _ P (λ is. reply _) (λ is. command))))
-  where
-    by_refusal : (x : Option Answer) → P (elim x [ Some y ↦ Replies y | None ↦ function_deed f r ])
-    by_refusal (Some y) = reply y
-    by_refusal None = functions
-
-    logout : P (logout_deed f r)
-    logout =
-        cond_both (itt r == NO_TAG) _ _ P (λ is. reply _) (λ is.
-        cond_both (function r == 0) _ _ P (λ is. end) (λ is.
-        cond_both (function r == 1) _ _ P (λ is. cond_both f.is_open _ _ P (λ is. close (cid r)) (λ is. reply _)) (λ is.
-        cond_both (function r == 2) _ _ P (λ is. reply _) (λ is. reply _))))
-
-    by_unit : (x : Option ℕ) → P (elim x [ Some unit ↦ cond f.is_crowded (Replies (Reject 6)) (cond f.is_full (Replies Full) (Enter unit)) | None ↦ Replies NoUnit ])
-    by_unit None = reply _
-    by_unit (Some unit) = cond_both f.is_crowded _ _ P (λ is. reply _) (λ is. cond_both f.is_full _ _ P (λ is. reply _) (λ is. enter unit))
-
-    command : P (command_deed f r)
-    command =
-        cond_both (itt r == NO_TAG) _ _ P (λ is. reply _) (λ is.
-        cond_both (nat_lt 3 (attr_code r)) _ _ P (λ is. reply _) (λ is.
-        cond_both f.is_used _ _ P (λ is. reply _) (λ is. by_unit f.unit)))
+through_deed P f r functions nothing reply enter close end = grind (arith, nat_tests)
 
 -- what executes doesn't wait
 pub never_waits : (f : Facts) (r : Request) → deed_of f r ≡ Wait → ⊥

@@ -1,5 +1,6 @@
 -- The elements of lists.
 use Rattle.std.proofs.Common.{◌≡◌, ℕ, zero, suc, ◌+◌, ◌<◌, ◌≤◌, ◌⊎◌, inl, inr, ⊎_elim, cond, Bool, true, false, List, [], ◌∷◌, ◌++◌, length, filter, get_or, Option, Some, None, refl, ap, sym, subst, ◌∙◌, arith}
+use Rattle.std.proofs.lemmas.Bool.Decides.{nat_tests}
 use Rattle.std.specs.List.{list_any, flat_map, range_with_len, cons_option}
 use Rattle.std.specs.Prelude.{Contains}
 use Rattle.std.proofs.lemmas.Bool.{false≢true, cases_eq}
@@ -33,9 +34,7 @@ append-in_second (z ∷ xs) ys x h = inr (append-in_second xs ys x h)
 
 pub flat_map-in : {A : Type 0} (f : ℕ → List A) (ns : List ℕ) (n : ℕ) (x : A) → In n ns → In x (f n) → In x (flat_map f ns)
 flat_map-in f [] n x there h = absurd there
-flat_map-in f (m ∷ ns) n x there h =
-    ⊎_elim (λ same. append-in_first (f m) (flat_map f ns) x (subst (λ k. In x (f k)) (sym same) h))
-    (λ later. append-in_second (f m) (flat_map f ns) x (flat_map-in f ns n x later h)) there
+flat_map-in f (m ∷ ns) n x there h = grind (arith, nat_tests, flat_map-in f ns n x, append-in_first, append-in_second)
 
 pub range-in : (a count n : ℕ) → a ≤ n → n < a + count → In n (range_with_len a count)
 range-in a zero n low high = absurd (omega arith)

@@ -1,5 +1,6 @@
 -- Items that receive a number without a request, and items that take held requests out.
 use Rattle.std.proofs.Common.{List, ◌∷◌, refl, [], false, ℕ, ◌≡◌, ◌==◌, ap, sym, ◌||◌, ◌∙◌, ◌++◌, None, cond, option_map, eq-eqb, Bool, map, Some, ◌+◌, ◌<◌, arith, suc, zero, ◌≤◌, Option, append_assoc, true}
+use Rattle.std.proofs.lemmas.Bool.Decides.{nat_tests}
 use Rattle.std.specs.List.{filter_map, list_any, cons_option, range_with_len}
 use Rattle.std.proofs.lemmas.List.{append-nil}
 use Rattle.std.proofs.lemmas.Grind.{flat_map-append}
@@ -170,20 +171,10 @@ pub record SameNumbers (t t' : Trace) : Type 0 where
 
 module _ (m : Mark) (ms : List Mark) (t : Trace) where
   pub shown-joined : {A : Type 0} (view : Mark → Option A) → shown view ((m ∷ ms) ∷ t) ≡ shown view (ms ∷ (m ∷ []) ∷ t)
-  shown-joined {A} view = by_first (view m)
-    where
-      by_first : (x : Option A) → shown view t ++ cons_option x (filter_map view ms) ≡ (shown view t ++ cons_option x []) ++ filter_map view ms
-      by_first None = ap (λ xs. xs ++ filter_map view ms) (sym (append-nil (shown view t)))
-      by_first (Some x) = sym (append_assoc (shown view t) (x ∷ []) (filter_map view ms))
+  shown-joined {A} view = grind (arith, nat_tests, append-nil, append_assoc)
 
   pub has-joined : (test : Mark → Bool) → has test ((m ∷ ms) ∷ t) ≡ has test (ms ∷ (m ∷ []) ∷ t)
   has-joined test = grind arith
 
   pub joined-same : SameNumbers (ms ∷ (m ∷ []) ∷ t) ((m ∷ ms) ∷ t)
-  joined-same = record {
-    received_is = shown-joined number_received;
-    admitted_is = λ n. ap first_of (shown-joined (admits_at n));
-    delivered_is = λ n. has-joined (delivers_number n);
-    emptied_is = λ n. has-joined (empties_number n);
-    delivers_is = shown-joined delivers;
-  }
+  joined-same = grind (arith, nat_tests, shown-joined, has-joined)

@@ -21,13 +21,7 @@ was_before c item t = grind arith
 
 flat_map-one : {A : Type 0} (f : ℕ → List A) (from n k : ℕ) → from ≤ k → k < from + n → ((j : ℕ) → (j == k) ≡ false → f j ≡ []) → flat_map f (range_with_len from n) ≡ f k
 flat_map-one f from zero k low high none = absurd (omega arith)
-flat_map-one f from (suc n) k low high none =
-    ⊎_elim
-    (λ here.
-    ap (λ ys. f from ++ ys) (flat_map-none f (from + 1) n (λ j le. none j (let no : (j == k) ≡ false = grind (arith, nat_tests) in no)))
-    ∙ append-nil (f from) ∙ ap f here)
-    (λ apart. ap (λ ys. ys ++ flat_map f (range_with_len (from + 1) n)) (none from (let no : (from == k) ≡ false = grind (arith, nat_tests) in no)) ∙ flat_map-one f (from + 1) n k (omega arith) (omega arith) none)
-    (cases_eq from k)
+flat_map-one f from (suc n) k low high none = grind (arith, nat_tests, flat_map-one f (from + 1) n k, flat_map-none, append-nil, cases_eq)
 
 -- one that touches a single unit enables commands of that one
 pub newly-one : (o : Setting) (item : List Mark) (t : Trace) (unit : ℕ) → unit < o.units → ((other : ℕ) → (other == unit) ≡ false → live_in other (item ∷ t) ≡ live_in other t) → newly_enabled o t item ≡ new_in t item unit
@@ -86,21 +80,7 @@ shown-before o t k = ap (λ b. enabled_once o t k && not b) (left_so_far o t k)
 -- each is among those of its unit
 all_in_unit : (cs : List Command) → list_all (λ (c : Command). is_here c.unit (filter (λ (d : Command). d.unit == c.unit) cs) c) cs ≡ true
 all_in_unit [] = refl
-all_in_unit (x ∷ cs) =
-    and_both (is_here x.unit (filter (λ (d : Command). d.unit == x.unit) (x ∷ cs)) x) (list_all (λ (c : Command). is_here c.unit (filter (λ (d : Command). d.unit == c.unit) (x ∷ cs)) c) cs)
-    (ap (λ b. b && is_among x.ticket (cond b (x ∷ filter (λ (d : Command). d.unit == x.unit) cs) (filter (λ (d : Command). d.unit == x.unit) cs))) (eq-eqb x.unit x.unit refl) ∙ ap (λ b. b || is_among x.ticket (filter (λ (d : Command). d.unit == x.unit) cs)) (eq-eqb x.ticket x.ticket refl))
-    (weaker (λ (c : Command). is_here c.unit (filter (λ (d : Command). d.unit == c.unit) cs) c) (λ (c : Command). is_here c.unit (filter (λ (d : Command). d.unit == c.unit) (x ∷ cs)) c) cs grows (all_in_unit cs))
-  where
-    grows : (c : Command) → is_here c.unit (filter (λ (d : Command). d.unit == c.unit) cs) c ≡ true → is_here c.unit (filter (λ (d : Command). d.unit == c.unit) (x ∷ cs)) c ≡ true
-    grows c h =
-        elim (x.unit == c.unit) as (λ b. ((c.unit == c.unit) && is_among c.ticket (cond b (x ∷ filter (λ (d : Command). d.unit == c.unit) cs) (filter (λ (d : Command). d.unit == c.unit) cs))) ≡ true) [
-          | true ↦ more (c.unit == c.unit) (x.ticket == c.ticket) (is_among c.ticket (filter (λ (d : Command). d.unit == c.unit) cs)) h
-          | false ↦ h
-        ]
-      where
-        more : (a b e : Bool) → (a && e) ≡ true → (a && (b || e)) ≡ true
-        more true b e k = or_second b e k
-        more false b e k = absurd (false≢true k)
+all_in_unit (x ∷ cs) = grind (arith, nat_tests, all_in_unit cs, and_both, is_here, eq-eqb, weaker, or_second, false≢true)
 
 -- ---- an item that nothing enters or leaves by
 

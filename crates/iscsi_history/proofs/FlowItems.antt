@@ -1,5 +1,6 @@
 -- Items one after the other: their effects, the agenda in two halves, and ExpCmdSN, which doesn't go back.
 use Rattle.std.proofs.Common.{◌++◌, List, [], ap, append_assoc, refl, sym, ◌∙◌, ◌∷◌, ◌≡◌, length, ◌+◌, suc, zero, ℕ, ◌-◌, ◌<◌, arith, ◌==◌, inl, inr, true, ◌≤◌, ⊎_elim, ◌⊎◌, subst}
+use Rattle.std.proofs.lemmas.Bool.Decides.{nat_tests}
 use Rattle.std.specs.List.{list_all}
 use Rattle.std.proofs.lemmas.List.{append-nil}
 use Rattle.std.proofs.lemmas.List.Folds.{list_any-append}
@@ -35,12 +36,7 @@ turns o n (suc more) t = let now = turn_at o n t in now ++ agenda o (n + 1) more
 
 pub agenda-halves : (o : Setting) (n m : ℕ) (t : Trace) → agenda o n m t ≡ functions_at o n t ++ turns o n m (after_items (functions_at o n t) t)
 agenda-halves o n zero t = sym (append-nil (functions_at o n t))
-agenda-halves o n (suc m) t =
-    let before : List (List Mark) = functions_at o n t in
-    let t' : Trace = after_items before t in
-    let turn : List (List Mark) = turn_at o n t' in
-    append_assoc before turn (agenda o (n + 1) m (after_items (before ++ turn) t))
-    ∙ ap (λ u. before ++ (turn ++ agenda o (n + 1) m u)) (after_items-append before turn t)
+agenda-halves o n (suc m) t = grind (arith, nat_tests, append_assoc, after_items-append)
 
 pub turns-more : (o : Setting) (e f : ℕ) (t : Trace) → e < f → turns o e (f - e) t ≡ turn_at o e t ++ agenda o (e + 1) (f - (e + 1)) (after_items (turn_at o e t) t)
 turns-more o e f t past = ap (λ n. turns o e n t) (let z : f - e ≡ suc (f - (e + 1)) = omega arith in z)
@@ -80,10 +76,7 @@ split_last (x ∷ h) e [] after event is = inr (h, cc)
 split_last (x ∷ h) e (b ∷ before) after event is = grind (arith, split_last h e before after event)
 
 pub FlowsThrough-push : (o : Setting) (h : List Event) (e : Event) → FlowsThrough o h → Flows o (trace_of o h) (trace_of o (h ++ e ∷ [])) → FlowsThrough o (h ++ e ∷ [])
-FlowsThrough-push o h e all now = λ before after event is.
-    ⊎_elim (λ last. subst (λ es. Flows o (trace_of o es) (trace_of o (es ++ event ∷ []))) (sym last.0) (subst (λ x. Flows o (trace_of o h) (trace_of o (h ++ x ∷ []))) (sym last.1) now))
-    (λ inner. all before inner.0 event inner.1)
-    (split_last h e before after event is)
+FlowsThrough-push o h e all now = grind (arith, nat_tests, split_last)
 
 -- so do the events with it
 pub belong_more : (o : Setting) (h : List Event) (e : Event) → list_all (belongs o) h ≡ true → belongs o e ≡ true → list_all (belongs o) (h ++ e ∷ []) ≡ true

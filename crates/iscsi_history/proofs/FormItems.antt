@@ -87,10 +87,7 @@ of_units p u (c ∷ cs) =
 -- the commands of units are no more than all
 units_counted : (p : Command → Bool) (cs : List Command) (u n : ℕ) → count_by p (flat_map (λ v. filter (λ c. c.unit == v) cs) (range_with_len u n)) ≤ count_by p (filter (λ c. nat_le u c.unit) cs)
 units_counted p cs u zero = omega arith
-units_counted p cs u (suc n) =
-    let here : List Command = filter (λ c. c.unit == u) cs in
-    let later : List Command = flat_map (λ v. filter (λ c. c.unit == v) cs) (range_with_len (u + 1) n) in
-    omega (arith, sum_by-append (λ y. cond (p y) 1 0) here later, units_counted p cs (u + 1) n, of_units p u cs)
+units_counted p cs u (suc n) = grind (arith, nat_tests, units_counted p cs (u + 1) n, sum_by-append, of_units)
 
 -- ---- what is held
 
@@ -181,15 +178,7 @@ module _ (o : Setting) (t : Trace) (start : Start) (a : Arrival) where
 
   leave_done : (cs : List Command) → ((p : Command → Bool) → count_by p cs ≤ count_by p (live t')) → IsDone o t start a (record idle { leaving = cs; reply = Some (Task (itt a.request) 0) })
   unfolding t'
-  leave_done cs few = record {
-    voids = tt;
-    missing = tt;
-    leaves = λ p. omega (arith, few p, ap (count_by p) (live-begun start a t));
-    empties = λ b h. absurd h;
-    enters = tt;
-    answers = refl;
-    takes_out = λ h. absurd (false≢true h);
-  }
+  leave_done cs few = grind (arith, nat_tests, live-begun, false≢true)
 
   empty_done : (b : Arrival) → held t' b.number ≡ Some b → IsDone o t start a (record idle { emptied = b ∷ []; reply = Some (Task (itt a.request) 0) })
   unfolding t'
@@ -206,15 +195,7 @@ module _ (o : Setting) (t : Trace) (start : Start) (a : Arrival) where
   -- a number is voided, if it wasn't received before
   void_done : (n : ℕ) → is_received t' n ≡ false → is_immediate a.request ≡ true → (function a.request == 1) ≡ true → IsDone o t start a (record idle { void = Some n; reply = Some (Task (itt a.request) 0) })
   unfolding t'
-  void_done n new immediate one = record {
-    voids = ap (λ ns. list_any (λ k. k == n) ns) (sym (received-begun start a t)) ∙ new;
-    missing = (immediate, one);
-    leaves = λ p. omega arith;
-    empties = λ b h. absurd h;
-    enters = tt;
-    answers = refl;
-    takes_out = λ h. absurd (false≢true h);
-  }
+  void_done n new immediate one = grind (arith, nat_tests, received-begun, false≢true)
 
   -- ---- Logout
 

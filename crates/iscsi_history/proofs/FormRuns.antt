@@ -246,9 +246,7 @@ event_going o now t e x = by_items (items_of o now t e) (event_stands AnyArrival
 
 events_have_forms : (o : Setting) (now : ℕ) (t : Trace) (h : List Event) → HaveForms o now t → HaveForms o (now + length h) (after_events o now t h)
 events_have_forms o now t [] x = HaveForms-on o now (now + 0) t (omega arith) x
-events_have_forms o now t (e ∷ h) x =
-    HaveForms-on o ((now + 1) + length h) (now + suc (length h)) (after_events o (now + 1) (after_event o now t e) h) (omega arith)
-    (events_have_forms o (now + 1) (after_event o now t e) h (event_going o now t e x))
+events_have_forms o now t (e ∷ h) x = grind (arith, nat_tests, events_have_forms o (now + 1) (after_event o now t e) h, HaveForms-on, event_going)
 
 -- each item of the trace of these events has a form
 pub trace_has_forms : (o : Setting) (h : List Event) → HaveForms o (length h) (trace_of o h)

@@ -64,11 +64,7 @@ pub held-admits : (t : Trace) (a : Arrival) (n : ℕ) → (a.number == n) ≡ fa
 held-admits t a n apart = ap (λ x. cond (is_delivered t n || is_emptied t n) None x) (admitted-admits t a n apart)
 
 pub held-here : (t : Trace) (a : Arrival) → is_received t a.number ≡ false → is_delivered t a.number ≡ false → is_emptied t a.number ≡ false → held ((Admits a ∷ []) ∷ t) a.number ≡ Some a
-held-here t a new undelivered unemptied =
-    ap (λ b. cond (b || is_emptied t a.number) None (admitted ((Admits a ∷ []) ∷ t) a.number)) undelivered
-    ∙ ap (λ b. cond b None (admitted ((Admits a ∷ []) ∷ t) a.number)) unemptied
-    ∙ ap (λ xs. first_of (xs ++ cons_option (cond (a.number == a.number) (Some a) None) [])) (unadmitted a.number t new)
-    ∙ ap (λ b. first_of (cons_option (cond b (Some a) None) [])) (eq-eqb a.number a.number refl)
+held-here t a new undelivered unemptied = grind (arith, nat_tests, unadmitted, eq-eqb)
 
 -- a request's turn: others are held as before
 pub held-turned : (t : Trace) (a : Arrival) (ms : List Mark) (n : ℕ) → IsQuiet ms → (a.number == n) ≡ false → held ((Delivers a ∷ ms) ∷ t) n ≡ held t n
@@ -96,17 +92,11 @@ admitted-cases t a n b h = grind arith
 -- ---- what is held was received
 
 pub held_received : (t : Trace) (n : ℕ) (h : Arrival) → held t n ≡ Some h → is_received t n ≡ true
-held_received t n h is = by_test (is_received t n) refl
-  where
-    by_test : (b : Bool) → is_received t n ≡ b → is_received t n ≡ true
-    by_test true said = said
-    by_test false said = absurd (let none : None ≡ Some h = sym (ap first_of (unadmitted n t said)) ∙ admitted_of_held t n h is in cc)
+held_received t n h is = grind (arith, nat_tests, unadmitted, admitted_of_held)
 
 -- what isn't received isn't held
 pub unreceived_unheld : (t : Trace) (n : ℕ) → is_received t n ≡ false → held t n ≡ None
-unreceived_unheld t n gone =
-    ap (λ xs. cond (is_delivered t n || is_emptied t n) None (first_of xs)) (unadmitted n t gone)
-    ∙ elim (is_delivered t n || is_emptied t n) as (λ b. (let x : Option Arrival = cond b None None in x) ≡ None) [ true ↦ refl | false ↦ refl ]
+unreceived_unheld t n gone = grind (arith, nat_tests, unadmitted)
 
 -- ---- an admission, and an item without one
 
@@ -175,12 +165,7 @@ module _ (o : Setting) (t : Trace) (tag unit below : ℕ) where
 
 -- it is below the function's number
 pub held_command-below : (o : Setting) (t : Trace) (tag unit below : ℕ) (h : Arrival) → held_command o t tag unit below ≡ Some h → h.number < below
-held_command-below o t tag unit below h found =
-    let passes : (nat_lt h.number below && opcode h.request == 0x01 && itt h.request == tag && is_to o unit h.request) ≡ true = first_itself (λ x. nat_lt x.number below && opcode x.request == 0x01 && itt x.request == tag && is_to o unit x.request) (held_requests o t) h found in
-    by_test (and_first (nat_lt h.number below) (opcode h.request == 0x01) (and_first (nat_lt h.number below && opcode h.request == 0x01) (itt h.request == tag) (and_first (nat_lt h.number below && opcode h.request == 0x01 && itt h.request == tag) (is_to o unit h.request) passes)))
-  where
-    by_test : nat_lt h.number below ≡ true → h.number < below
-    by_test test = let lt : h.number < below = grind (arith, nat_tests) in lt
+held_command-below o t tag unit below h found = grind (arith, nat_tests, first_itself, and_first)
 
 -- and is held at a place of the window
 pub held_command-held : (o : Setting) (t : Trace) (tag unit below : ℕ) (h : Arrival) → held_command o t tag unit below ≡ Some h → (held t h.number ≡ Some h) × ((exp_of o t ≤ h.number) × (h.number < exp_of o t + o.window))

@@ -84,8 +84,7 @@ among_tickets k [] = refl
 among_tickets k (c ∷ cs) = ap (λ b. (c.ticket == k) || b) (among_tickets k cs)
 
 pub beyond_entered : (o : Setting) (t : Trace) (next : ℕ) → HaveForms o next t → (k : ℕ) → length (entered t) < k → is_among k (entered t) ≡ false
-beyond_entered o t next x k h =
-    among_tickets k (entered t) ∙ ap (list_any (λ j. j == k)) (tickets_count o t next x) ∙ beyond_range 1 (length (entered t)) k (omega arith)
+beyond_entered o t next x k h = grind (arith, nat_tests, among_tickets, tickets_count, beyond_range)
 
 -- ---- what an item enables
 
@@ -98,17 +97,11 @@ abbrev newly_in : List Mark → Trace → List Command → ℕ → List Command
 newly_in item t cs unit = filter (λ c. not (was_free c t)) (filter (λ c. was_free c (item ∷ t)) (filter (λ c. c.unit == unit) cs))
 
 mine-newly_in : (item : List Mark) (t : Trace) (cs : List Command) (k unit : ℕ) → mine k (newly_in item t cs unit) ≡ newly_in item t (mine k cs) unit
-mine-newly_in item t cs k unit =
-    filter-swap (λ c. c.ticket == k) (λ c. not (was_free c t)) (filter (λ c. was_free c (item ∷ t)) (filter (λ c. c.unit == unit) cs))
-    ∙ ap (filter (λ c. not (was_free c t))) (filter-swap (λ c. c.ticket == k) (λ c. was_free c (item ∷ t)) (filter (λ c. c.unit == unit) cs)
-    ∙ ap (filter (λ c. was_free c (item ∷ t))) (filter-swap (λ c. c.ticket == k) (λ c. c.unit == unit) cs))
+mine-newly_in item t cs k unit = grind (arith, nat_tests, filter-swap)
 
 mine-units : (item : List Mark) (t : Trace) (cs : List Command) (k : ℕ) (units : List ℕ) → mine k (flat_map (newly_in item t cs) units) ≡ flat_map (newly_in item t (mine k cs)) units
 mine-units item t cs k [] = refl
-mine-units item t cs k (unit ∷ units) =
-    filter-append (λ c. c.ticket == k) (newly_in item t cs unit) (flat_map (newly_in item t cs) units)
-    ∙ ap (λ ds. ds ++ mine k (flat_map (newly_in item t cs) units)) (mine-newly_in item t cs k unit)
-    ∙ ap (λ ds. newly_in item t (mine k cs) unit ++ ds) (mine-units item t cs k units)
+mine-units item t cs k (unit ∷ units) = grind (arith, nat_tests, mine-units item t cs k units, filter-append, mine, mine-newly_in)
 
 -- where no command is there, none becomes enabled
 no_units : (item : List Mark) (t : Trace) (units : List ℕ) → flat_map (newly_in item t []) units ≡ []

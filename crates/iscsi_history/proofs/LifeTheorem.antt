@@ -62,11 +62,7 @@ data State (o : Setting) (t : Trace) (k : ℕ) : Type 0 where
 -- what of the ticket is live after the item
 live_more : (item : List Mark) (t : Trace) (k : ℕ)
     → mine k (live (item ∷ t)) ≡ filter (λ c. not (list_any (leaves_ticket c.ticket) item)) (mine k (live t)) ++ filter (λ c. not (has (leaves_ticket c.ticket) (item ∷ t))) (mine k (filter_map enters item))
-live_more item t k =
-    ap (mine k) (live-item item t)
-    ∙ filter-append (λ c. c.ticket == k) (filter (λ c. not (list_any (leaves_ticket c.ticket) item)) (live t)) (filter (λ c. not (has (leaves_ticket c.ticket) (item ∷ t))) (filter_map enters item))
-    ∙ ap (λ cs. cs ++ mine k (filter (λ c. not (has (leaves_ticket c.ticket) (item ∷ t))) (filter_map enters item))) (filter-swap (λ c. c.ticket == k) (λ c. not (list_any (leaves_ticket c.ticket) item)) (live t))
-    ∙ ap (λ cs. filter (λ c. not (list_any (leaves_ticket c.ticket) item)) (mine k (live t)) ++ cs) (filter-swap (λ c. c.ticket == k) (λ c. not (has (leaves_ticket c.ticket) (item ∷ t))) (filter_map enters item))
+live_more item t k = grind (arith, nat_tests, mine, live-item, filter-append, filter-swap)
 
 -- the command of a ticket has it
 mine-ticket : (k : ℕ) (cs : List Command) (c : Command) → mine k cs ≡ c ∷ [] → (c.ticket == k) ≡ true
@@ -76,24 +72,16 @@ module _ (o : Setting) (now : ℕ) (t : Trace) (next : ℕ) (x : HaveForms o nex
   -- what the item shows of the ticket
   shown_more : life_of k (effects_so_far o (marks_of_form form ∷ t))
       ≡ life_of k (effects_so_far o t) ++ ((map leave_effect (mine k (leaving_in form)) ++ map enter_effect (mine k (to_list (entering_in form)))) ++ map enable_effect (mine k (newly_enabled o t (marks_of_form form))))
-  shown_more =
-      filter-append (names_ticket k) (effects_so_far o t) (effects_of_item o t (marks_of_form form))
-      ∙ ap (λ es. life_of k (effects_so_far o t) ++ es) (life_item o t k form)
+  shown_more = grind (arith, nat_tests, filter-append, marks_of_form, life_item)
 
   -- ---- it doesn't enter in the item
 
   live_unentered : mine k (to_list (entering_in form)) ≡ [] → mine k (live (marks_of_form form ∷ t)) ≡ filter (λ c. not (list_any (leaves_ticket c.ticket) (marks_of_form form))) (mine k (live t))
-  live_unentered none =
-      live_more (marks_of_form form) t k
-      ∙ ap (λ cs. filter (λ c. not (list_any (leaves_ticket c.ticket) (marks_of_form form))) (mine k (live t)) ++ filter (λ c. not (has (leaves_ticket c.ticket) (marks_of_form form ∷ t))) cs) (ap (mine k) (enters_form form) ∙ none)
-      ∙ append-nil (filter (λ c. not (list_any (leaves_ticket c.ticket) (marks_of_form form))) (mine k (live t)))
+  live_unentered none = grind (arith, nat_tests, live_more, marks_of_form, mine, enters_form, append-nil)
 
   shown_unentered : mine k (to_list (entering_in form)) ≡ [] → life_of k (effects_so_far o (marks_of_form form ∷ t))
       ≡ life_of k (effects_so_far o t) ++ (map leave_effect (mine k (leaving_in form)) ++ map enable_effect (mine k (newly_enabled o t (marks_of_form form))))
-  shown_unentered none =
-      shown_more
-      ∙ ap (λ cs. life_of k (effects_so_far o t) ++ ((map leave_effect (mine k (leaving_in form)) ++ map enter_effect cs) ++ map enable_effect (mine k (newly_enabled o t (marks_of_form form))))) none
-      ∙ ap (λ es. life_of k (effects_so_far o t) ++ (es ++ map enable_effect (mine k (newly_enabled o t (marks_of_form form))))) (append-nil (map leave_effect (mine k (leaving_in form))))
+  shown_unentered none = grind (arith, nat_tests, shown_more, leave_effect, mine, leaving_in, enter_effect, enable_effect, marks_of_form, append-nil)
 
   -- nothing of it is live: nothing leaves, and nothing becomes enabled
   unlive_leaving : mine k (live t) ≡ [] → mine k (leaving_in form) ≡ []
@@ -112,10 +100,7 @@ module _ (o : Setting) (now : ℕ) (t : Trace) (next : ℕ) (x : HaveForms o nex
 
   unlive_shown : mine k (live t) ≡ [] → mine k (to_list (entering_in form)) ≡ [] → life_of k (effects_so_far o (marks_of_form form ∷ t)) ≡ life_of k (effects_so_far o t)
   unlive_shown unlive none =
-      shown_unentered none
-      ∙ ap (λ cs. life_of k (effects_so_far o t) ++ (map leave_effect cs ++ map enable_effect (mine k (newly_enabled o t (marks_of_form form))))) (unlive_leaving unlive)
-      ∙ ap (λ cs. life_of k (effects_so_far o t) ++ map enable_effect cs) (newly_none o t (marks_of_form form) k (unlive_after unlive none))
-      ∙ append-nil (life_of k (effects_so_far o t))
+      grind (arith, nat_tests, shown_unentered, leave_effect, enable_effect, mine, marks_of_form, unlive_leaving, newly_none, unlive_after, append-nil)
 
   -- ---- a command that is live
 

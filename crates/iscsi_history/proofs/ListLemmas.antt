@@ -45,8 +45,7 @@ count_by-map p f (x ∷ xs) =
     ∙ sym (sum_by-cons (λ y. cond (p (f y)) 1 0) x xs)
 
 pub count_by-push : {A : Type 0} (p : A → Bool) (xs : List A) (x : A) → count_by p (xs ++ x ∷ []) ≡ count_by p xs + cond (p x) 1 0
-count_by-push p xs x =
-    sum_by-append (λ y. cond (p y) 1 0) xs (x ∷ []) ∙ ap (λ n. count_by p xs + n) (sum_by-cons (λ y. cond (p y) 1 0) x [] ∙ (let z : cond (p x) 1 0 + 0 ≡ cond (p x) 1 0 = omega arith in z))
+count_by-push p xs x = grind (arith, nat_tests, sum_by-append, sum_by-cons)
 
 -- fewer are counted of fewer
 pub fewer_counted : {A : Type 0} (p q : A → Bool) (xs : List A) → count_by p (filter q xs) ≤ count_by p xs
@@ -73,10 +72,7 @@ some_by true x h = refl
 some_by false x h = absurd (false≢true h)
 
 pub IsSome-position : {A : Type 0} (p : A → Bool) (xs : List A) → list_any p xs ≡ true → IsSome (position p xs)
-IsSome-position p xs h =
-    let lt : position_or_len p xs < length xs = first_place p xs h in
-    let test : nat_lt (position_or_len p xs) (length xs) ≡ true = grind (arith, nat_tests) in
-    some_by (nat_lt (position_or_len p xs) (length xs)) (position_or_len p xs) test
+IsSome-position p xs h = grind (arith, nat_tests, first_place, some_by)
 
 -- the connections with these CIDs are the known ones
 pub is_known-cids : (cid : ℕ) (xs ys : List (ℕ × ℕ)) → map (λ (c : ℕ × ℕ). c.0) xs ≡ map (λ (c : ℕ × ℕ). c.0) ys → is_known cid xs ≡ is_known cid ys

@@ -1,5 +1,6 @@
 -- Moments: what the log shows of enabled commands, and the rule as a law.
-use Rattle.std.proofs.Common.{◌≡◌, ℕ, ◌+◌, ◌==◌, ◌||◌, not, cond, Bool, true, false, List, [], ◌∷◌, ◌++◌, map, filter, refl, ap, sym, ◌∙◌, ◌↔◌, append_assoc}
+use Rattle.std.proofs.Common.{arith, ◌≡◌, ℕ, ◌+◌, ◌==◌, ◌||◌, not, cond, Bool, true, false, List, [], ◌∷◌, ◌++◌, map, filter, refl, ap, sym, ◌∙◌, ◌↔◌, append_assoc}
+use Rattle.std.proofs.lemmas.Bool.Decides.{nat_tests}
 use Rattle.std.specs.List.{list_any, flat_map}
 use Rattle.std.proofs.lemmas.Bool.{false≢true, eqb-true}
 use Rattle.std.proofs.lemmas.List.{append-nil}
@@ -69,10 +70,7 @@ items_effects o t (item ∷ items) = items_effects o (item ∷ t) items ∙ appe
 
 pub log_effects : (o : Setting) (event : ℕ) (t : Trace) (h : List Event) → effects_so_far o (after_events o event t h) ≡ effects_so_far o t ++ effects_in (entries_from o event t h)
 log_effects o event t [] = sym (append-nil (effects_so_far o t))
-log_effects o event t (e ∷ h) =
-    log_effects o (event + 1) (after_event o event t e) h
-    ∙ ap (λ es. es ++ effects_in (entries_from o (event + 1) (after_event o event t e) h)) (items_effects o t (items_of o event t e))
-    ∙ append_assoc (effects_so_far o t) (effects_of o t (items_of o event t e)) (effects_in (entries_from o (event + 1) (after_event o event t e) h))
+log_effects o event t (e ∷ h) = grind (arith, nat_tests, log_effects o (event + 1) (after_event o event t e) h, items_effects, append_assoc)
 
 -- ---- the rule
 

@@ -44,10 +44,7 @@ all_here unit t = both_all (λ c. c.unit == unit) (λ c. is_among c.ticket (live
 -- a command that never entered was never free
 pub never_free : (c : Command) (t : Trace) → is_among c.ticket (entered t) ≡ false → was_free c t ≡ false
 never_free c [] gone = refl
-never_free c (item ∷ t) gone =
-    let parts = or_none (is_among c.ticket (entered t)) (is_among c.ticket (filter_map enters item)) (sym (list_any-append (λ (d : Command). d.ticket == c.ticket) (entered t) (filter_map enters item)) ∙ gone) in
-    let out : is_among c.ticket (live_in c.unit (item ∷ t)) ≡ false = unamong-filter (λ (d : Command). d.unit == c.unit) c.ticket (live (item ∷ t)) (unamong-filter (λ (d : Command). not (has (leaves_ticket d.ticket) (item ∷ t))) c.ticket (entered (item ∷ t)) gone) in
-    ap (λ b. (b && is_free (queued_of c) (map queued_of (live_in c.unit (item ∷ t)))) || was_free c t) out ∙ never_free c t parts.0
+never_free c (item ∷ t) gone = grind (arith, nat_tests, never_free c t, or_none, list_any-append, unamong-filter)
 
 -- who is free among more is free among fewer
 free_among_fewer : (q : Queued) (xs ys : List Queued) → is_free q (xs ++ ys) ≡ true → is_free q xs ≡ true
@@ -55,18 +52,7 @@ free_among_fewer q xs ys h = ap not (or_none (list_any (bars q) xs) (list_any (b
 
 -- nothing changes for a command of a unit that others enter, or that nothing enters or leaves
 pub was_free-stays : (item : List Mark) (t : Trace) (unit : ℕ) (more : List Command) (c : Command) → live_in unit (item ∷ t) ≡ live_in unit t ++ more → is_here unit (live_in unit t) c ≡ true → was_free c (item ∷ t) ≡ was_free c t
-was_free-stays item t unit more c now here =
-    let parts = and_parts (c.unit == unit) (is_among c.ticket (live_in unit t)) here in
-    let at : live_in c.unit (item ∷ t) ≡ live_in unit t ++ more = ap (λ u. live_in u (item ∷ t)) (eqb-true c.unit unit parts.0) ∙ now in
-    let before : live_in c.unit t ≡ live_in unit t = ap (λ u. live_in u t) (eqb-true c.unit unit parts.0) in
-    elim (is_free_at c (item ∷ t)) as (λ b. is_free_at c (item ∷ t) ≡ b → (b || was_free c t) ≡ was_free c t) [
-      | false ↦ λ is. refl
-      | true ↦ λ is.
-          let free : is_free (queued_of c) (map queued_of (live_in unit t ++ more)) ≡ true = ap (λ cs. is_free (queued_of c) (map queued_of cs)) (sym at) ∙ (and_parts (is_among c.ticket (live_in c.unit (item ∷ t))) (is_free (queued_of c) (map queued_of (live_in c.unit (item ∷ t)))) is).1 in
-          let fewer : is_free (queued_of c) (map queued_of (live_in unit t)) ≡ true = free_among_fewer (queued_of c) (map queued_of (live_in unit t)) (map queued_of more) (ap (is_free (queued_of c)) (sym (map-append queued_of (live_in unit t) more)) ∙ free) in
-          let then : is_free_at c t ≡ true = and_both (is_among c.ticket (live_in c.unit t)) (is_free (queued_of c) (map queued_of (live_in c.unit t))) (ap (is_among c.ticket) before ∙ parts.1) (ap (λ cs. is_free (queued_of c) (map queued_of cs)) before ∙ fewer) in
-          sym (free_now c t then)
-    ] refl
+was_free-stays item t unit more c now here = grind (arith, nat_tests, and_parts, eqb-true, free_among_fewer, map-append, and_both, free_now)
 
 -- the commands of a unit that an item enables
 abbrev pub new_in : Trace → List Mark → ℕ → List Command

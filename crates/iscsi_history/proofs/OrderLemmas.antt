@@ -37,26 +37,14 @@ weaker_from j k [] low from = refl
 weaker_from j k (e ∷ es) low from = grind (arith, weaker_from j k es)
 
 rises-on : (j k : ℕ) (es : List Effect) → j ≤ k → Rises k es → Rises j es
-rises-on j k es low r = record {
-  sorted = r.sorted;
-  from = weaker_from j k es low r.from;
-  unignored = r.unignored;
-  replies = (let z : count_by is_reply es ≤ cond (nat_le j 5) 1 0 = grind (arith, nat_tests, r.replies) in z);
-  requests = (let z : count_by is_request es ≤ cond (nat_le j 0) 1 0 = grind (arith, nat_tests, r.requests) in z);
-}
+rises-on j k es low r = grind (arith, nat_tests, weaker_from)
 
 rises-none : (k : ℕ) → Rises k []
 rises-none k = record { sorted = refl; from = refl; unignored = refl; replies = (let z : 0 ≤ cond (nat_le k 5) 1 0 = omega arith in z); requests = (let z : 0 ≤ cond (nat_le k 0) 1 0 = omega arith in z) }
 
 -- an effect that may come several times
 rises-again : (k : ℕ) (e : Effect) (es : List Effect) → rank e ≡ k → is_ignored e ≡ false → is_reply e ≡ false → is_request e ≡ false → Rises k es → Rises k (e ∷ es)
-rises-again k e es here heard silent later r = record {
-  sorted = le_first k es (rank e) r.from r.sorted (omega (arith, here));
-  from = and_both (nat_le k (rank e)) (list_all (λ x. nat_le k (rank x)) es) (let z : nat_le k (rank e) ≡ true = grind (arith, nat_tests) in z) r.from;
-  unignored = ap (λ b. b || list_any is_ignored es) heard ∙ r.unignored;
-  replies = omega (arith, r.replies, sum_by-cons (λ x. cond (is_reply x) 1 0) e es, ap {B = ℕ} (λ b. cond b 1 0) silent);
-  requests = omega (arith, r.requests, sum_by-cons (λ x. cond (is_request x) 1 0) e es, ap {B = ℕ} (λ b. cond b 1 0) later);
-}
+rises-again k e es here heard silent later r = grind (arith, nat_tests, le_first, and_both, sum_by-cons)
 
 -- the effects of a part of the marks, and what follows
 module _ (o : Setting) (t : Trace) where
@@ -131,10 +119,7 @@ rises_done o t a d rest r =
     (rises_reply_of o t (connection_of a.request) d.reply _ rest (rises_closes o t d.closing _ rest (rises_end o t d.ending rest r))))))))
 
 form_in_order : (o : Setting) (t : Trace) (form : Form) → IsInOrder (effects_of_item o t (marks_of_form form))
-form_in_order o t (Ignored why) =
-    let none : newly_enabled o t (Ignores why ∷ []) ≡ [] = newly-untouched o t (Ignores why ∷ []) (record { enters_none = refl; leaves_no = λ k. refl }) in
-    subst (λ cs. IsInOrder (Ignore why ∷ map (λ (c : Command). Enable c.ticket c.unit) cs)) (sym none)
-    (record { kinds = refl; one_request = (let z : 0 ≤ 1 = omega arith in z); one_reply = (let z : 0 ≤ 1 = omega arith in z); alone = λ h. refl })
+form_in_order o t (Ignored why) = grind (arith, nat_tests, newly-untouched)
 form_in_order o t (Rejected a) = in_order 5 _ (rises_reply _ _ _ _ (rises-on 6 8 _ (omega arith) (rises_enables (newly_enabled o t (marks_of_form (Rejected a))))))
 form_in_order o t (Received a) = in_order 8 _ (rises_enables (newly_enabled o t (marks_of_form (Received a))))
 form_in_order o t (Postponed a) = in_order 0 _ (rises_request (Wait a.request) _ refl refl refl (rises-on 1 8 _ (omega arith) (rises_enables (newly_enabled o t (marks_of_form (Postponed a))))))

@@ -139,9 +139,7 @@ both_in_order (x ∷ xs) ys h k = (h.0, both_in_order xs ys h.1 k)
 
 entries_in_order : (o : Setting) (now : ℕ) (t : Trace) (h : List Event) → KeepsOrder (entries_from o now t h)
 entries_in_order o now t [] = tt
-entries_in_order o now t (e ∷ h) =
-    both_in_order (in_parts (effects_of o t (items_of o now t e))) (flat_map (λ (n : Entry). in_parts n.effects) (entries_from o (now + 1) (after_event o now t e) h))
-    (event_in_order o now t e) (entries_in_order o (now + 1) (after_event o now t e) h)
+entries_in_order o now t (e ∷ h) = grind (arith, nat_tests, entries_in_order o (now + 1) (after_event o now t e) h, both_in_order, event_in_order)
 
 -- the log of every list of events keeps the order
 pub keeps_order : (o : Setting) (h : List Event) → KeepsOrder (run_of o h)

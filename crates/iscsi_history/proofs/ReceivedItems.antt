@@ -1,5 +1,6 @@
 -- Which numbers an event and its items receive: none, or one.
 use Rattle.std.proofs.Common.{arith, Bool, List, ℕ, [], ◌∷◌, ◌≡◌, ◌⊎◌, ◌++◌, refl, ◌&&◌, cond, false, inl, inr, true, ap, None, Option, Some, ◌==◌, ◌∙◌, sym, subst, ◌||◌}
+use Rattle.std.proofs.lemmas.Bool.Decides.{nat_tests}
 use Rattle.std.specs.List.{filter_map, list_all}
 use Rattle.std.proofs.lemmas.Bool.{eqb-true, false≢true}
 use Rattle.std.proofs.lemmas.List.{append-nil}
@@ -42,11 +43,7 @@ executed_receives start a d = by_start start
 
 -- none, where it is no immediate ABORT TASK
 receives_none : (o : Setting) (t : Trace) (start : Start) (a : Arrival) (ms : List Mark) → Does o t start a ms → (is_immediate a.request && (function a.request == 1)) ≡ false → received_by (start_mark start a ∷ ms) ≡ []
-receives_none o t start a ms d other = ap (λ xs. received_by (start_mark start a ∷ xs)) d.is ∙ executed_receives start a d.deeds ∙ by_void d.deeds.void d.done.missing
-  where
-    by_void : (x : Option ℕ) → Each (λ n. (is_immediate a.request ≡ true) × ((function a.request == 1) ≡ true)) x → received_by (if_some Voids x) ≡ []
-    by_void None missing = refl
-    by_void (Some n) missing = absurd (false≢true (sym other ∙ ap (λ b. b && (function a.request == 1)) missing.0 ∙ missing.1))
+receives_none o t start a ms d other = grind (arith, nat_tests, start_mark, executed_receives, Each, if_some, false≢true)
 
 one_received : (form : Form) → AtMostOne (received_by (marks_of_form form))
 one_received (Received a) = inr (a.number, refl)

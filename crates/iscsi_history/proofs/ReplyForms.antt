@@ -1,5 +1,6 @@
 -- What an item of each form does to the requests of an event: which wait for their turn, execute, are live and are answered.
 use Rattle.std.proofs.Common.{◌≡◌, ℕ, ◌+◌, ◌≤◌, ◌==◌, ◌&&◌, not, inl, inr, cond, Bool, true, false, List, [], ◌∷◌, ◌++◌, map, filter, length, count_by, Option, Some, None, refl, ap, sym, ◌∙◌, arith, eq-eqb, length-append}
+use Rattle.std.proofs.lemmas.Bool.Decides.{nat_tests}
 use Rattle.std.specs.List.{list_any, filter_map}
 use Rattle.std.proofs.lemmas.Bool.{false≢true}
 use Rattle.std.proofs.lemmas.List.{append-nil}
@@ -47,24 +48,12 @@ answers_of v (Executed start a d) = cond (is_of v a) (length (to_list d.reply)) 
 answers_of v _ = 0
 
 pub replies_form : (v : ℕ) (form : Form) (t : Trace) → length (replies_to v (marks_of_form form ∷ t)) ≡ length (replies_to v t) + answers_of v form
-replies_form v form t =
-    length-append (replies_to v t) (cond (is_answer_to v (marks_of_form form)) (filter_map reply_sent (marks_of_form form)) []) ∙ ap (λ n. length (replies_to v t) + n) (by_form form)
-  where
-    by_test : (b : Bool) (xs ys : List Reply) → xs ≡ ys → length (cond b xs []) ≡ cond b (length ys) 0
-    by_test true xs ys same = ap length same
-    by_test false xs ys same = refl
-
-    by_form : (f : Form) → length (cond (is_answer_to v (marks_of_form f)) (filter_map reply_sent (marks_of_form f)) []) ≡ answers_of v f
-    by_form (Completed c status) = elim (comes_of v c) as (λ b. length (cond b (filter_map reply_sent (marks_of_form (Completed c status))) []) ≡ one b) [ true ↦ refl | false ↦ refl ]
-    by_form (Executed AtTurn a d) = by_test (is_of v a) (filter_map reply_sent (marks_done a d)) (to_list d.reply) (replied_done a d)
-    by_form (Executed start a d) = by_test (is_of v a) (filter_map reply_sent (marks_done a d)) (to_list d.reply) (replied_done a d)
-    by_form form = refl
+replies_form v form t = grind (arith, nat_tests, length-append, marks_of_form, Form, Completed, one, Executed, AtTurn, marks_done, to_list, replied_done)
 
 -- ---- commands
 
 pub entered_form : (p : Command → Bool) (form : Form) (t : Trace) → count_by p (entered (marks_of_form form ∷ t)) ≡ count_by p (entered t) + count_by p (to_list (entering_in form))
-entered_form p form t =
-    sum_by-append (λ c. one (p c)) (entered t) (filter_map enters (marks_of_form form)) ∙ ap (λ cs. count_by p (entered t) + count_by p cs) (enters_form form)
+entered_form p form t = grind (arith, nat_tests, sum_by-append, one, marks_of_form, enters_form)
 
 pub in_among : (cs : List Command) (c : Command) → In c cs → is_among c.ticket cs ≡ true
 in_among cs c h = in-any (λ (d : Command). d.ticket == c.ticket) cs c h (eq-eqb c.ticket c.ticket refl)

@@ -1,5 +1,6 @@
 -- A unit's set of commands: its tickets, and what has been shown of it.
 use Rattle.std.proofs.Common.{List, map, ℕ, [], ap, cond, false, refl, true, ◌∷◌, ◌≡◌, ◌==◌, None, Some, filter, find, not, Option, sym, ◌∙◌, ◌<◌, arith, get_or, replicate, suc, zero, ◌+◌, Bool, count_by, ◌≤◌, ◌||◌, ◌&&◌, nat_lt, length, eq-eqb}
+use Rattle.std.proofs.lemmas.Bool.Decides.{nat_tests}
 use Rattle.std.specs.List.{list_any, list_all}
 use Rattle.std.proofs.lemmas.Bool.{eqb-true}
 use Rattle.std.proofs.lemmas.List.Sums.{sum_by-cons}
@@ -29,13 +30,7 @@ none_with k (m ∷ ms) h = grind (arith, none_with k ms)
 
 -- a command that leaves takes its ticket with it
 pub tickets-left : (s : Members) (k : ℕ) → tickets (left_by s (with_ticket k (tasks_in s))).list ≡ filter (λ t. not (t == k)) (tickets s.list)
-tickets-left s k = by_task (with_ticket k (tasks_in s)) refl
-  where
-    by_task : (x : Option Task) → with_ticket k (tasks_in s) ≡ x → tickets (left_by s x).list ≡ filter (λ t. not (t == k)) (tickets s.list)
-    by_task None is = sym (none_with k s.list is)
-    by_task (Some task) is =
-        let same : task.ticket ≡ k = eqb-true task.ticket k (find-found (λ (t : Task). t.ticket == k) (tasks_in s) task is) in
-        tickets-moment (without task.ticket s.list) ∙ ap (λ n. tickets (without n s.list)) same ∙ sym (filter-map (λ t. not (t == k)) (λ (m : Member). m.task.ticket) s.list)
+tickets-left s k = grind (arith, nat_tests, none_with, eqb-true, find-found, tickets-moment, filter-map)
 
 pub set_opened : (n u depth : ℕ) → u < n → get_or (replicate n (opened_set depth)) u (opened_set 0) ≡ opened_set depth
 set_opened zero u depth lt = absurd (omega arith)
@@ -93,11 +88,7 @@ gone_each covers (x ∷ ms) zero d up lt =
     let parts = and_parts (list_all (λ u. nat_lt x.task.ticket u) (tickets ms)) (rising (tickets ms)) up in
     ap (λ b. (b && covers x.task) || list_any (λ m. m.task.ticket == x.task.ticket && covers m.task) ms) (eq-eqb x.task.ticket x.task.ticket refl)
     ∙ ap (λ b. covers x.task || b) (none_covered covers x.task.ticket ms (none_above x.task.ticket (tickets ms) parts.0)) ∙ or_false (covers x.task)
-gone_each covers (x ∷ ms) (suc k) d up lt =
-    let parts = and_parts (list_all (λ u. nat_lt x.task.ticket u) (tickets ms)) (rising (tickets ms)) up in
-    let t : ℕ = (get_or ms k d).task.ticket in
-    let apart : (x.task.ticket == t) ≡ false = eq_sym x.task.ticket t ∙ later_apart x.task.ticket t (all_at (λ u. nat_lt x.task.ticket u) ms k d parts.0 (omega arith)) in
-    ap (λ b. (b && covers x.task) || list_any (λ m. m.task.ticket == t && covers m.task) ms) apart ∙ gone_each covers ms k d parts.1 (omega arith)
+gone_each covers (x ∷ ms) (suc k) d up lt = grind (arith, nat_tests, gone_each covers ms k d, and_parts, eq_sym, later_apart, all_at)
 
 -- ---- the one with a ticket
 

@@ -1,5 +1,6 @@
 -- What one item more changes of what follows from a trace.
 use Rattle.std.proofs.Common.{arith, ◌≡◌, ℕ, ◌==◌, ◌&&◌, ◌||◌, not, cond, Bool, true, false, List, [], ◌∷◌, ◌++◌, filter, Some, None, refl, ap, sym, ◌∙◌, eq-eqb}
+use Rattle.std.proofs.lemmas.Bool.Decides.{nat_tests}
 use Rattle.std.specs.List.{list_any, list_all, filter_map, cons_option}
 use Rattle.std.proofs.lemmas.Bool.{false≢true}
 use Rattle.std.proofs.lemmas.List.{append-nil}
@@ -51,11 +52,7 @@ live-enters item t c one quiet unleft =
 
 -- the commands with these tickets leave
 pub live-leaves : (item : List Mark) (t : Trace) (out : ℕ → Bool) → filter_map enters item ≡ [] → ((k : ℕ) → list_any (leaves_ticket k) item ≡ out k) → live (item ∷ t) ≡ filter (λ c. not (out c.ticket)) (live t)
-live-leaves item t out none some =
-    live-item item t
-    ∙ ap (λ cs. filter (λ (c : Command). not (list_any (leaves_ticket c.ticket) item)) (live t) ++ filter (λ (c : Command). not (has (leaves_ticket c.ticket) (item ∷ t))) cs) none
-    ∙ append-nil (filter (λ (c : Command). not (list_any (leaves_ticket c.ticket) item)) (live t))
-    ∙ filter-same (λ (c : Command). not (list_any (leaves_ticket c.ticket) item)) (λ c. not (out c.ticket)) (live t) (λ c. ap not (some c.ticket))
+live-leaves item t out none some = grind (arith, nat_tests, live-item, append-nil, filter-same)
 
 -- ---- enabled commands
 
@@ -65,10 +62,7 @@ weaker p q (x ∷ xs) h all = grind (arith, weaker p q xs)
 
 pub all_among : (xs : List Command) → list_all (λ c. is_among c.ticket xs) xs ≡ true
 all_among [] = refl
-all_among (x ∷ xs) =
-    and_both ((x.ticket == x.ticket) || is_among x.ticket xs) (list_all (λ c. is_among c.ticket (x ∷ xs)) xs)
-    (ap (λ b. b || is_among x.ticket xs) (eq-eqb x.ticket x.ticket refl))
-    (weaker (λ c. is_among c.ticket xs) (λ c. is_among c.ticket (x ∷ xs)) xs (λ c h. or_second (x.ticket == c.ticket) (is_among c.ticket xs) h) (all_among xs))
+all_among (x ∷ xs) = grind (arith, nat_tests, all_among xs, and_both, eq-eqb, weaker, or_second)
 
 -- ---- received numbers and admitted requests
 
@@ -89,9 +83,7 @@ unadmitted_item n (mark ∷ marks) h = grind (arith, unadmitted_item n marks)
 -- nothing is admitted at a number that isn't received
 pub unadmitted : (n : ℕ) (t : Trace) → is_received t n ≡ false → shown (admits_at n) t ≡ []
 unadmitted n [] h = refl
-unadmitted n (item ∷ t) h =
-    let parts = or_none (is_received t n) (contains (filter_map number_received item) n) (sym (received-item item t n) ∙ h) in
-    ap (λ xs. shown (admits_at n) t ++ xs) (unadmitted_item n item parts.1) ∙ append-nil (shown (admits_at n) t) ∙ unadmitted n t parts.0
+unadmitted n (item ∷ t) h = grind (arith, nat_tests, unadmitted n t, or_none, received-item, unadmitted_item, append-nil)
 
 -- ---- some items more
 
