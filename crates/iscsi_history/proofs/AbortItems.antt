@@ -1,14 +1,14 @@
 -- Each item fits in where it stands.
-use Rattle.std.proofs.Common.{◌≡◌, ℕ, ◌<◌, ◌≤◌, ◌==◌, ◌&&◌, ◌||◌, ⊎_elim, not, cond, Bool, true, false, List, [], ◌∷◌, ◌++◌, filter, Some, None, refl, ap, sym, subst, ◌∙◌, arith}
+use Rattle.std.proofs.Common.{◌≡◌, ℕ, ◌<◌, ◌≤◌, ◌==◌, ◌&&◌, not, Bool, true, false, List, [], ◌∷◌, ◌++◌, filter, Some, None, refl, ap, sym, subst, ◌∙◌, arith}
 use Rattle.std.specs.List.{list_any, filter_map}
 use Rattle.std.proofs.lemmas.Bool.{false≢true, eqb-true, or_cases}
 use Rattle.std.proofs.lemmas.Bool.Decides.{nat_tests}
 use Rattle.iscsi_wire.specs.declared.request.Request.{Request}
-use Rattle.iscsi_wire.specs.Fields.{connection_of, function, itt}
+use Rattle.iscsi_wire.specs.Fields.{function}
 use Rattle.iscsi_history.specs.rules.Settings.{Setting}
 use Rattle.iscsi_history.specs.rules.Trace.{Arrival, Command, Mark, Trace, has, shown, entered, is_received, admits_at, delivers_number, held, leaves_ticket, live, live_in, is_among}
 use Rattle.iscsi_history.specs.promises.Replies.{executed_in}
-use Rattle.iscsi_history.specs.promises.Aborts.{is_set_abort, is_complete, completes, IsCompleted, is_in_unit_of, came_before, earlier, is_ticket_covered}
+use Rattle.iscsi_history.specs.promises.Aborts.{is_set_abort, completes, IsCompleted, is_in_unit_of, came_before, earlier, is_ticket_covered}
 use Rattle.iscsi_history.specs.promises.Meaning.{voids_number}
 use Rattle.iscsi_history.proofs.BeforeLemmas.{came_is_before}
 use Rattle.iscsi_history.proofs.BoolLemmas.{or_first, or_second, and_parts, and_both, and_false}
@@ -17,7 +17,6 @@ use Rattle.iscsi_history.proofs.TraceLemmas.{unadmitted, filter-same, filter-tru
 use Rattle.iscsi_history.proofs.AbortLemmas.{Fits}
 use Rattle.iscsi_history.proofs.Forms.{Start, AtTurn, start_mark, Deeds, marks_done, Form, Executed, marks_of_form, begun, is_completed_by, Sweeps, IsFormed}
 use Rattle.iscsi_history.proofs.FormItems.{live-begun}
-use Rattle.iscsi_history.proofs.DeedTable.{unset}
 use Rattle.iscsi_history.proofs.FormRuns.{StandsAt, Stands, AnyArrival}
 use Rattle.iscsi_history.proofs.DeedLemmas.{begun_any, none_done}
 use Rattle.iscsi_history.proofs.TouchLemmas.{leaves_form, leaving_live}

@@ -2,10 +2,10 @@
 use Rattle.std.proofs.Common.{◌≡◌, ℕ, ◌<◌, ◌≤◌, ◌==◌, ◌&&◌, ◌||◌, ◌⊎◌, inl, inr, ⊎_elim, not, cond, Bool, true, false, List, [], ◌∷◌, ◌++◌, length, filter, Option, Some, None, refl, ap, sym, subst, ◌∙◌, arith, nat_lt, append_assoc}
 use Rattle.std.specs.List.{list_any, filter_map, range_with_len}
 use Rattle.std.specs.Prelude.{Contains}
-use Rattle.std.proofs.lemmas.Bool.{false≢true, or_cases}
+use Rattle.std.proofs.lemmas.Bool.{false≢true}
 use Rattle.std.proofs.lemmas.Bool.Decides.{nat_tests}
 use Rattle.std.proofs.lemmas.List.Folds.{list_any-append}
-use Rattle.iscsi_wire.specs.Fields.{opcode, function}
+use Rattle.iscsi_wire.specs.Fields.{function}
 use Rattle.iscsi_history.specs.declared.event.Event.{Event}
 use Rattle.iscsi_history.specs.rules.Settings.{Setting}
 use Rattle.iscsi_history.specs.rules.Trace.{Arrival, Command, Mark, Admits, Voids, Empties, Trace, first_of, has, shown, number_received, contains, is_received, admits_at, admitted, delivers_number, is_delivered, empties_number, is_emptied, held, entered, leaves_ticket, live, live_in, is_among, was_free, enabled_in}
@@ -13,7 +13,7 @@ use Rattle.iscsi_history.specs.rules.Execution.{exp_of}
 use Rattle.iscsi_history.specs.rules.Run.{trace_of, effects_of_item, run_of}
 use Rattle.iscsi_history.specs.promises.Enabling.{is_enable}
 use Rattle.iscsi_history.specs.promises.Replies.{executed_in, replies_to}
-use Rattle.iscsi_history.specs.promises.Aborts.{is_set_abort, IsCompleted, is_in_unit_of, earlier, is_ticket_covered, takes_out, is_number_covered, IsOver, AbortsHold, AbortsHoldIn}
+use Rattle.iscsi_history.specs.promises.Aborts.{is_set_abort, IsCompleted, is_ticket_covered, takes_out, is_number_covered, IsOver, AbortsHold, AbortsHoldIn}
 use Rattle.iscsi_history.proofs.BoolLemmas.{or_first, or_second, and_parts, not_true}
 use Rattle.iscsi_history.proofs.ElementLemmas.{in-contains}
 use Rattle.iscsi_history.proofs.ApartLemmas.{unamong-filter}
@@ -58,10 +58,6 @@ unlive_unenabled o t item k gone =
 -- the request of the number was taken out, or none was ever admitted there, nor will be
 abbrev Shut : ℕ → Trace → Type 0
 Shut n t = (is_emptied t n ≡ true) ⊎ ((is_received t n ≡ true) × (shown (admits_at n) t ≡ []))
-
-none_either : (b : Bool) → (let x : Option Arrival = cond b None None in x) ≡ None
-none_either true = refl
-none_either false = refl
 
 shut_held : (n : ℕ) (t : Trace) → Shut n t → held t n ≡ None
 shut_held n t s = grind arith

@@ -1,10 +1,8 @@
 -- A request that executed has at most one reply, and one whose command was taken out has none, in the trace of each list of events.
-use Rattle.std.proofs.Common.{◌≡◌, ℕ, ◌+◌, ◌<◌, ◌≤◌, inl, inr, ⊎_elim, cond, true, false, List, [], ◌∷◌, ◌++◌, map, length, count_by, Option, Some, None, refl, ap, sym, subst, ◌∙◌, arith, nat_lt, eq-eqb, ◌==◌, ◌&&◌}
+use Rattle.std.proofs.Common.{◌≡◌, ℕ, ◌+◌, ◌<◌, ◌≤◌, inr, ⊎_elim, cond, List, [], ◌∷◌, ◌++◌, length, count_by, Option, Some, None, refl, ap, sym, subst, ◌∙◌, arith, nat_lt, eq-eqb}
 use Rattle.std.proofs.lemmas.Bool.Decides.{nat_tests}
 use Rattle.std.specs.List.{filter_map, cons_option}
 use Rattle.std.proofs.lemmas.Bool.{eqb-true}
-use Rattle.std.proofs.lemmas.List.{append-nil}
-use Rattle.std.proofs.lemmas.List.Elements.{filter_map-append}
 use Rattle.iscsi_wire.specs.declared.reply.Reply.{Reply}
 use Rattle.iscsi_wire.specs.declared.reply.Reply.TheVariants.{Scsi, Reject}
 use Rattle.iscsi_wire.specs.declared.request.Request.{Request}
@@ -12,7 +10,7 @@ use Rattle.iscsi_wire.specs.Fields.{connection_of, header_of, itt}
 use Rattle.iscsi_history.specs.declared.event.Event.{Event}
 use Rattle.iscsi_history.specs.declared.event.Event.TheVariants.{Arrive, Done}
 use Rattle.iscsi_history.specs.rules.Settings.{Setting}
-use Rattle.iscsi_history.specs.rules.Trace.{Arrival, Command, Mark, Delivers, Voids, Empties, Leaves, Enters, Sends, ClosesConn, ClosesSession, Trace, live, was_free}
+use Rattle.iscsi_history.specs.rules.Trace.{Arrival, Command, Mark, Delivers, Leaves, Sends, Trace}
 use Rattle.iscsi_history.specs.rules.Execution.{sense_of_status, completion}
 use Rattle.iscsi_history.specs.rules.Agenda.{command_of}
 use Rattle.iscsi_history.specs.promises.Replies.{executed_in, answered_in, replies_to}
@@ -23,7 +21,6 @@ use Rattle.iscsi_history.proofs.ListLemmas.{first_itself}
 use Rattle.iscsi_history.proofs.ElementLemmas.{In, in-contains}
 use Rattle.iscsi_history.proofs.MomentLemmas.{log_effects}
 use Rattle.iscsi_history.proofs.CountLemmas.{one, count-one}
-use Rattle.iscsi_history.proofs.AbortMarks.{none_viewed}
 use Rattle.iscsi_history.proofs.DeedLemmas.{views}
 use Rattle.iscsi_history.proofs.Forms.{Start, AtTurn, Deeds, if_some, start_mark, marks_done, Form, Rejected, Completed, Executed, marks_of_form, IsDone, Each, IsFormed, HasForm, is_arrival, HaveForms}
 use Rattle.iscsi_history.proofs.FormRuns.{trace_has_forms}
@@ -33,10 +30,6 @@ use Rattle.iscsi_history.proofs.ReplySince.{undelivered_silent}
 use Rattle.iscsi_history.proofs.ReplyRuns.{aborted_in, standing, standing_item, begun_by, one_most, is_below, none_left, standing_once, Since, since}
 
 -- ---- the marks of an item
-
-cons-in : {B : Type 0} (y : Option B) (xs : List B) (x : B) → In x xs → In x (cons_option y xs)
-cons-in None xs x h = h
-cons-in (Some y) xs x h = inr h
 
 -- what a view shows of a mark, it shows of the marks
 viewed-in : {B : Type 0} (view : Mark → Option B) (ms : List Mark) (m : Mark) (x : B) → In m ms → view m ≡ Some x → In x (filter_map view ms)

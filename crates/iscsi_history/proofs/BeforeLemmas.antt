@@ -1,7 +1,5 @@
 -- What an abort of a whole set covers, in the words of its law and in those of the items.
-use Rattle.std.proofs.Common.{◌≡◌, ◌==◌, ◌&&◌, ◌||◌, cond, Bool, true, false, refl, arith, nat_lt}
-use Rattle.std.proofs.lemmas.Bool.Decides.{nat_tests}
-use Rattle.iscsi_wire.specs.Fields.{is_immediate}
+use Rattle.std.proofs.Common.{◌≡◌, arith}
 use Rattle.iscsi_history.specs.rules.Trace.{Arrival, Command}
 use Rattle.iscsi_history.specs.rules.Management.{is_before}
 use Rattle.iscsi_history.specs.promises.Aborts.{came_before}

@@ -1,13 +1,13 @@
 -- Each item does and brings what is on open connections, and takes out what is going on on those that it closes.
-use Rattle.std.proofs.Common.{◌≡◌, ℕ, ◌+◌, ◌-◌, ◌<◌, ◌≤◌, ◌==◌, ◌||◌, inl, ⊎_elim, cond, Bool, true, false, List, [], ◌∷◌, Option, Some, None, refl, ap, sym, subst, ◌∙◌, arith, eq-eqb}
+use Rattle.std.proofs.Common.{◌≡◌, ℕ, ◌+◌, ◌-◌, ◌<◌, ◌≤◌, ◌==◌, ◌||◌, inl, true, false, List, [], ◌∷◌, Option, Some, None, refl, ap, sym, subst, ◌∙◌, arith, eq-eqb}
 use Rattle.std.proofs.lemmas.Bool.Decides.{nat_tests}
-use Rattle.std.specs.List.{list_any, list_all, filter_map, range_with_len, cons_option}
+use Rattle.std.specs.List.{list_any, list_all, filter_map, range_with_len}
 use Rattle.std.proofs.lemmas.Bool.{false≢true, eqb-true}
 use Rattle.iscsi_wire.specs.Serial.{number_of_first}
 use Rattle.iscsi_wire.specs.Fields.{connection_of}
 use Rattle.iscsi_history.specs.declared.effect.Why.{Why}
 use Rattle.iscsi_history.specs.rules.Settings.{Setting}
-use Rattle.iscsi_history.specs.rules.Trace.{Arrival, Command, Mark, Delivers, Executes, Ignores, Trace, first_of, admits_at, delivers_number, empties_number, held, enters, entered, leaves_ticket, live, live_in, closes_conn, closes_session, is_ended}
+use Rattle.iscsi_history.specs.rules.Trace.{Arrival, Command, Mark, Delivers, Executes, Ignores, Trace, first_of, admits_at, delivers_number, empties_number, held, enters, entered, leaves_ticket, live, live_in, is_ended}
 use Rattle.iscsi_history.specs.rules.Execution.{exp_of, unfinished}
 use Rattle.iscsi_history.specs.rules.Logout.{is_open, live_of_units, all_held}
 use Rattle.iscsi_history.proofs.BoolLemmas.{or_first, or_second}

@@ -8,14 +8,14 @@ use Rattle.std.proofs.lemmas.List.Folds.{list_any-append, list_all-append}
 use Rattle.iscsi_history.specs.declared.effect.Effect.{Effect}
 use Rattle.iscsi_history.specs.declared.effect.Effect.TheVariants.{Enable}
 use Rattle.iscsi_history.specs.declared.event.Event.{Event}
-use Rattle.iscsi_history.specs.rules.Settings.{Setting, is_known}
+use Rattle.iscsi_history.specs.rules.Settings.{Setting}
 use Rattle.iscsi_history.specs.rules.Trace.{Command, Mark, Admits, Delivers, Executes, Waits, Sends, ClosesConn, Ignores, Trace, has, live, live_in, was_free, enabled_in, closes_conn, closes_session, is_ended}
 use Rattle.iscsi_history.specs.rules.Logout.{is_open}
 use Rattle.iscsi_history.specs.rules.Run.{trace_of, effects_of_mark, newly_enabled, effects_of_item, run_of}
 use Rattle.iscsi_history.specs.rules.Agenda.{belongs}
 use Rattle.iscsi_history.specs.promises.Enabling.{effects_so_far}
 use Rattle.iscsi_history.specs.promises.Closes.{is_session_close, is_close_of, is_ignored, is_on, ClosesHold, ClosesHoldIn}
-use Rattle.iscsi_history.proofs.BoolLemmas.{and_both, or_none, or_second, or_comm, or_false, and_false}
+use Rattle.iscsi_history.proofs.BoolLemmas.{and_both, or_second, or_comm, or_false}
 use Rattle.iscsi_history.proofs.MomentLemmas.{log_effects}
 use Rattle.iscsi_history.proofs.ElementLemmas.{In, in-filter, in-append}
 use Rattle.iscsi_history.proofs.CloseLemmas.{is_at, ignores, Sound, Clear, clear-item, open-unended}
@@ -51,13 +51,6 @@ conn_mark o k t (ClosesConn conn) = or_false (conn == k)
 conn_mark o k t m = refl
 
 -- ---- what an item shows on a connection
-
-on_mark : (o : Setting) (k : ℕ) (t : Trace) (m : Mark) → is_at k m ≡ false → list_any (is_on k) (effects_of_mark o t m) ≡ false
-on_mark o k t (Delivers a) h = ap (λ b. b || false) h
-on_mark o k t (Executes a) h = ap (λ b. b || false) h
-on_mark o k t (Waits a) h = ap (λ b. b || false) h
-on_mark o k t (Sends conn reply) h = ap (λ b. b || false) h
-on_mark o k t m h = refl
 
 on_marks : (o : Setting) (k : ℕ) (t : Trace) (ms : List Mark) → list_any (is_at k) ms ≡ false → list_any (is_on k) (flat_map (effects_of_mark o t) ms) ≡ false
 on_marks o k t [] h = refl

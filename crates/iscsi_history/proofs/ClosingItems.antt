@@ -1,5 +1,5 @@
 -- Items that close connections or the session, or close none.
-use Rattle.std.proofs.Common.{arith, List, false, ℕ, ◌≡◌, ap, ◌||◌, ◌∙◌, ◌∷◌, [], sym, ◌&&◌, ◌==◌, cond, eq-eqb, filter, map, refl, true, ◌++◌, None, Option, Some, Bool, not}
+use Rattle.std.proofs.Common.{arith, List, false, ℕ, ◌≡◌, ap, ◌||◌, ◌∙◌, ◌∷◌, [], sym, ◌&&◌, ◌==◌, cond, filter, map, refl, true, ◌++◌, None, Option, Some, Bool, not}
 use Rattle.std.specs.List.{list_any, flat_map, filter_map, list_all}
 use Rattle.iscsi_wire.specs.Serial.{wire}
 use Rattle.iscsi_history.specs.rules.Trace.{Mark, closes_conn, closes_session, Trace, has, is_closed, is_ended, Arrival, Empties, ClosesConn, ClosesSession, sent_on, Command, Leaves, waiting_through}
@@ -7,7 +7,7 @@ use Rattle.iscsi_history.specs.rules.Settings.{Setting, is_known}
 use Rattle.iscsi_history.specs.rules.Logout.{is_open, is_last_open, parting}
 use Rattle.iscsi_history.specs.declared.effect.Effect.TheVariants.{Empty, Leave}
 use Rattle.iscsi_history.specs.rules.Run.{effects_of_mark}
-use Rattle.iscsi_history.proofs.BoolLemmas.{or_false, or_second}
+use Rattle.iscsi_history.proofs.BoolLemmas.{or_false}
 use Rattle.iscsi_history.proofs.NewlyLemmas.{Untouched}
 use Rattle.iscsi_history.proofs.DeliveryLemmas.{IsQuiet}
 use Rattle.std.proofs.lemmas.Bool.{false≢true}

@@ -104,4 +104,5 @@ either true x = refl
 either false x = refl
 
 pub ruleset views = (filter_map-append, seen-map, seen-some, seen-end, seen-none, seen-all, either, append-nil)
+
 pub ruleset tests = (list_any-append, list_any-map, any-some, any-end, any-none, either, or_false)

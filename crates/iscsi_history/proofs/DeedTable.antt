@@ -1,16 +1,16 @@
 -- What is found where a request does what the table says, and what holds of each deed of it.
-use Rattle.std.proofs.Common.{◌≡◌, ℕ, ◌<◌, ◌==◌, ◌||◌, not, cond, Bool, true, false, nat_lt, Option, Some, None, is_some, refl, ap, sym, subst, ◌∙◌, arith}
-use Rattle.std.proofs.lemmas.Bool.{false≢true, cond_both, eqb-true}
+use Rattle.std.proofs.Common.{◌≡◌, ℕ, ◌<◌, ◌==◌, ◌||◌, Bool, true, false, Some, None, ap, sym, subst, ◌∙◌, arith}
+use Rattle.std.proofs.lemmas.Bool.{false≢true, eqb-true}
 use Rattle.std.proofs.lemmas.Bool.Decides.{nat_tests}
 use Rattle.iscsi_wire.specs.declared.request.Request.{Request}
-use Rattle.iscsi_wire.specs.Fields.{opcode, attr_code, function, itt, cid, lun, unit_of}
+use Rattle.iscsi_wire.specs.Fields.{function, cid}
 use Rattle.iscsi_history.specs.declared.deed.Answer.{Answer}
-use Rattle.iscsi_history.specs.declared.deed.Answer.TheVariants.{Reject, Pong, NoUnit, Full, Respond, LogOut}
+use Rattle.iscsi_history.specs.declared.deed.Answer.TheVariants.{Respond, LogOut}
 use Rattle.iscsi_history.specs.declared.deed.Deed.{Deed}
 use Rattle.iscsi_history.specs.declared.deed.Deed.TheVariants.{Nothing, Wait, Reply as Replies, Enter, Void, Empty, Abort, AbortEarlier, AbortAll, CloseConn, CloseSession}
-use Rattle.iscsi_history.specs.rules.Execution.{NO_TAG, unit_named}
-use Rattle.iscsi_history.specs.rules.Management.{is_supported, refusal}
-use Rattle.iscsi_history.specs.rules.Deeds.{Facts, command_deed, abort_deed, query_deed, unit_deed, function_deed, logout_deed, deed_of}
+use Rattle.iscsi_history.specs.rules.Execution.{unit_named}
+use Rattle.iscsi_history.specs.rules.Management.{refusal}
+use Rattle.iscsi_history.specs.rules.Deeds.{Facts, command_deed, abort_deed, query_deed, function_deed, deed_of}
 use Rattle.iscsi_history.specs.promises.Aborts.{is_set_abort}
 
 -- the unit that a request names is one of the session's
@@ -47,16 +47,6 @@ is_parting (LogOut response) = true
 is_parting _ = false
 
 module _ (f : Facts) (r : Request) where
-  -- another answer than Function complete
-  says_other : (x : Answer) → (x ≡ Respond 0 → ⊥) → Befits f r (Replies x)
-  says_other x other = λ set is. other is
-
-  befits_abort : (unit : ℕ) → f.unit ≡ Some unit → (function r == 1) ≡ true → Befits f r (abort_deed f unit)
-  befits_abort unit named one = grind arith
-
-  -- an answer of a function that is no abort of a whole set
-  says_query : (there : Bool) (n : ℕ) → (function r == n) ≡ true → (n == 2 || n == 4 || n == 5) ≡ false → Befits f r (query_deed there)
-  says_query there n is other = λ set e. false≢true (sym (unset r n is other) ∙ set)
 
   pub befits_function : Befits f r (function_deed f r)
   befits_function = grind (arith, nat_tests)
@@ -71,9 +61,6 @@ module _ (f : Facts) (r : Request) where
 
   unless_refused : (d : Deed) → Befits f r d → Befits f r (elim (refusal f.level f.unit r) [ Some x ↦ Replies x | None ↦ d ])
   unless_refused d befits = grind (arith, nat_tests)
-
-  befits_command : Befits f r (command_deed f r)
-  befits_command = grind arith
 
   pub befits_deed : Befits f r (deed_of f r)
   befits_deed = grind (arith, nat_tests)

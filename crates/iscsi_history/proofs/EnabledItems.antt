@@ -1,11 +1,11 @@
 -- What is enabled and live after an item, and the commands that were shown as enabled.
-use Rattle.std.proofs.Common.{Bool, List, false, refl, true, ◌||◌, ◌∷◌, ◌≡◌, ◌+◌, ◌++◌, ◌<◌, ◌==◌, [], ap, arith, suc, zero, ℕ, ◌∙◌, ◌≤◌, ⊎_elim, ◌&&◌, not, cond, eq-eqb, filter, sym, nat_lt}
+use Rattle.std.proofs.Common.{Bool, List, false, refl, true, ◌||◌, ◌∷◌, ◌≡◌, ◌+◌, ◌++◌, ◌<◌, ◌==◌, [], ap, arith, suc, zero, ℕ, ◌∙◌, ◌≤◌, ◌&&◌, not, eq-eqb, filter, sym, nat_lt}
 use Rattle.std.specs.List.{flat_map, range_with_len, list_any, list_all}
 use Rattle.std.proofs.lemmas.List.{append-nil}
-use Rattle.std.proofs.lemmas.Bool.{cases_eq, false≢true, eqb-true}
+use Rattle.std.proofs.lemmas.Bool.{cases_eq, false≢true}
 use Rattle.std.proofs.lemmas.Bool.Decides.{nat_tests}
 use Rattle.std.proofs.lemmas.List.Folds.{list_any-append}
-use Rattle.iscsi_history.specs.rules.Trace.{Command, Mark, Trace, is_free_at, was_free, live_in, Admits, ClosesConn, ClosesSession, Delivers, Empties, Enters, Executes, Ignores, Leaves, Sends, Voids, Waits, leaves_ticket, has, is_among, live}
+use Rattle.iscsi_history.specs.rules.Trace.{Command, Mark, Trace, was_free, live_in, Admits, ClosesConn, ClosesSession, Delivers, Empties, Enters, Executes, Ignores, Leaves, Sends, Voids, Waits, leaves_ticket, has, is_among, live}
 use Rattle.iscsi_history.specs.rules.Settings.{Setting}
 use Rattle.iscsi_history.specs.rules.Run.{newly_enabled, effects_of_mark, effects_of_item}
 use Rattle.iscsi_history.specs.promises.Enabling.{is_leave, effects_so_far, is_enable, is_shown_enabled, is_enabled, EnabledSoFar}

@@ -1,20 +1,14 @@
 -- What has become of a number: a received one has one fate, and any other none.
-use Rattle.std.proofs.Common.{arith, ◌≡◌, ℕ, ◌==◌, ◌||◌, inl, inr, cond, Bool, true, false, List, [], ◌∷◌, ◌++◌, map, count_by, Option, Some, None, is_some, refl, ap, sym, subst, ◌∙◌}
+use Rattle.std.proofs.Common.{arith, ◌≡◌, ℕ, ◌==◌, ◌||◌, cond, Bool, true, false, List, [], ◌∷◌, ◌++◌, count_by, Option, Some, None, is_some, refl, ap, sym, subst, ◌∙◌}
 use Rattle.std.proofs.lemmas.Bool.Decides.{nat_tests}
 use Rattle.std.specs.List.{list_any, filter_map, cons_option}
 use Rattle.std.proofs.lemmas.Bool.{false≢true, eqb-true}
 use Rattle.std.proofs.lemmas.List.{append-nil}
-use Rattle.std.proofs.lemmas.List.Elements.{filter_map-append}
-use Rattle.std.proofs.lemmas.List.Folds.{list_any-append}
-use Rattle.iscsi_wire.specs.declared.reply.Reply.{Reply}
-use Rattle.iscsi_wire.specs.Fields.{connection_of}
 use Rattle.iscsi_history.specs.rules.Settings.{Setting}
-use Rattle.iscsi_history.specs.rules.Trace.{Arrival, Command, Mark, Admits, Delivers, Executes, Voids, Empties, Leaves, Enters, Sends, ClosesConn, ClosesSession, Trace, has, shown, first_of, number_received, contains, is_received, admits_at, admitted, delivers_number, is_delivered, empties_number, is_emptied, held}
+use Rattle.iscsi_history.specs.rules.Trace.{Arrival, Mark, Admits, Executes, Voids, Trace, has, shown, first_of, number_received, contains, is_received, admits_at, admitted, delivers_number, is_delivered, empties_number, is_emptied, held}
 use Rattle.iscsi_history.specs.promises.Meaning.{voids_number, fates_of}
-use Rattle.iscsi_history.proofs.AbortMarks.{none_mapped, none_viewed}
 use Rattle.iscsi_history.proofs.BoolLemmas.{or_false}
 use Rattle.iscsi_history.proofs.ElementLemmas.{In}
-use Rattle.iscsi_history.proofs.ListLemmas.{list_any-map}
 use Rattle.iscsi_history.proofs.HeldLemmas.{unreceived_unheld}
 use Rattle.iscsi_history.proofs.TraceLemmas.{received-item, unadmitted}
 use Rattle.iscsi_history.proofs.Forms.{Start, AtTurn, start_mark, Deeds, if_some, marks_done, Form, Received, Executed, marks_of_form, begun, Starts, Each, IsDone, IsFormed, HasForm, HaveForms}
@@ -62,9 +56,6 @@ none_some a h = cc
 -- who is held, by the three facts
 held_by : (t : Trace) (n : ℕ) (e d : Bool) (x : Option Arrival) → is_emptied t n ≡ e → is_delivered t n ≡ d → admitted t n ≡ x → held t n ≡ cond (d || e) None x
 held_by t n e d x emptied delivered there = ap (λ b. cond (b || is_emptied t n) None (admitted t n)) delivered ∙ ap (λ b. cond (d || b) None (admitted t n)) emptied ∙ ap (λ y. cond (d || e) None y) there
-
-admitted-same : (t : Trace) (n : ℕ) (item : List Mark) → filter_map (admits_at n) item ≡ [] → admitted (item ∷ t) n ≡ admitted t n
-admitted-same t n item none = ap (λ xs. first_of (shown (admits_at n) t ++ xs)) none ∙ ap first_of (append-nil (shown (admits_at n) t))
 
 admitted-first : (t : Trace) (n : ℕ) (item : List Mark) (a : Arrival) → is_received t n ≡ false → filter_map (admits_at n) item ≡ a ∷ [] → admitted (item ∷ t) n ≡ Some a
 admitted-first t n item a new here = ap (λ xs. first_of (xs ++ filter_map (admits_at n) item)) (unadmitted n t new) ∙ ap first_of here

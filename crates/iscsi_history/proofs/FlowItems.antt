@@ -1,5 +1,5 @@
 -- Items one after the other: their effects, the agenda in two halves, and ExpCmdSN, which doesn't go back.
-use Rattle.std.proofs.Common.{◌++◌, List, [], ap, append_assoc, refl, sym, ◌∙◌, ◌∷◌, ◌≡◌, length, ◌+◌, suc, zero, ℕ, ◌-◌, ◌<◌, arith, ◌==◌, inl, inr, true, ◌≤◌, ⊎_elim, ◌⊎◌, subst}
+use Rattle.std.proofs.Common.{◌++◌, List, [], ap, append_assoc, refl, sym, ◌∙◌, ◌∷◌, ◌≡◌, length, ◌+◌, suc, zero, ℕ, ◌-◌, ◌<◌, arith, ◌==◌, inl, inr, true, ◌≤◌, ⊎_elim, ◌⊎◌}
 use Rattle.std.proofs.lemmas.Bool.Decides.{nat_tests}
 use Rattle.std.specs.List.{list_all}
 use Rattle.std.proofs.lemmas.List.{append-nil}
@@ -15,7 +15,7 @@ use Rattle.iscsi_history.specs.promises.Flow.{HasOneMore, FlowsThrough, Flows}
 use Rattle.iscsi_history.specs.declared.event.Event.{Event}
 use Rattle.iscsi_history.specs.rules.Agenda.{belongs}
 use Rattle.iscsi_history.proofs.TraceLemmas.{after_items-append}
-use Rattle.iscsi_history.proofs.BoolLemmas.{or_first, and_both, and_parts}
+use Rattle.iscsi_history.proofs.BoolLemmas.{or_first, and_both}
 use Rattle.iscsi_history.proofs.Missing.{expected_below, expected_gone, expected_low}
 
 -- ---- lists of items

@@ -1,9 +1,8 @@
 -- Which requests are held, and which are due.
-use Rattle.std.proofs.Common.{◌≡◌, ℕ, ◌==◌, ◌||◌, ◌⊎◌, inl, inr, ⊎_elim, cond, Bool, true, false, List, [], ◌∷◌, ◌++◌, Option, Some, None, option_map, refl, ap, sym, ◌∙◌, eq-eqb, ◌&&◌, ◌<◌, ◌≤◌, ◌+◌, zero, suc, filter, arith, nat_lt, subst}
+use Rattle.std.proofs.Common.{◌≡◌, ℕ, ◌==◌, ◌||◌, ◌⊎◌, inl, inr, ⊎_elim, cond, Bool, true, false, List, [], ◌∷◌, ◌++◌, Option, Some, None, option_map, refl, ap, ◌∙◌, eq-eqb, ◌&&◌, ◌<◌, ◌≤◌, ◌+◌, zero, suc, filter, arith, nat_lt, subst}
 use Rattle.std.specs.List.{list_any, filter_map, cons_option, range_with_len}
-use Rattle.std.proofs.lemmas.Bool.{eqb-true}
 use Rattle.std.proofs.lemmas.List.{append-nil}
-use Rattle.iscsi_history.specs.rules.Trace.{Arrival, Mark, Admits, Delivers, Trace, shown, first_of, is_received, is_delivered, is_emptied, held, admitted, admits_at, delivers_number, received, empties_number, held_among}
+use Rattle.iscsi_history.specs.rules.Trace.{Arrival, Mark, Admits, Delivers, Trace, shown, first_of, is_received, is_delivered, is_emptied, held, admitted, admits_at, delivers_number, received, held_among}
 use Rattle.iscsi_history.specs.promises.Executed.{request_at}
 use Rattle.iscsi_history.proofs.TraceLemmas.{unadmitted}
 use Rattle.iscsi_history.proofs.DeliveryLemmas.{IsQuiet}
@@ -12,7 +11,7 @@ use Rattle.iscsi_history.proofs.BoolLemmas.{or_false, and_first}
 use Rattle.iscsi_wire.specs.declared.request.Request.{Request}
 use Rattle.iscsi_history.specs.rules.Settings.{Setting}
 use Rattle.iscsi_history.proofs.ListLemmas.{first_itself}
-use Rattle.iscsi_history.specs.rules.Management.{held_command, held_requests, is_to}
+use Rattle.iscsi_history.specs.rules.Management.{held_command, is_to}
 use Rattle.iscsi_wire.specs.Fields.{itt, opcode}
 use Rattle.std.proofs.lemmas.Bool.Decides.{nat_tests}
 use Rattle.iscsi_history.specs.rules.Execution.{exp_of}

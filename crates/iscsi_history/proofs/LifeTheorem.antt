@@ -1,7 +1,7 @@
 -- What a log shows of each ticket is a life.
-use Rattle.std.proofs.Common.{◌≡◌, ℕ, ◌+◌, ◌<◌, ◌≤◌, ◌==◌, ◌&&◌, ◌||◌, ◌⊎◌, ◌≢◌, inl, inr, not, ⊎_elim, cond, Bool, true, false, List, [], ◌∷◌, ◌++◌, map, filter, length, count_by, Option, Some, None, refl, ap, sym, subst, ◌∙◌, arith, eq-eqb, length-append}
+use Rattle.std.proofs.Common.{◌≡◌, ℕ, ◌+◌, ◌<◌, ◌≤◌, ◌==◌, ◌&&◌, ◌||◌, ◌⊎◌, inl, inr, not, ⊎_elim, cond, Bool, true, false, List, [], ◌∷◌, ◌++◌, map, filter, length, count_by, Option, Some, None, refl, ap, sym, subst, ◌∙◌, arith, eq-eqb, length-append}
 use Rattle.std.specs.List.{list_any, filter_map, flat_map, range_with_len}
-use Rattle.std.proofs.lemmas.Bool.{false≢true, eqb-true, cases_eq}
+use Rattle.std.proofs.lemmas.Bool.{false≢true, eqb-true}
 use Rattle.std.proofs.lemmas.Bool.Decides.{nat_tests}
 use Rattle.std.proofs.lemmas.List.{append-nil, length-map, map-append}
 use Rattle.std.proofs.lemmas.List.Elements.{filter-append, filter_map-append}
@@ -12,7 +12,7 @@ use Rattle.iscsi_history.specs.rules.Settings.{Setting}
 use Rattle.iscsi_history.specs.rules.Trace.{Command, Mark, Enters, Trace, has, enters, entered, leaves_ticket, live, is_among, was_free, is_free_at}
 use Rattle.iscsi_history.specs.rules.Run.{effects_of_mark, newly_enabled, effects_of_item, trace_of, run_of}
 use Rattle.iscsi_history.specs.promises.Enabling.{effects_so_far, effects_in}
-use Rattle.iscsi_history.specs.promises.Lives.{ticket_entered, tickets_entered, names_ticket, life_of, is_life, StartsOnce}
+use Rattle.iscsi_history.specs.promises.Lives.{ticket_entered, tickets_entered, life_of, is_life, StartsOnce}
 use Rattle.iscsi_history.proofs.ElementLemmas.{In, in-filter}
 use Rattle.iscsi_history.proofs.TraceLemmas.{live-item}
 use Rattle.iscsi_history.proofs.NewlyLemmas.{never_free}

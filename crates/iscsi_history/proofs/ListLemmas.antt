@@ -1,13 +1,12 @@
 -- Lists of connections and commands, and lists at large.
-use Rattle.std.proofs.Common.{◌≡◌, ℕ, suc, ◌+◌, ◌<◌, ◌≤◌, ◌==◌, ◌&&◌, ◌||◌, not, cond, Bool, true, false, List, [], ◌∷◌, ◌++◌, length, map, filter, find, count_by, Some, None, refl, ap, sym, ◌∙◌, arith, nat_lt, Option, is_some, All, zero, ◌-◌, ⊎_elim}
+use Rattle.std.proofs.Common.{◌≡◌, ℕ, suc, ◌+◌, ◌<◌, ◌≤◌, ◌==◌, ◌&&◌, ◌||◌, not, cond, Bool, true, false, List, [], ◌∷◌, ◌++◌, length, map, filter, find, count_by, Some, None, refl, ap, sym, ◌∙◌, arith, Option, is_some, All, zero, ◌-◌}
 use Rattle.std.specs.List.{list_any, list_all, flat_map, position, position_or_len, cons_option, range_with_len}
-use Rattle.std.proofs.lemmas.Bool.{false≢true, eqb-true, cases_eq}
+use Rattle.std.proofs.lemmas.Bool.{false≢true}
 use Rattle.std.proofs.lemmas.Bool.Decides.{nat_tests}
 use Rattle.std.specs.Prelude.{IsSome}
 use Rattle.std.proofs.lemmas.List.Folds.{list_any-append}
 use Rattle.std.proofs.lemmas.List.Sums.{sum_by-cons, sum_by-append}
 use Rattle.iscsi_history.specs.rules.Settings.{is_known}
-use Rattle.iscsi_history.proofs.BoolLemmas.{and_first, and_second, and_parts, and_both, or_none, and_false, or_first, or_second}
 use Rattle.iscsi_history.specs.rules.Trace.{first_of}
 use Rattle.std.proofs.lemmas.List.Elements.{All-head, All-tail, filter-append}
 use Rattle.std.proofs.lemmas.List.{map-append}

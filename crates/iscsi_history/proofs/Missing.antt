@@ -1,8 +1,7 @@
 -- The least number that isn't among some.
-use Rattle.std.proofs.Common.{◌≡◌, ℕ, zero, suc, ◌+◌, ◌-◌, ◌<◌, ◌≤◌, ◌==◌, ◌||◌, ◌⊎◌, inl, inr, ⊎_elim, cond, Bool, true, false, List, [], ◌∷◌, length, map, refl, ap, sym, ◌∙◌, arith, eqb, eq-eqb}
+use Rattle.std.proofs.Common.{◌≡◌, ℕ, zero, suc, ◌+◌, ◌-◌, ◌<◌, ◌≤◌, ◌||◌, ◌⊎◌, inl, inr, ⊎_elim, cond, Bool, true, false, List, [], ◌∷◌, length, map, refl, ap, sym, ◌∙◌, arith, eqb}
 use Rattle.std.proofs.lemmas.Bool.{cases_eq, cases_lt, false≢true}
 use Rattle.std.proofs.lemmas.Map.Steps.{le-length_from_below}
-use Rattle.std.proofs.lemmas.Bool.Decides.{nat_tests}
 use Rattle.std.proofs.lemmas.List.{length-map}
 use Rattle.std.specs.List.{list_any, filter_map}
 use Rattle.iscsi_wire.specs.Serial.{number_of_first}
@@ -26,10 +25,6 @@ module _ (ns : List ℕ) where
   pub least_missing_is : (fuel n m : ℕ) → n ≤ m → ((k : ℕ) → n ≤ k → k < m → contains ns k ≡ true) → contains ns m ≡ false → m ≤ n + fuel → least_missing ns fuel n ≡ m
   least_missing_is zero n m low all gone short = omega arith
   least_missing_is (suc fuel) n m low all gone short = grind (arith, least_missing_is fuel (n + 1) m)
-
-or_true : (b : Bool) → (b || true) ≡ true
-or_true true = refl
-or_true false = refl
 
 shift_in : (ns : List ℕ) (first q : ℕ) → contains ns (first + q) ≡ true → list_any (eqb q) (map (λ x. x - first) ns) ≡ true
 shift_in [] first q h = absurd (false≢true h)

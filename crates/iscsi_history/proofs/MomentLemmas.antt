@@ -12,7 +12,6 @@ use Rattle.iscsi_history.specs.rules.Trace.{Command, Mark, Trace, has, entered, 
 use Rattle.iscsi_history.specs.rules.Run.{newly_enabled, after_event, after_events, effects_of_mark, effects_of_item, effects_of, entries_from}
 use Rattle.iscsi_history.proofs.BoolLemmas.{or_first, or_second}
 use Rattle.iscsi_history.specs.declared.event.Event.{Event}
-use Rattle.iscsi_history.specs.rules.Agenda.{items_of}
 use Rattle.iscsi_history.specs.promises.Enabling.{effects_so_far, is_enable, FreeMoment, effects_in}
 use Rattle.iscsi_history.proofs.ListLemmas.{list_any-map}
 

@@ -1,16 +1,16 @@
 -- Which commands an item enables.
-use Rattle.std.proofs.Common.{◌≡◌, ℕ, zero, suc, ◌+◌, ◌<◌, ◌≤◌, ◌==◌, ◌&&◌, ◌||◌, not, ⊎_elim, cond, Bool, true, false, List, [], ◌∷◌, ◌++◌, map, filter, refl, ap, sym, ◌∙◌, arith, eq-eqb, nat_lt}
+use Rattle.std.proofs.Common.{◌≡◌, ℕ, zero, suc, ◌+◌, ◌<◌, ◌≤◌, ◌==◌, ◌&&◌, ◌||◌, not, cond, Bool, true, false, List, [], ◌∷◌, ◌++◌, filter, refl, ap, sym, ◌∙◌, arith, nat_lt}
 use Rattle.std.specs.List.{list_any, list_all, filter_map, flat_map, range_with_len}
-use Rattle.std.proofs.lemmas.Bool.{cases_eq, eqb-true}
+use Rattle.std.proofs.lemmas.Bool.{eqb-true}
 use Rattle.std.proofs.lemmas.Bool.Decides.{nat_tests}
 use Rattle.std.proofs.lemmas.List.{append-nil, map-append}
 use Rattle.std.proofs.lemmas.List.Elements.{filter-append}
 use Rattle.std.proofs.lemmas.List.Folds.{list_any-append}
 use Rattle.iscsi_tasks.specs.Sets.{Queued, bars, is_free}
 use Rattle.iscsi_history.specs.rules.Settings.{Setting}
-use Rattle.iscsi_history.specs.rules.Trace.{Command, Mark, Trace, has, enters, entered, leaves_ticket, live, live_in, is_among, queued_of, is_free_at, was_free, enabled_in}
+use Rattle.iscsi_history.specs.rules.Trace.{Command, Mark, Trace, enters, entered, leaves_ticket, live, live_in, is_among, was_free, enabled_in}
 use Rattle.iscsi_history.specs.rules.Run.{newly_enabled}
-use Rattle.iscsi_history.proofs.BoolLemmas.{and_parts, and_both, or_none, not_true, or_first, or_second, and_false, and_comm, and_true}
+use Rattle.iscsi_history.proofs.BoolLemmas.{and_parts, and_both, or_none, not_true, and_false, and_comm, and_true}
 use Rattle.iscsi_history.proofs.ApartLemmas.{unamong-filter}
 use Rattle.iscsi_history.proofs.TraceLemmas.{all_among, live-quiet}
 use Rattle.iscsi_history.proofs.ListLemmas.{all_of_filter, any_filter, any_flat_map, any_same}

@@ -1,12 +1,9 @@
 -- Numbers, as the wire shows them, and how they compare.
-use Rattle.std.proofs.Common.{◌<◌, ◌==◌, ◌^◌, arith, eq-eqb, false, sym, ℕ, ◌∙◌, ◌≡◌, ◌≤◌, ⊎_elim, ◌+◌, ◌-◌, nat_le, nat_lt, true, ◌%◌, ◌-ℤ◌, Bool, int_lt, pos, refl, Decides, ap, List, [], ◌||◌, ◌∷◌, cond}
+use Rattle.std.proofs.Common.{◌<◌, ◌==◌, ◌^◌, arith, false, ℕ, ◌≡◌, ◌≤◌, ◌+◌, ◌-◌, nat_le, nat_lt, true, ◌%◌, ◌-ℤ◌, int_lt, pos, refl, List, [], ◌∷◌, cond}
 use Rattle.std.specs.Ordering.{int_eq}
 use Rattle.std.specs.List.{list_all, list_any}
-use Rattle.std.proofs.lemmas.Bool.{cases_eq, cases_lt, false≢true}
-use Rattle.std.proofs.lemmas.Bool.Decides.{nat_tests, Decides-int_eq}
-use Rattle.std.proofs.lemmas.Int.{ints}
+use Rattle.std.proofs.lemmas.Bool.Decides.{nat_tests}
 use Rattle.iscsi_wire.specs.Serial.{lift, wire}
-use Rattle.iscsi_history.proofs.BoolLemmas.{and_parts}
 
 -- ---- on the wire
 

@@ -8,23 +8,19 @@ use Rattle.std.proofs.lemmas.List.Elements.{filter_map-append}
 use Rattle.std.proofs.lemmas.List.Sums.{sum_by-append}
 use Rattle.iscsi_wire.specs.declared.reply.Reply.{Reply}
 use Rattle.iscsi_wire.specs.Serial.{wire}
-use Rattle.iscsi_wire.specs.declared.reply.Reply.TheVariants.{Scsi}
-use Rattle.iscsi_wire.specs.Fields.{connection_of, itt}
-use Rattle.iscsi_history.specs.declared.effect.Why.{Why}
+use Rattle.iscsi_wire.specs.Fields.{connection_of}
 use Rattle.iscsi_history.specs.declared.effect.Effect.TheVariants.{Enable}
 use Rattle.iscsi_history.specs.declared.event.Event.{Event}
 use Rattle.iscsi_history.specs.rules.Settings.{Setting}
-use Rattle.iscsi_history.specs.rules.Trace.{Arrival, Command, Mark, Admits, Delivers, Executes, Voids, Empties, Waits, Leaves, Enters, Sends, ClosesConn, ClosesSession, Ignores, Trace, shown, sent_on}
-use Rattle.iscsi_history.specs.rules.Execution.{reply_on, sense_of_status}
+use Rattle.iscsi_history.specs.rules.Trace.{Command, Mark, Sends, Trace, shown, sent_on}
 use Rattle.iscsi_history.specs.rules.Run.{first_stat_sn, stat_sn_of, effects_of_mark, newly_enabled, effects_of_item, trace_of, run_of}
 use Rattle.iscsi_history.specs.promises.Enabling.{effects_so_far, effects_in}
 use Rattle.iscsi_history.specs.promises.Numbering.{stat_sn_shown, stat_sns_on, CountsReplies}
-use Rattle.iscsi_history.proofs.AbortMarks.{none_viewed}
 use Rattle.iscsi_history.proofs.DeliveryLemmas.{range_more}
 use Rattle.iscsi_history.proofs.MomentLemmas.{log_effects}
 pub use Rattle.iscsi_history.proofs.DeedLemmas.{to_list}
 use Rattle.iscsi_history.proofs.DeedLemmas.{views}
-use Rattle.iscsi_history.proofs.Forms.{Start, AtTurn, start_mark, Deeds, if_some, marks_done, Form, Ignored, Rejected, Received, Postponed, Completed, Executed, marks_of_form, HasForm, HaveForms}
+use Rattle.iscsi_history.proofs.Forms.{Start, AtTurn, start_mark, if_some, marks_done, Form, Rejected, Completed, Executed, marks_of_form, HasForm, HaveForms}
 use Rattle.iscsi_history.proofs.FormRuns.{trace_has_forms}
 
 -- ---- what marks show of one connection

@@ -1,19 +1,18 @@
 -- The effects of an item stand in order.
 use Rattle.std.proofs.Common.{◌≡◌, ℕ, ◌≤◌, ◌||◌, cond, Bool, true, false, List, [], ◌∷◌, ◌++◌, map, count_by, Option, Some, None, refl, ap, sym, subst, ◌∙◌, arith, nat_le}
 use Rattle.std.specs.List.{list_any, list_all, flat_map}
-use Rattle.std.proofs.lemmas.Bool.{false≢true}
 use Rattle.std.proofs.lemmas.Bool.Decides.{nat_tests}
 use Rattle.std.proofs.lemmas.List.Sums.{sum_by-cons}
 use Rattle.iscsi_wire.specs.declared.reply.Reply.{Reply}
 use Rattle.iscsi_wire.specs.Fields.{connection_of}
 use Rattle.iscsi_history.specs.declared.effect.Effect.{Effect}
-use Rattle.iscsi_history.specs.declared.effect.Effect.TheVariants.{Deliver, Immediate, Wait, Void, Empty, Enter, Enable, Leave, Send, CloseConn, CloseSession, Ignore}
+use Rattle.iscsi_history.specs.declared.effect.Effect.TheVariants.{Deliver, Immediate, Wait, Void, Empty, Enter, Enable, Leave, Send, CloseConn, CloseSession}
 use Rattle.iscsi_history.specs.rules.Settings.{Setting}
-use Rattle.iscsi_history.specs.rules.Trace.{Arrival, Command, Mark, Voids, Empties, Leaves, Enters, Sends, ClosesConn, ClosesSession, Ignores, Trace}
+use Rattle.iscsi_history.specs.rules.Trace.{Arrival, Command, Mark, Voids, Empties, Leaves, Enters, Sends, ClosesConn, ClosesSession, Trace}
 use Rattle.iscsi_history.specs.rules.Run.{effects_of_mark, newly_enabled, effects_of_item}
 use Rattle.iscsi_history.specs.promises.Closes.{is_ignored}
 use Rattle.iscsi_history.specs.promises.Order.{is_request, is_reply, rank, never_falls, IsInOrder}
-use Rattle.iscsi_history.proofs.BoolLemmas.{and_parts, and_both}
+use Rattle.iscsi_history.proofs.BoolLemmas.{and_both}
 use Rattle.iscsi_history.proofs.NewlyLemmas.{newly-untouched}
 use Rattle.iscsi_history.proofs.Forms.{AtTurn, Deeds, if_some, marks_done, Form, Ignored, Rejected, Received, Postponed, Completed, Executed, marks_of_form, HasForm}
 

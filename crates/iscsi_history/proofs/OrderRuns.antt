@@ -1,12 +1,11 @@
 -- In the log of a list of events the effects of each item stand in order.
 use Rattle.std.proofs.Common.{◌≡◌, ℕ, ◌+◌, ◌≤◌, ◌||◌, cond, Bool, true, false, List, [], ◌∷◌, ◌++◌, map, count_by, refl, ap, sym, subst, ◌∙◌, arith, nat_le}
-use Rattle.std.specs.List.{list_any, list_all, flat_map}
+use Rattle.std.specs.List.{list_any, list_all}
 use Rattle.std.proofs.lemmas.Bool.{false≢true}
 use Rattle.std.proofs.lemmas.Bool.Decides.{nat_tests}
 use Rattle.std.proofs.lemmas.List.Sums.{sum_by-cons}
 use Rattle.iscsi_history.specs.declared.effect.Effect.{Effect}
 use Rattle.iscsi_history.specs.declared.effect.Effect.TheVariants.{Deliver, Immediate, Wait}
-use Rattle.iscsi_history.specs.declared.entry.Entry.{Entry}
 use Rattle.iscsi_history.specs.declared.event.Event.{Event}
 use Rattle.iscsi_history.specs.rules.Settings.{Setting}
 use Rattle.iscsi_history.specs.rules.Trace.{Mark, Trace}
@@ -37,13 +36,6 @@ none_below n (e ∷ es) h =
     more (x ∷ xs) h low =
         let parts = and_parts (nat_le (rank e) (rank x)) (list_all (λ y. nat_le (rank e) (rank y)) xs) h in
         and_both (nat_le n (rank x)) (list_all (λ y. nat_le n (rank y)) xs) (let z : nat_le n (rank x) ≡ true = grind (arith, nat_tests) in z) (more xs parts.1 low)
-
--- a request has rank 0, and nothing else has
-asked_rank : (e : Effect) → nat_le 1 (rank e) ≡ true → is_request e ≡ false
-asked_rank (Deliver r) h = absurd (false≢true h)
-asked_rank (Immediate r) h = absurd (false≢true h)
-asked_rank (Wait r) h = absurd (false≢true h)
-asked_rank e h = refl
 
 unasked_rank : (e : Effect) → is_request e ≡ false → nat_le 1 (rank e) ≡ true
 unasked_rank (Deliver r) h = absurd (false≢true (sym h))

@@ -1,10 +1,9 @@
 -- Places of a list: what is read and written there, and the first one that passes a test.
-use Rattle.std.proofs.Common.{Bool, List, [], refl, set, suc, true, zero, ℕ, ◌∷◌, ◌≡◌, ◌&&◌, ◌++◌, None, Option, Some, ap, drop, get_or, sym, ◌∙◌, ◌<◌, arith, length, ◌≤◌, take, replicate, ◌+◌, cond, false, nat_lt, not, option_map, position, ⊎_elim, find}
+use Rattle.std.proofs.Common.{Bool, List, [], refl, set, suc, true, zero, ℕ, ◌∷◌, ◌≡◌, ◌&&◌, ◌++◌, None, Option, Some, ap, drop, get_or, sym, ◌∙◌, ◌<◌, arith, length, ◌≤◌, take, replicate, cond, false, option_map, position, find}
 use Rattle.std.proofs.lemmas.Bool.Decides.{nat_tests}
-use Rattle.std.specs.List.{list_all, position_or_len}
+use Rattle.std.specs.List.{list_all}
 use Rattle.std.proofs.lemmas.List.Folds.{list_all-append}
 use Rattle.std.proofs.lemmas.List.{append-nil}
-use Rattle.std.proofs.lemmas.Bool.{cases_lt, le-ltb, lt-ltb}
 use Rattle.iscsi_history.proofs.BoolLemmas.{and_both, and_parts}
 
 -- ---- what is written, and what moves up

@@ -1,8 +1,8 @@
 -- Which numbers an event and its items receive: none, or one.
-use Rattle.std.proofs.Common.{arith, Bool, List, ℕ, [], ◌∷◌, ◌≡◌, ◌⊎◌, ◌++◌, refl, ◌&&◌, cond, false, inl, inr, true, ap, None, Option, Some, ◌==◌, ◌∙◌, sym, subst, ◌||◌}
+use Rattle.std.proofs.Common.{arith, Bool, List, ℕ, [], ◌∷◌, ◌≡◌, ◌⊎◌, ◌++◌, refl, ◌&&◌, cond, false, inl, inr, true, ap, None, Some, ◌==◌, ◌∙◌, sym, subst, ◌||◌}
 use Rattle.std.proofs.lemmas.Bool.Decides.{nat_tests}
 use Rattle.std.specs.List.{filter_map, list_all}
-use Rattle.std.proofs.lemmas.Bool.{eqb-true, false≢true}
+use Rattle.std.proofs.lemmas.Bool.{false≢true}
 use Rattle.std.proofs.lemmas.List.{append-nil}
 use Rattle.iscsi_wire.specs.Fields.{is_immediate, function, opcode}
 use Rattle.iscsi_wire.specs.declared.request.Request.{Request}
@@ -13,7 +13,7 @@ use Rattle.iscsi_history.specs.rules.Management.{may_wait, refusal_of_function}
 use Rattle.iscsi_history.specs.rules.Items.{execution, function_item, item_of, waiting_item, immediate_item, functions, is_waiting}
 use Rattle.iscsi_history.specs.promises.Flow.{HasOneMore}
 use Rattle.iscsi_history.specs.declared.kind.Kind.TheVariants.{PassedOver, Unknown, Executes as ExecutesKind}
-use Rattle.iscsi_history.specs.rules.Agenda.{arrival_as, arrival_open, kind_of, arrival_of, numbered, with_turns}
+use Rattle.iscsi_history.specs.rules.Agenda.{arrival_as, arrival_open, kind_of, arrival_of, numbered}
 use Rattle.iscsi_history.specs.declared.effect.Why.{Why}
 use Rattle.iscsi_history.proofs.BoolLemmas.{and_false, and_parts}
 use Rattle.iscsi_history.proofs.Forms.{Start, AtTurn, AtArrival, AfterWaiting, start_mark, Deeds, if_some, marks_done, Form, Received, Executed, marks_of_form, Each}

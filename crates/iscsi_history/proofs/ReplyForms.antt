@@ -1,21 +1,17 @@
 -- What an item of each form does to the requests of an event: which wait for their turn, execute, are live and are answered.
-use Rattle.std.proofs.Common.{◌≡◌, ℕ, ◌+◌, ◌≤◌, ◌==◌, ◌&&◌, not, inl, inr, cond, Bool, true, false, List, [], ◌∷◌, ◌++◌, map, filter, length, count_by, Option, Some, None, refl, ap, sym, ◌∙◌, arith, eq-eqb, length-append}
+use Rattle.std.proofs.Common.{◌≡◌, ℕ, ◌+◌, ◌≤◌, ◌==◌, ◌&&◌, not, inl, inr, cond, Bool, true, false, List, [], ◌∷◌, filter, length, count_by, Option, None, refl, ap, sym, ◌∙◌, arith, eq-eqb, length-append}
 use Rattle.std.proofs.lemmas.Bool.Decides.{nat_tests}
 use Rattle.std.specs.List.{list_any, filter_map}
 use Rattle.std.proofs.lemmas.Bool.{false≢true}
-use Rattle.std.proofs.lemmas.List.{append-nil}
-use Rattle.std.proofs.lemmas.List.Elements.{filter_map-append}
 use Rattle.std.proofs.lemmas.List.Sums.{sum_by-append}
-use Rattle.iscsi_wire.specs.declared.reply.Reply.{Reply}
 use Rattle.iscsi_wire.specs.Fields.{connection_of}
 use Rattle.iscsi_history.specs.rules.Settings.{Setting}
 use Rattle.iscsi_history.specs.rules.Trace.{Arrival, Command, Mark, Voids, Empties, Leaves, Enters, Sends, ClosesConn, ClosesSession, Trace, has, enters, entered, leaves_ticket, live, is_among}
-use Rattle.iscsi_history.specs.promises.Replies.{is_answer_to, reply_sent, replies_to}
+use Rattle.iscsi_history.specs.promises.Replies.{reply_sent, replies_to}
 use Rattle.iscsi_history.proofs.ListLemmas.{fewer_counted}
 use Rattle.iscsi_history.proofs.CountLemmas.{one, count-cons, count-filter, count-weaker, count-split}
 use Rattle.iscsi_history.proofs.ElementLemmas.{In, in-any}
 use Rattle.iscsi_history.proofs.TraceLemmas.{live-item}
-use Rattle.iscsi_history.proofs.AbortMarks.{none_viewed}
 use Rattle.iscsi_history.proofs.Forms.{AtTurn, Deeds, if_some, marks_done, Form, Completed, Executed, marks_of_form, IsFormed}
 use Rattle.iscsi_history.proofs.DeedLemmas.{to_list, views}
 use Rattle.iscsi_history.proofs.TouchLemmas.{leaving_in, entering_in, enters_form, leaves_form, leaving_few}

@@ -1,12 +1,10 @@
 -- Once a command has left, nothing is sent any more to its request, and nothing ever to a numbered request that doesn't execute.
-use Rattle.std.proofs.Common.{◌≡◌, ℕ, ◌+◌, ◌<◌, ◌≤◌, ◌&&◌, not, cond, Bool, true, false, List, [], ◌∷◌, ◌++◌, length, count_by, Some, refl, ap, sym, ◌∙◌, arith, nat_lt, eq-eqb, append_assoc, length-append}
+use Rattle.std.proofs.Common.{◌≡◌, ℕ, ◌+◌, ◌<◌, ◌≤◌, not, true, false, [], ◌∷◌, ◌++◌, length, count_by, Some, refl, ap, sym, ◌∙◌, arith, nat_lt, eq-eqb, append_assoc, length-append}
 use Rattle.std.proofs.lemmas.Bool.Decides.{nat_tests}
 use Rattle.std.proofs.lemmas.List.{append-nil}
-use Rattle.std.specs.List.{filter_map}
-use Rattle.iscsi_wire.specs.declared.reply.Reply.{Reply}
 use Rattle.iscsi_history.specs.rules.Settings.{Setting}
 use Rattle.iscsi_history.specs.rules.Trace.{Arrival, Command, Trace, has, shown, admits_at, admitted, is_delivered, entered, leaves_ticket, live}
-use Rattle.iscsi_history.specs.promises.Replies.{is_answer_to, reply_sent, replies_to}
+use Rattle.iscsi_history.specs.promises.Replies.{replies_to}
 use Rattle.iscsi_history.proofs.BoolLemmas.{and_second}
 use Rattle.iscsi_history.proofs.ElementLemmas.{In, filter-in, first-in}
 use Rattle.iscsi_history.proofs.HeldLemmas.{admitted-number}

@@ -1,22 +1,22 @@
 -- The requests that didn't execute so far: those that were admitted and not delivered, and the functions that wait.
-use Rattle.std.proofs.Common.{◌≡◌, ℕ, ◌+◌, ◌≤◌, ◌==◌, ◌&&◌, ◌||◌, not, inl, inr, ⊎_elim, cond, Bool, true, false, List, [], ◌∷◌, ◌++◌, map, filter, count_by, Option, Some, None, refl, ap, sym, ◌∙◌, arith, eq-eqb}
+use Rattle.std.proofs.Common.{◌≡◌, ℕ, ◌+◌, ◌≤◌, ◌==◌, ◌&&◌, ◌||◌, not, ⊎_elim, cond, Bool, true, false, List, [], ◌∷◌, ◌++◌, filter, count_by, Option, Some, None, refl, ap, sym, ◌∙◌, arith, eq-eqb}
 use Rattle.std.proofs.lemmas.Bool.Decides.{nat_tests}
-use Rattle.std.specs.List.{list_any, filter_map, cons_option}
+use Rattle.std.specs.List.{list_any, filter_map}
 use Rattle.std.proofs.lemmas.Bool.{false≢true, eqb-true}
 use Rattle.std.proofs.lemmas.List.{append-nil}
 use Rattle.std.proofs.lemmas.List.Elements.{filter-append}
 use Rattle.std.proofs.lemmas.List.Sums.{sum_by-append}
 use Rattle.iscsi_wire.specs.Fields.{connection_of}
 use Rattle.iscsi_history.specs.rules.Settings.{Setting}
-use Rattle.iscsi_history.specs.rules.Trace.{Arrival, Mark, Admits, Delivers, Executes, Voids, Empties, Waits, Leaves, Enters, Sends, ClosesConn, ClosesSession, Trace, shown, admits_at, admitted, delivers_number, is_delivered, is_emptied, held, waiting_by, waiting_through, waiting}
+use Rattle.iscsi_history.specs.rules.Trace.{Arrival, Mark, Admits, Delivers, Executes, Trace, shown, admits_at, delivers_number, is_delivered, held, waiting_through, waiting}
 use Rattle.iscsi_history.proofs.BoolLemmas.{and_parts, and_both}
 use Rattle.iscsi_history.proofs.ListLemmas.{fewer_counted, count_by-push}
 use Rattle.iscsi_history.proofs.CountLemmas.{one, count-cons, count-filter, count-weaker, count-lost, count-split}
 use Rattle.iscsi_history.proofs.ElementLemmas.{In, in-append, append-in_first, append-in_second, first-in}
 use Rattle.iscsi_history.proofs.HeldLemmas.{admitted_of_held}
-use Rattle.iscsi_history.proofs.Forms.{AtTurn, AtArrival, AfterWaiting, Deeds, if_some, marks_done, Form, Received, Postponed, Executed, marks_of_form, IsFormed, is_arrival}
+use Rattle.iscsi_history.proofs.Forms.{AtTurn, AtArrival, AfterWaiting, Deeds, marks_done, Form, Received, Postponed, Executed, marks_of_form, IsFormed, is_arrival}
 use Rattle.iscsi_history.proofs.DeedLemmas.{each_done, views}
-use Rattle.iscsi_history.proofs.ReplyForms.{is_of, replies_seen}
+use Rattle.iscsi_history.proofs.ReplyForms.{is_of}
 
 -- ---- admitted requests
 

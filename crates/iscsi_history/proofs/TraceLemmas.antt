@@ -1,8 +1,7 @@
 -- What one item more changes of what follows from a trace.
-use Rattle.std.proofs.Common.{arith, ◌≡◌, ℕ, ◌==◌, ◌&&◌, ◌||◌, not, cond, Bool, true, false, List, [], ◌∷◌, ◌++◌, filter, Some, None, refl, ap, sym, ◌∙◌, eq-eqb}
+use Rattle.std.proofs.Common.{arith, ◌≡◌, ℕ, ◌==◌, ◌||◌, not, cond, Bool, true, false, List, [], ◌∷◌, ◌++◌, filter, None, refl, ap, ◌∙◌, eq-eqb}
 use Rattle.std.proofs.lemmas.Bool.Decides.{nat_tests}
-use Rattle.std.specs.List.{list_any, list_all, filter_map, cons_option}
-use Rattle.std.proofs.lemmas.Bool.{false≢true}
+use Rattle.std.specs.List.{list_any, list_all, filter_map}
 use Rattle.std.proofs.lemmas.List.{append-nil}
 use Rattle.std.proofs.lemmas.List.Elements.{filter-append}
 use Rattle.std.proofs.lemmas.List.Folds.{list_any-append}
@@ -68,13 +67,6 @@ all_among (x ∷ xs) = grind (arith, nat_tests, all_among xs, and_both, eq-eqb, 
 
 pub received-item : (item : List Mark) (t : Trace) (n : ℕ) → is_received (item ∷ t) n ≡ (is_received t n || contains (filter_map number_received item) n)
 received-item item t n = list_any-append (λ k. k == n) (received t) (filter_map number_received item)
-
--- a mark that receives another number, or none, admits nothing at this one
-unadmitted_mark : (n : ℕ) (mark : Mark) (marks : List Mark) → contains (filter_map number_received (mark ∷ marks)) n ≡ false
-    → (admits_at n mark ≡ None) × (contains (filter_map number_received marks) n ≡ false)
-unadmitted_mark n (Admits a) marks h = grind arith
-unadmitted_mark n (Voids k) marks h = (refl, (or_none (k == n) (contains (filter_map number_received marks) n) h).1)
-unadmitted_mark n mark marks h = (refl, h)
 
 unadmitted_item : (n : ℕ) (item : List Mark) → contains (filter_map number_received item) n ≡ false → filter_map (admits_at n) item ≡ []
 unadmitted_item n [] h = refl

@@ -1,13 +1,12 @@
 -- Turns: which numbers an item delivers and empties. What is emptied is never delivered.
-use Rattle.std.proofs.Common.{arith, ◌≡◌, ℕ, ◌==◌, ◌||◌, inl, inr, ⊎_elim, cond, Bool, true, false, List, [], ◌∷◌, Some, None, refl, ap, sym, ◌∙◌}
+use Rattle.std.proofs.Common.{arith, ◌≡◌, ℕ, ◌==◌, ◌||◌, inl, inr, ⊎_elim, Bool, true, false, List, [], ◌∷◌, Some, refl, ap, sym, ◌∙◌}
 use Rattle.std.specs.List.{list_any}
 use Rattle.std.proofs.lemmas.Bool.{false≢true, eqb-true, or_cases}
 use Rattle.iscsi_history.specs.rules.Settings.{Setting}
-use Rattle.iscsi_history.specs.rules.Trace.{Arrival, Trace, admitted, delivers_number, is_delivered, empties_number, is_emptied, held}
+use Rattle.iscsi_history.specs.rules.Trace.{Arrival, Trace, delivers_number, is_delivered, empties_number, is_emptied, held}
 use Rattle.iscsi_history.specs.promises.Replies.{executed_in}
 use Rattle.iscsi_history.proofs.BoolLemmas.{or_false}
 use Rattle.iscsi_history.proofs.ElementLemmas.{In}
-use Rattle.iscsi_history.proofs.HeldLemmas.{held_unemptied}
 use Rattle.iscsi_history.proofs.FateLemmas.{done_at}
 use Rattle.iscsi_history.proofs.Forms.{Start, AtTurn, start_mark, marks_done, Form, Executed, marks_of_form, begun, IsFormed, HasForm, HaveForms}
 

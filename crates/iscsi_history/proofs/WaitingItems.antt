@@ -1,12 +1,11 @@
 -- Which functions wait after an item, and the functions of a number.
-use Rattle.std.proofs.Common.{arith, List, ◌≡◌, ◌++◌, [], ◌∷◌, Bool, filter, refl, ℕ, cond, false, true, ◌==◌, not, ◌||◌, ap, sym, subst, ◌∙◌, eq-eqb}
+use Rattle.std.proofs.Common.{arith, List, ◌≡◌, ◌++◌, [], ◌∷◌, Bool, filter, refl, ℕ, cond, false, true, ◌==◌, not, ap, sym, subst, ◌∙◌, eq-eqb}
 use Rattle.std.specs.List.{list_any}
-use Rattle.std.proofs.lemmas.Bool.{eqb-true, false≢true}
+use Rattle.std.proofs.lemmas.Bool.{false≢true}
 use Rattle.iscsi_history.specs.rules.Deeds.{function_marks}
 use Rattle.iscsi_history.specs.rules.Trace.{Arrival, Mark, waiting_through, Trace, Executes, waiting, after_items}
 use Rattle.iscsi_history.specs.rules.Settings.{Setting}
 use Rattle.iscsi_history.specs.rules.Items.{function_item, is_waiting, functions, functions_at}
-use Rattle.iscsi_history.proofs.BoolLemmas.{or_second, or_first}
 use Rattle.iscsi_history.proofs.ElementLemmas.{In, filter-in}
 use Rattle.iscsi_history.proofs.ListLemmas.{filter-swap}
 use Rattle.iscsi_history.proofs.Forms.{AfterWaiting, Deeds, marks_done, is_closing}
