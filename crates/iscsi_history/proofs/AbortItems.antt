@@ -30,19 +30,11 @@ no_arrival b h = absurd cc
 
 -- what isn't held isn't delivered
 touched_unheld : (t : Trace) (n : ℕ) (item : List Mark) → Touch t n item → held t n ≡ None → list_any (delivers_number n) item ≡ false
-touched_unheld t n item (NotTouched i) gone = i.delivered
-touched_unheld t n item (AdmitsNow a new i) gone = i.delivered
-touched_unheld t n item (VoidsNow new i) gone = i.delivered
-touched_unheld t n item (EmptiesNow b there i) gone = i.delivered
-touched_unheld t n item (DeliversNow b there i) gone = no_arrival b (sym gone ∙ there)
+touched_unheld t n item x3 gone = grind arith
 
 -- a received number admits nothing
 touched_received : (t : Trace) (n : ℕ) (item : List Mark) → Touch t n item → is_received t n ≡ true → filter_map (admits_at n) item ≡ []
-touched_received t n item (NotTouched i) there = i.admits
-touched_received t n item (AdmitsNow a new i) there = absurd (false≢true (sym new ∙ there))
-touched_received t n item (VoidsNow new i) there = i.admits
-touched_received t n item (EmptiesNow b held i) there = i.admits
-touched_received t n item (DeliversNow b held i) there = i.admits
+touched_received t n item x3 there = grind arith
 
 -- a number that is voided never admitted a request
 touched_voided : (t : Trace) (n : ℕ) (item : List Mark) → Touch t n item → list_any (voids_number n) item ≡ true → shown (admits_at n) (item ∷ t) ≡ []
@@ -102,8 +94,7 @@ module _ (o : Setting) (t : Trace) (start : Start) (a : Arrival) (d : Deeds) (s 
 module _ (o : Setting) (now p : ℕ) (t : Trace) where
   -- nothing is delivered below the item's place
   delivers_here : (form : Form) → StandsAt AnyArrival o now p t form → (n : ℕ) → n < p → delivers_in n form ≡ false
-  delivers_here (Executed AtTurn a d) x n lt = let number : a.number ≡ p = x.0 in let no : (a.number == n) ≡ false = grind (arith, nat_tests) in no
-  delivers_here form x n lt = refl
+  delivers_here form x n lt = grind arith
 
   -- Function complete is sent where the deeds say so
   completed_by : (start : Start) (a : Arrival) (d : Deeds) → list_any (completes a.request) (marks_of_form (Executed start a d)) ≡ true → is_completed_by a d ≡ true

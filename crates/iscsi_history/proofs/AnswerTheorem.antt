@@ -53,8 +53,7 @@ sent_done a d conn reply h =
     (viewed-in send_of (marks_done a d) (Sends conn reply) (conn, reply) h refl))
   where
     by_reply : (x : Option Reply) → In (conn, reply) (filter_map send_of (if_some (Sends (connection_of a.request)) x)) → (conn ≡ connection_of a.request) × (x ≡ Some reply)
-    by_reply None k = absurd k
-    by_reply (Some r) k = ⊎_elim (λ same. (sym (ap (λ (p : ℕ × Reply). p.0) same), ap (λ (p : ℕ × Reply). Some p.1) same)) (λ none. absurd none) k
+    by_reply x k = grind arith
 
 -- what leaves
 left_done : (a : Arrival) (d : Deeds) → filter_map leaver_of (marks_done a d) ≡ d.leaving
@@ -85,19 +84,13 @@ abbrev Completes : Command → List Mark → Type 0
 Completes c ms = (status : ℕ) × (ms ≡ Sends (connection_of c.arrival.request) (Scsi (itt c.arrival.request) status (sense_of_status status)) ∷ [])
 
 completing_form : (form : Form) (c : Command) (ms : List Mark) → Leaves c ∷ ms ≡ marks_of_form form → Completes c ms
-completing_form (Completed d status) c ms is = (status, cc)
-completing_form (Executed AtTurn b d) c ms is = absurd cc
-completing_form form c ms is = absurd cc
+completing_form form c ms is = grind arith
 
 -- ---- an item that answers no request
 
 rejecting_form : (form : Form) → answered_in (marks_of_form form) ≡ None → (conn : ℕ) (reply : Reply) → In (Sends conn reply) (marks_of_form form)
     → (r : Request) × (marks_of_form form ≡ Sends (connection_of r) (Reject 5 (header_of r)) ∷ [])
-rejecting_form (Rejected a) is conn reply h = (a.request, refl)
-rejecting_form (Completed c status) is conn reply h = absurd cc
-rejecting_form (Executed AtTurn a d) is conn reply h = absurd cc
-rejecting_form (Executed start a d) is conn reply h = absurd cc
-rejecting_form form is conn reply h = ⊎_elim (λ same. absurd cc) (λ none. absurd none) h
+rejecting_form form is conn reply h = grind arith
 
 -- ---- the clauses
 

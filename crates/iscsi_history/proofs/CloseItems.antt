@@ -135,8 +135,7 @@ module _ (o : Setting) (now p : ℕ) (t : Trace) (start : Start) (a : Arrival) (
         (λ later. or_second (list_any (delivers_number n) marks) (list_any (empties_number n) marks) ((executed_at n start a d).emptied ∙ in-any (λ (y : Arrival). y.number == n) d.emptied b (emptied later) (eq-eqb b.number n (held-number t n b there))))
       where
         kept : (s : Start) → list_any (delivers_number n) (start_mark s a ∷ []) ≡ false → held (begun s a t) n ≡ Some b
-        kept AtTurn later = held-kept t n (Delivers a ∷ []) refl later refl ∙ there
-        kept s later = held-kept t n (Executes a ∷ []) refl refl refl ∙ there
+        kept s later = grind arith
 
         emptied : list_any (delivers_number n) (start_mark start a ∷ []) ≡ false → In b d.emptied
         emptied later =

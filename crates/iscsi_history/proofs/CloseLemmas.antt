@@ -119,8 +119,7 @@ pub open-unended : (o : Setting) (t : Trace) (conn : ℕ) → is_open o t conn �
 open-unended o t conn here = grind arith
 
 pub by_bool : (A : Type 0) (b : Bool) → (b ≡ true → A) → (b ≡ false → A) → A
-by_bool A true on off = on refl
-by_bool A false on off = off refl
+by_bool A b on off = grind arith
 
 module _ (o : Setting) (item : List Mark) (t : Trace) (s : Sound o t item) where
   -- what the item brings is on a connection that is open after it

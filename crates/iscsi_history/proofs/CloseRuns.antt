@@ -31,8 +31,7 @@ pub event_sound : (o : Setting) (event : ℕ) (t : Trace) (e : Event) → belong
 event_sound o event t e known x = by_items (items_of o event t e) (event_stands (OnOpen o) o event t e (comes e known))
   where
     comes : (e : Event) → belongs o e ≡ true → Brings (OnOpen o) o event t e
-    comes (Arrive conn header) known = λ is. and_both (is_known conn o.conns) (not (is_closed conn t)) known (ap not is)
-    comes (Done ticket status) known = tt
+    comes e known = grind arith
 
     by_items : (items : List (List Mark)) → TurnsOf (OnOpen o) o event t items → Sounds o (after_items items t)
     by_items [] s = absurd s

@@ -43,12 +43,10 @@ module _ (o : Setting) (p : Effect → Bool) (q : Mark → Bool) (none : (ticket
   shown_so_far (item ∷ t) = grind (arith, nat_tests, shown_so_far t, list_any-append, shown_item, or_comm)
 
 session_mark : (o : Setting) (t : Trace) (m : Mark) → list_any is_session_close (effects_of_mark o t m) ≡ closes_session m
-session_mark o t (Admits a) = refl
-session_mark o t m = refl
+session_mark o t m = grind arith
 
 conn_mark : (o : Setting) (k : ℕ) (t : Trace) (m : Mark) → list_any (is_close_of k) (effects_of_mark o t m) ≡ closes_conn k m
-conn_mark o k t (ClosesConn conn) = or_false (conn == k)
-conn_mark o k t m = refl
+conn_mark o k t m = grind arith
 
 -- ---- what an item shows on a connection
 

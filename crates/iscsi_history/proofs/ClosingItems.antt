@@ -45,14 +45,12 @@ closing_marks o t a None = parting a 0 ++ ClosesSession ∷ []
 closing_marks o t a (Some closing) = parting a 0 ++ ClosesConn closing ∷ cond (is_last_open o t closing) (ClosesSession ∷ []) []
 
 pub untouched-closing : (o : Setting) (t : Trace) (a : Arrival) (scope : Option ℕ) → Untouched (closing_marks o t a scope)
-untouched-closing o t a None = record { enters_none = refl; leaves_no = λ k. refl }
-untouched-closing o t a (Some closing) = grind arith
+untouched-closing o t a scope = grind arith
 
 -- ---- the marks that close something
 
 pub quiet-closing : (o : Setting) (t : Trace) (a : Arrival) (scope : Option ℕ) → IsQuiet (closing_marks o t a scope)
-quiet-closing o t a None = record { receives = refl; admits = λ n. refl; delivers_none = refl; delivers_no = λ n. refl; empties_no = λ n. refl }
-quiet-closing o t a (Some closing) = grind arith
+quiet-closing o t a scope = grind arith
 
 -- ---- lists of such marks
 
@@ -95,8 +93,7 @@ is_nil [] = true
 is_nil (c ∷ cs) = false
 
 pub nil_is : (cs : List ℕ) → is_nil cs ≡ true → cs ≡ []
-nil_is [] h = refl
-nil_is (c ∷ cs) h = absurd (false≢true h)
+nil_is cs h = grind arith
 
 -- none stays open but for the one that closes
 pub last_is : (o : Setting) (t : Trace) (closing : ℕ) (ds : List (ℕ × ℕ)) → ((k : ℕ) → is_known k ds ≡ true → is_known k o.conns ≡ true)

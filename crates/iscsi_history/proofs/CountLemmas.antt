@@ -24,9 +24,7 @@ count-filter p q (x ∷ xs) =
     ] ∙ sym (count-cons (λ y. q y && p y) x xs)
 
 one_weaker : (b c : Bool) → (b ≡ true → c ≡ true) → one b ≤ one c
-one_weaker true true h = omega arith
-one_weaker true false h = absurd (false≢true (h refl))
-one_weaker false c h = omega arith
+one_weaker b c h = grind arith
 
 one_same : {A : Type 0} (p : A → Bool) (y x : A) (b : Bool) → y ≡ x → p x ≡ b → one (p y) ≡ one b
 one_same p y x b same is = ap one (ap p same ∙ is)
@@ -47,10 +45,7 @@ count-one p [] x there passes = absurd there
 count-one p (y ∷ xs) x there passes = grind (arith, nat_tests, count-one p xs x, count-cons, one_same)
 
 split_one : (b c : Bool) → one (b && c) + one (not b && c) ≡ one c
-split_one true true = refl
-split_one true false = refl
-split_one false true = refl
-split_one false false = refl
+split_one b c = grind arith
 
 -- those that pass a second test, and those that don't
 pub count-split : {A : Type 0} (p q : A → Bool) (xs : List A) → count_by (λ x. q x && p x) xs + count_by (λ x. not (q x) && p x) xs ≡ count_by p xs
@@ -67,8 +62,7 @@ among_counted k (c ∷ cs) h = by_test (c.ticket == k) (sum_by-cons (λ (x : Com
   where
     by_test : (v : Bool) → count_by (λ (x : Command). x.ticket == k) (c ∷ cs) ≡ cond v 1 0 + count_by (λ (x : Command). x.ticket == k) cs → (is_among k cs ≡ true → 1 ≤ count_by (λ (x : Command). x.ticket == k) cs) → (v || is_among k cs) ≡ true
         → 1 ≤ count_by (λ (x : Command). x.ticket == k) (c ∷ cs)
-    by_test true all rest h = omega arith
-    by_test false all rest h = omega (arith, rest h)
+    by_test v all rest h = grind arith
 
 pub counted_among : (k : ℕ) (cs : List Command) → 1 ≤ count_by (λ (c : Command). c.ticket == k) cs → is_among k cs ≡ true
 counted_among k [] h = absurd (omega arith)

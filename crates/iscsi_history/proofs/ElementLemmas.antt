@@ -41,8 +41,7 @@ range-in a zero n low high = absurd (omega arith)
 range-in a (suc count) n low high = ⊎_elim (λ same. inl (sym same)) (λ apart. inr (range-in (a + 1) count n (omega arith) (omega arith))) (cases_eq n a)
 
 pub in-cons : {A : Type 0} (x : Option A) (xs : List A) (y : A) → In y (cons_option x xs) → (x ≡ Some y) ⊎ In y xs
-in-cons None xs y h = inr h
-in-cons (Some x) xs y h = ⊎_elim (λ same. inl (ap Some same)) (λ later. inr later) h
+in-cons x xs y h = grind arith
 
 -- where an element passes, some does
 pub in-any : {A : Type 0} (p : A → Bool) (xs : List A) (x : A) → In x xs → p x ≡ true → list_any p xs ≡ true
@@ -55,5 +54,4 @@ in-contains [] x h = absurd (let none : h.0 < 0 = h.1 in omega arith)
 in-contains (y ∷ xs) x h = grind (arith, in-contains xs x)
 
 pub first-in : {A : Type 0} (xs : List A) (x : A) → first_of xs ≡ Some x → In x xs
-first-in [] x h = absurd cc
-first-in (y ∷ xs) x h = inl (let same : y ≡ x = cc in same)
+first-in xs x h = grind arith

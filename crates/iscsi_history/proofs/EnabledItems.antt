@@ -129,11 +129,7 @@ exact-left o item t out l regular x k =
     newly_is = newly_among o item t k regular
 
     bools : (was new left : Bool) → (left ≡ true → new ≡ false) → ((was || new) && not left) ≡ ((was && not left) || new)
-    bools true new true h = sym (h refl)
-    bools true new false h = refl
-    bools false true true h = absurd (false≢true (sym (h refl)))
-    bools false true false h = refl
-    bools false false left h = refl
+    bools was new left h = grind arith
 
     -- nothing that left before is new now
     unnew : has (leaves_ticket k) t ≡ true → is_among k (newly_enabled o t item) ≡ false

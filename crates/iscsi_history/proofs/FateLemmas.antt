@@ -121,8 +121,7 @@ executed_at n start a d = record { receives = (done_at n a d).receives; voided =
 
 -- a number that is voided wasn't received
 void_new : (t : Trace) (n : ℕ) (x : Option ℕ) → Each (λ k. is_received t k ≡ false) x → list_any (voids_number n) (if_some Voids x) ≡ true → is_received t n ≡ false
-void_new t n None new h = absurd (false≢true h)
-void_new t n (Some k) new h = ap (is_received t) (sym (eqb-true k n (sym (or_false (k == n)) ∙ h))) ∙ new
+void_new t n x new h = grind arith
 
 -- the request that is taken out at a number
 record TakenOut (n : ℕ) (bs : List Arrival) : Type 0 where
@@ -140,8 +139,7 @@ record HeldBefore (t : Trace) (n : ℕ) (start : Start) (a b : Arrival) : Type 0
   apart : delivered_at n start a ≡ false
 
 held_before : (t : Trace) (n : ℕ) (start : Start) (a b : Arrival) → held (begun start a t) n ≡ Some b → HeldBefore t n start a b
-held_before t n AtTurn a b h = grind arith
-held_before t n start a b h = record { before = sym (held-kept t n (Executes a ∷ []) refl refl refl) ∙ h; apart = refl }
+held_before t n start a b h = grind arith
 
 -- a request that is delivered was held
 delivered_held : (now : ℕ) (t : Trace) (n : ℕ) (start : Start) (a : Arrival) → Starts now t start a → delivered_at n start a ≡ true → held t n ≡ Some a
@@ -193,8 +191,4 @@ counted : (t : Trace) (n : ℕ) (r v e d : Bool) (h : Option Arrival) → Number
 counted t n r v e d h s is = grind arith
 
 pub one_fate : (t : Trace) (n : ℕ) → Fate t n → count_by (λ b. b) (fates_of t n) ≡ cond (is_received t n) 1 0
-one_fate t n (Unreceived s) = counted t n false false false false None s refl
-one_fate t n (Held a s) = counted t n true false false false (Some a) s refl
-one_fate t n (Voided s) = counted t n true true false false None s refl
-one_fate t n (Emptied s) = counted t n true false true false None s refl
-one_fate t n (Delivered s) = counted t n true false false true None s refl
+one_fate t n x2 = grind arith

@@ -76,13 +76,7 @@ of_units p u (c ∷ cs) =
         → count_by p (c ∷ filter (λ d. nat_le u d.unit) cs) ≡ cond (p c) 1 0 + count_by p (filter (λ d. nat_le u d.unit) cs)
         → count_by p (cond v (c ∷ filter (λ d. d.unit == u) cs) (filter (λ d. d.unit == u) cs)) + count_by p (cond w (c ∷ filter (λ d. nat_le (u + 1) d.unit) cs) (filter (λ d. nat_le (u + 1) d.unit) cs))
         ≡ count_by p (cond x (c ∷ filter (λ d. nat_le u d.unit) cs) (filter (λ d. nat_le u d.unit) cs))
-    by_tests true true x i j k rest a b d = absurd (let z : ⊥ = grind (arith, nat_tests) in z)
-    by_tests true false true i j k rest a b d = omega arith
-    by_tests true false false i j k rest a b d = absurd (let z : ⊥ = grind (arith, nat_tests) in z)
-    by_tests false true true i j k rest a b d = omega arith
-    by_tests false true false i j k rest a b d = absurd (let z : ⊥ = grind (arith, nat_tests) in z)
-    by_tests false false true i j k rest a b d = absurd (let z : ⊥ = grind (arith, nat_tests) in z)
-    by_tests false false false i j k rest a b d = rest
+    by_tests v w x i j k rest a b d = grind arith
 
 -- the commands of units are no more than all
 units_counted : (p : Command → Bool) (cs : List Command) (u n : ℕ) → count_by p (flat_map (λ v. filter (λ c. c.unit == v) cs) (range_with_len u n)) ≤ count_by p (filter (λ c. nat_le u c.unit) cs)
@@ -259,20 +253,10 @@ module _ (o : Setting) (t : Trace) (start : Start) (a : Arrival) where
 
   -- a reply has the request's tag, or its header
   reply_answers : (x : Answer) → Answers a.request (reply_of a.request x)
-  reply_answers (Reject reason) = refl
-  reply_answers Pong = refl
-  reply_answers NoUnit = refl
-  reply_answers Full = refl
-  reply_answers (Respond response) = refl
-  reply_answers (LogOut response) = refl
+  reply_answers x = grind arith
 
   completed_is : (x : Answer) → is_complete (itt a.request) (reply_of a.request x) ≡ true → x ≡ Respond 0
-  completed_is (Respond response) h = ap Respond (eqb-true response 0 (and_second (itt a.request == itt a.request) (response == 0) h))
-  completed_is (Reject reason) h = absurd (false≢true h)
-  completed_is Pong h = absurd (false≢true h)
-  completed_is NoUnit h = absurd (false≢true h)
-  completed_is Full h = absurd (false≢true h)
-  completed_is (LogOut response) h = absurd (false≢true h)
+  completed_is x h = grind arith
 
   abbrev DoesDeed : Deed → Type 0
   DoesDeed d = DoesWell o t start a d (deed_marks o t' a d)

@@ -210,8 +210,7 @@ abbrev pub AnyArrival : Trace → Arrival → Type 0
 AnyArrival t a = Unit {0}
 
 pub any_brought : (o : Setting) (now : ℕ) (t : Trace) (e : Event) → Brings AnyArrival o now t e
-any_brought o now t (Arrive conn header) = λ h. tt
-any_brought o now t (Done ticket status) = tt
+any_brought o now t e = grind arith
 
 HaveForms-on : (o : Setting) (p q : ℕ) (t : Trace) → p ≤ q → HaveForms o p t → HaveForms o q t
 HaveForms-on o p q [] on x = tt
@@ -219,9 +218,7 @@ HaveForms-on o p q (item ∷ t) on x = (x.0, ((let z : x.0 < q = omega (arith, x
 
 -- an item that has its turn begins no arrival
 turn_arrives_not : (form : Form) → is_turn form ≡ true → is_arrival form ≡ false
-turn_arrives_not (Executed AtTurn a d) h = refl
-turn_arrives_not (Executed AfterWaiting a d) h = refl
-turn_arrives_not form h = absurd (false≢true h)
+turn_arrives_not form h = grind arith
 
 -- one item more: the first of its event, or one that has its turn
 HaveForms-more : (o : Setting) (now : ℕ) (t : Trace) (item : List Mark) (f : HasForm o now t item) → HaveForms o (cond (is_arrival f.form) now (now + 1)) t → HaveForms o (now + 1) (item ∷ t)

@@ -19,16 +19,13 @@ use Rattle.iscsi_history.specs.rules.Execution.{exp_of}
 -- ---- who was admitted at a number
 
 pub first_of-append : {A : Type 0} (xs ys : List A) (x : A) → first_of (xs ++ ys) ≡ Some x → (first_of xs ≡ Some x) ⊎ (first_of ys ≡ Some x)
-first_of-append [] ys x h = inr h
-first_of-append (z ∷ xs) ys x h = inl h
+first_of-append xs ys x h = grind arith
 
 mark_number : (n : ℕ) (m : Mark) (a : Arrival) → admits_at n m ≡ Some a → a.number ≡ n
-mark_number n (Admits b) a h = grind arith
-mark_number n m a h = absurd cc
+mark_number n m a h = grind arith
 
 pub first_of-cons : {A : Type 0} (x : Option A) (xs : List A) (y : A) → first_of (cons_option x xs) ≡ Some y → (x ≡ Some y) ⊎ (first_of xs ≡ Some y)
-first_of-cons None xs y h = inr h
-first_of-cons (Some x) xs y h = inl h
+first_of-cons x xs y h = grind arith
 
 item_number : (n : ℕ) (item : List Mark) (a : Arrival) → first_of (filter_map (admits_at n) item) ≡ Some a → a.number ≡ n
 item_number n [] a h = absurd cc
@@ -113,9 +110,7 @@ held_before item t n h none found = grind arith
 -- ---- by what the window sees of a number
 
 pub some_held : (b : Bool) (x : Option Arrival) (r : Request) → cond b (Some (option_map (λ (a : Arrival). a.request) x)) None ≡ Some (Some r) → (b ≡ true) × ((a : Arrival) × ((x ≡ Some a) × (a.request ≡ r)))
-some_held true None r h = absurd (let z : Some None ≡ Some (Some r) = h in cc)
-some_held true (Some a) r h = (refl, (a, (refl, cc)))
-some_held false x r h = absurd cc
+some_held b x r h = grind arith
 
 -- ---- the held command that a function asks for
 

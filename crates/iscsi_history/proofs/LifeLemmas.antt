@@ -36,8 +36,7 @@ mine-none_counted k (c ∷ cs) h =
     by_test (c.ticket == k) all (mine-none_counted k cs)
   where
     by_test : (b : Bool) → count_by (λ c. c.ticket == k) (c ∷ cs) ≡ cond b 1 0 + count_by (λ c. c.ticket == k) cs → (count_by (λ c. c.ticket == k) cs ≤ 0 → mine k cs ≡ []) → cond b (c ∷ mine k cs) (mine k cs) ≡ []
-    by_test true all rest = absurd (let z : ⊥ = omega arith in z)
-    by_test false all rest = rest (omega arith)
+    by_test b all rest = grind arith
 
 pub count-mine : (p : Command → Bool) (k : ℕ) (cs : List Command) → count_by (λ c. c.ticket == k && p c) cs ≡ count_by p (mine k cs)
 count-mine p k [] = refl

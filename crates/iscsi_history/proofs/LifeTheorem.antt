@@ -132,10 +132,7 @@ module _ (o : Setting) (now : ℕ) (t : Trace) (next : ℕ) (x : HaveForms o nex
           ∙ ap (λ b. cond (not b) (g.command ∷ []) []) here
 
       by_tests : (a b : Bool) → going_on g.command b ++ map enable_effect (cond ((a || b) && not b) (g.command ∷ []) []) ≡ going_on g.command (a || b)
-      by_tests true true = refl
-      by_tests true false = refl
-      by_tests false true = refl
-      by_tests false false = refl
+      by_tests a b = grind arith
 
   -- it leaves, alone and from its own unit
   record LeavesAlone (c : Command) : Type 0 where
@@ -197,8 +194,7 @@ module _ (o : Setting) (now : ℕ) (t : Trace) (next : ℕ) (x : HaveForms o nex
           ∙ ap (λ b. cond (not b) (g.command ∷ []) []) leaves
 
       by_test : (b : Bool) → is_life (going_on g.command b ++ leave_effect l.leaver ∷ []) ≡ true
-      by_test true = ap (λ b. b && (l.leaver.unit == g.command.unit)) (eq-eqb g.command.unit g.command.unit refl) ∙ l.unit
-      by_test false = l.unit
+      by_test b = grind arith
 
   -- ---- a command that enters
 
@@ -247,10 +243,7 @@ module _ (o : Setting) (now : ℕ) (t : Trace) (next : ℕ) (x : HaveForms o nex
       unfree = never_free c t (beyond_entered o t next x c.ticket (omega (arith, e.next)))
 
       by_test : (a b : Bool) → b ≡ false → enter_effect c ∷ map enable_effect (cond ((a || b) && not b) (c ∷ []) []) ≡ going_on c (a || b)
-      by_test true true h = absurd (false≢true (sym h))
-      by_test false true h = absurd (false≢true (sym h))
-      by_test true false h = refl
-      by_test false false h = refl
+      by_test a b h = grind arith
 
   -- ---- any state
 
@@ -307,9 +300,7 @@ state_more o k (item ∷ t) next x =
 -- ---- the log
 
 state_life : (o : Setting) (t : Trace) (k : ℕ) → State o t k → is_life (life_of k (effects_so_far o t)) ≡ true
-state_life o t k (ToCome q) = ap is_life q.shown
-state_life o t k (Going g) = grind arith
-state_life o t k (Gone q) = q.shown
+state_life o t k x3 = grind arith
 
 -- the tickets that effects show as entering are those of the commands that entered
 tickets_of_marks : (o : Setting) (t : Trace) (ms : List Mark) → tickets_entered (flat_map (effects_of_mark o t) ms) ≡ map (λ (c : Command). c.ticket) (filter_map enters ms)

@@ -67,8 +67,7 @@ first_place p [] h = absurd (false≢true h)
 first_place p (x ∷ xs) h = grind (arith, first_place p xs)
 
 some_by : {A : Type 0} (b : Bool) (x : A) → b ≡ true → IsSome (cond b (Some x) None)
-some_by true x h = refl
-some_by false x h = absurd (false≢true h)
+some_by b x h = grind arith
 
 pub IsSome-position : {A : Type 0} (p : A → Bool) (xs : List A) → list_any p xs ≡ true → IsSome (position p xs)
 IsSome-position p xs h = grind (arith, nat_tests, first_place, some_by)
@@ -96,12 +95,10 @@ list_all-same p q (x ∷ xs) h = ap (λ b. b && list_all p xs) (h x) ∙ ap (λ 
 -- ---- options
 
 pub none_first : {A : Type 0} (x : Option A) → cons_option x [] ≡ [] → x ≡ None
-none_first None h = refl
-none_first (Some x) h = absurd cc
+none_first x h = grind arith
 
 pub is_none : {A : Type 0} (x : Option A) → is_some x ≡ false → x ≡ None
-is_none None h = refl
-is_none (Some a) h = absurd cc
+is_none x h = grind arith
 
 -- ---- maps and filters
 

@@ -1,5 +1,5 @@
 -- What the definitions mean, said once more in other words, holds of every trace.
-use Rattle.std.proofs.Common.{◌≡◌, ℕ, ◌==◌, ◌&&◌, ◌||◌, not, Bool, true, false, List, [], ◌∷◌, length, refl, ap, sym, ◌∙◌}
+use Rattle.std.proofs.Common.{arith, ◌≡◌, ℕ, ◌==◌, ◌&&◌, ◌||◌, not, Bool, true, false, List, [], ◌∷◌, length, refl, ap, sym, ◌∙◌}
 use Rattle.std.specs.List.{list_any, filter_map}
 use Rattle.std.proofs.lemmas.Bool.{false≢true, eqb-true}
 use Rattle.std.proofs.lemmas.List.Folds.{list_any-append}
@@ -23,15 +23,10 @@ live_among : (k : ℕ) (t : Trace) → is_among k (live t) ≡ (is_among k (ente
 live_among k t = any_filter (λ (c : Command). c.ticket == k) (λ (c : Command). not (has (leaves_ticket c.ticket) t)) (entered t) ∙ by_ticket (entered t)
   where
     same : (c : Command) → (v : Bool) → (c.ticket == k) ≡ v → (not (has (leaves_ticket c.ticket) t) && v) ≡ (v && not (has (leaves_ticket k) t))
-    same c true is = and_true (not (has (leaves_ticket c.ticket) t)) ∙ ap (λ j. not (has (leaves_ticket j) t)) (eqb-true c.ticket k is)
-    same c false is = and_false (not (has (leaves_ticket c.ticket) t))
+    same c v is = grind arith
 
     apart_or : (a b c : Bool) → ((a && c) || (b && c)) ≡ ((a || b) && c)
-    apart_or true true true = refl
-    apart_or true true false = refl
-    apart_or true false true = refl
-    apart_or true false false = refl
-    apart_or false b c = refl
+    apart_or a b c = grind arith
 
     by_ticket : (cs : List Command) → list_any (λ c. not (has (leaves_ticket c.ticket) t) && (c.ticket == k)) cs ≡ (is_among k cs && not (has (leaves_ticket k) t))
     by_ticket [] = refl
@@ -54,15 +49,10 @@ left_entered o k (item ∷ t) next x h =
     by_item false lives before h = before h
 
 entered_parted : (a l : Bool) → (l ≡ true → a ≡ true) → a ≡ ((a && not l) || l)
-entered_parted true true h = refl
-entered_parted true false h = refl
-entered_parted false true h = h refl
-entered_parted false false h = refl
+entered_parted a l h = grind arith
 
 live_apart : (a l : Bool) → ((a && not l) && l) ≡ false
-live_apart true true = refl
-live_apart true false = refl
-live_apart false l = refl
+live_apart a l = grind arith
 
 -- for every list of events
 pub means_what_it_says : (o : Setting) (h : List Event) → MeansWhatItSays o (trace_of o h)

@@ -74,8 +74,7 @@ log_effects o event t (e ∷ h) = grind (arith, nat_tests, log_effects o (event 
 -- ---- the rule
 
 or_cases : (a b : Bool) (P : Type 0) → (a ≡ true → P) → (b ≡ true → P) → (a || b) ≡ true → P
-or_cases true b P f g h = f refl
-or_cases false b P f g h = g h
+or_cases a b P f g h = grind arith
 
 moment_of : (c : Command) (t : Trace) → was_free c t ≡ true → FreeMoment c t
 moment_of c [] h = absurd (false≢true h)

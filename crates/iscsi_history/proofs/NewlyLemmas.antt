@@ -66,8 +66,7 @@ none_of_before item t unit more now =
     ∙ filter-none (λ (c : Command). false) (live_in unit t) (λ c. refl)
   where
     never : (b : Bool) → (b && not b) ≡ false
-    never true = refl
-    never false = refl
+    never b = grind arith
 
 pub new_in-more : (item : List Mark) (t : Trace) (unit : ℕ) (more : List Command) → live_in unit (item ∷ t) ≡ live_in unit t ++ more → new_in t item unit ≡ filter (λ c. was_free c (item ∷ t) && not (was_free c t)) more
 new_in-more item t unit more now =

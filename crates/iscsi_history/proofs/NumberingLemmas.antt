@@ -54,8 +54,7 @@ sender (Executed start a d) = option_map (λ reply. connection_of a.request) d.r
 sender _ = None
 
 pub unseen : {A B : Type 0} (view : Mark → Option B) (f : A → Mark) (x : Option A) → ((y : A) → view (f y) ≡ None) → filter_map view (if_some f x) ≡ []
-unseen view f None none = refl
-unseen view f (Some y) none = ap (λ z. cons_option z []) (none y)
+unseen view f x none = grind arith
 
 -- marks that show nothing
 pub passed : {B : Type 0} (view : Mark → Option B) (xs ys : List Mark) → filter_map view xs ≡ [] → filter_map view (xs ++ ys) ≡ filter_map view ys

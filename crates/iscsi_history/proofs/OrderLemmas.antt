@@ -96,8 +96,7 @@ rises_request e es here heard silent r = record {
 }
   where
     at_most : (b : Bool) → cond b 1 0 ≤ 1
-    at_most true = omega arith
-    at_most false = omega arith
+    at_most b = grind arith
 
     all_from : (xs : List Effect) → list_all (λ x. nat_le 0 (rank x)) xs ≡ true
     all_from [] = refl

@@ -38,10 +38,7 @@ none_below n (e ∷ es) h =
         and_both (nat_le n (rank x)) (list_all (λ y. nat_le n (rank y)) xs) (let z : nat_le n (rank x) ≡ true = grind (arith, nat_tests) in z) (more xs parts.1 low)
 
 unasked_rank : (e : Effect) → is_request e ≡ false → nat_le 1 (rank e) ≡ true
-unasked_rank (Deliver r) h = absurd (false≢true (sym h))
-unasked_rank (Immediate r) h = absurd (false≢true (sym h))
-unasked_rank (Wait r) h = absurd (false≢true (sym h))
-unasked_rank e h = refl
+unasked_rank e h = grind arith
 
 none_asked : (n : ℕ) (es : List Effect) → 1 ≤ n → list_all (λ e. nat_le n (rank e)) es ≡ true → Unasked es
 none_asked n [] low h = refl
@@ -54,8 +51,7 @@ none_counted (e ∷ es) h =
     by_test (is_request e) refl all (none_counted es)
   where
     by_test : (b : Bool) → is_request e ≡ b → count_by is_request (e ∷ es) ≡ cond b 1 0 + count_by is_request es → (count_by is_request es ≤ 0 → Unasked es) → Unasked (e ∷ es)
-    by_test true is all rest = absurd (let z : ⊥ = omega arith in z)
-    by_test false is all rest = ap (λ b. b || list_any is_request es) is ∙ rest (omega arith)
+    by_test b is all rest = grind arith
 
 -- after the first effect of an item there is no request
 unasked_later : (e : Effect) (es : List Effect) → IsInOrder (e ∷ es) → Unasked es

@@ -92,8 +92,7 @@ found_there p (x ∷ xs) k d h =
     ] (sym (position-cons p x xs) ∙ h)
   where
     later : (y : Option ℕ) → ((j : ℕ) → y ≡ Some j → find p xs ≡ Some (get_or xs j d)) → option_map suc y ≡ Some k → find p xs ≡ Some (get_or (x ∷ xs) k d)
-    later None found said = absurd cc
-    later (Some j) found said = let same : suc j ≡ k = cc in found j refl ∙ ap (λ i. Some (get_or (x ∷ xs) i d)) same
+    later y found said = grind arith
 
 pub found_nowhere : {A : Type 0} (p : A → Bool) (xs : List A) → position p xs ≡ None → find p xs ≡ None
 found_nowhere p [] h = refl

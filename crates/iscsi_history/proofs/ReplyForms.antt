@@ -58,8 +58,7 @@ among_in : (p : Command → Bool) (cs : List Command) → count_by (λ c. is_amo
 among_in p cs = all cs cs (λ c h. h)
   where
     same_tests : (b c : Bool) → b ≡ true → (b && c) ≡ c
-    same_tests true c h = refl
-    same_tests false c h = absurd (false≢true h)
+    same_tests b c h = grind arith
 
     all : (xs ds : List Command) → ((c : Command) → In c xs → In c ds) → count_by (λ c. is_among c.ticket ds && p c) xs ≡ count_by p xs
     all [] ds h = refl

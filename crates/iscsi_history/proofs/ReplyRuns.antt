@@ -25,15 +25,12 @@ done_once o t v start a d x = grind arith
 
 -- what enters executes
 entering_once : (o : Setting) (now v : ℕ) (t : Trace) (form : Form) → IsFormed o now t form → count_by (comes_of v) (to_list (entering_in form)) ≤ executes_of v form
-entering_once o now v t (Executed start a d) x = omega (arith, done_once o t v start a d x.1)
-entering_once o now v t form x = omega arith
+entering_once o now v t form x = grind arith
 
 -- what is answered executes, or leaves as it completes
 answered_once : (o : Setting) (now v : ℕ) (t : Trace) (form : Form) → IsFormed o now t form
     → answers_of v form + count_by (comes_of v) (to_list (entering_in form)) + count_by (comes_of v) (aborted_in form) ≤ executes_of v form + count_by (comes_of v) (leaving_in form)
-answered_once o now v t (Completed c status) x = omega (arith, count-cons (comes_of v) c [])
-answered_once o now v t (Executed start a d) x = omega (arith, done_once o t v start a d x.1)
-answered_once o now v t form x = omega arith
+answered_once o now v t form x = grind arith
 
 -- ---- the requests of an event
 
@@ -65,8 +62,7 @@ none_left [] h = refl
 none_left (x ∷ xs) h = absurd (omega arith)
 
 pub one_most : (b : Bool) → one b ≤ 1
-one_most true = omega arith
-one_most false = omega arith
+one_most b = grind arith
 
 -- at least one is below
 pub is_below : (v place : ℕ) → 1 ≤ one (nat_lt v place) → v < place
@@ -74,8 +70,7 @@ is_below v place h = grind (arith, nat_tests)
 
 -- the events before now, and this one
 pub begun_by : (now v next : ℕ) (b : Bool) → now < next → one (nat_lt v (cond b now (now + 1))) + cond b (one (now == v)) 0 ≤ one (nat_lt v next)
-begun_by now v next true lt = grind (arith, nat_tests)
-begun_by now v next false lt = grind (arith, nat_tests)
+begun_by now v next b lt = grind arith
 
 pub standing_once : (o : Setting) (v : ℕ) (t : Trace) (next : ℕ) → HaveForms o next t → standing v t ≤ one (nat_lt v next)
 standing_once o v [] next x = omega arith
@@ -90,12 +85,10 @@ becoming_once o v (item ∷ t) next x =
 -- ---- later items
 
 bounded : (b : Bool) (now next : ℕ) → now < next → cond b now (now + 1) ≤ next
-bounded true now next lt = omega arith
-bounded false now next lt = omega arith
+bounded b now next lt = grind arith
 
 not_begun : (b : Bool) (now v place : ℕ) → place ≤ cond b now (now + 1) → v < place → cond b (one (now == v)) 0 ≤ 0
-not_begun true now v place by lt = grind (arith, nat_tests)
-not_begun false now v place by lt = omega arith
+not_begun b now v place by lt = grind arith
 
 -- what stands before later items has forms, and nothing comes to stand for an event that has been
 pub record Since (o : Setting) (next : ℕ) (later t : Trace) : Type 0 where

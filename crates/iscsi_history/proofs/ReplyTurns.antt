@@ -50,8 +50,7 @@ held_owed : (t : Trace) (a : Arrival) → held t a.number ≡ Some a → is_owed
 held_owed t a h = grind arith
 
 not_either : (a b : Bool) → not (a || b) ≡ true → not b ≡ true
-not_either true b h = absurd (false≢true h)
-not_either false b h = h
+not_either a b h = grind arith
 
 -- what is owed was owed before
 owed_before : (item : List Mark) (t : Trace) (a : Arrival) → is_owed (item ∷ t) a ≡ true → is_owed t a ≡ true

@@ -61,8 +61,7 @@ life_of_mark k (Enters c) = cond (c.ticket == k) (Some (enter_effect c)) None
 life_of_mark k _ = None
 
 kept_effect : (b : Bool) (e : Effect) (xs ys : List Effect) → xs ≡ ys → cond b (e ∷ xs) xs ≡ cons_option (cond b (Some e) None) ys
-kept_effect true e xs ys same = ap (λ zs. e ∷ zs) same
-kept_effect false e xs ys same = same
+kept_effect b e xs ys same = grind arith
 
 life_of_marks : (o : Setting) (t : Trace) (k : ℕ) (ms : List Mark) → life_of k (flat_map (effects_of_mark o t) ms) ≡ filter_map (life_of_mark k) ms
 life_of_marks o t k [] = refl
@@ -124,5 +123,4 @@ pub record EntersNext (o : Setting) (t : Trace) (form : Form) (c : Command) : Ty
   pub stays : leaving_in form ≡ []
 
 pub entering_next : (o : Setting) (now : ℕ) (t : Trace) (form : Form) → IsFormed o now t form → Each (EntersNext o t form) (entering_in form)
-entering_next o now t (Executed start a d) x = grind arith
-entering_next o now t form x = tt
+entering_next o now t form x = grind arith

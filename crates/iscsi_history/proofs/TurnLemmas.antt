@@ -48,13 +48,11 @@ emptied_form o now n t form x h = absurd (false≢true h)
 
 -- nothing is delivered at a number that was emptied
 unturned_form : (o : Setting) (now n : ℕ) (t : Trace) (form : Form) → IsFormed o now t form → is_emptied t n ≡ true → delivers_in n form ≡ false
-unturned_form o now n t (Executed AtTurn a d) x gone = grind arith
-unturned_form o now n t form x gone = refl
+unturned_form o now n t form x gone = grind arith
 
 -- a request that executes delivers no number but its own
 pub delivers_own : (n : ℕ) (form : Form) (f : Arrival) → executed_in (marks_of_form form) ≡ Some f → (f.number == n) ≡ false → delivers_in n form ≡ false
-delivers_own n (Executed AtTurn a d) f is apart = let same : a ≡ f = cc in ap (λ (x : Arrival). x.number == n) same ∙ apart
-delivers_own n form f is apart = refl
+delivers_own n form f is apart = grind arith
 
 -- ---- all items
 
