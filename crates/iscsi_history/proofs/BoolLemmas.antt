@@ -1,6 +1,5 @@
 -- Tests joined by "and" and "or".
-use Rattle.std.proofs.Common.{arith, ◌≡◌, ◌&&◌, ◌||◌, not, Bool, true, false, refl, sym, ap, cond}
-use Rattle.std.proofs.lemmas.Bool.{false≢true}
+use Rattle.std.proofs.Common.{arith, ◌≡◌, ◌&&◌, ◌||◌, not, Bool, true, false, cond}
 
 pub and_parts : (a b : Bool) → (a && b) ≡ true → (a ≡ true) × (b ≡ true)
 and_parts a b h = grind arith

@@ -7,7 +7,7 @@ use Rattle.iscsi_wire.specs.Serial.{number_of_first}
 use Rattle.iscsi_wire.specs.Fields.{connection_of}
 use Rattle.iscsi_history.specs.declared.effect.Why.{Why}
 use Rattle.iscsi_history.specs.rules.Settings.{Setting}
-use Rattle.iscsi_history.specs.rules.Trace.{Arrival, Command, Mark, Delivers, Executes, Ignores, Trace, first_of, admits_at, delivers_number, empties_number, held, enters, entered, leaves_ticket, live, live_in, is_ended}
+use Rattle.iscsi_history.specs.rules.Trace.{Arrival, Command, Mark, Ignores, Trace, first_of, admits_at, delivers_number, empties_number, held, enters, entered, leaves_ticket, live, live_in, is_ended}
 use Rattle.iscsi_history.specs.rules.Execution.{exp_of, unfinished}
 use Rattle.iscsi_history.specs.rules.Logout.{is_open, live_of_units, all_held}
 use Rattle.iscsi_history.proofs.BoolLemmas.{or_first, or_second}
@@ -19,7 +19,7 @@ use Rattle.iscsi_history.proofs.FormItems.{live-begun}
 use Rattle.iscsi_history.proofs.FormRuns.{IsDue, StandsAt, Stands}
 use Rattle.iscsi_history.proofs.DeedLemmas.{each_is, begun_any, none_done, unended, unparted}
 use Rattle.iscsi_history.proofs.TouchLemmas.{EntersNext, entering_in, enters_form, entering_next, leaves_form}
-use Rattle.iscsi_history.proofs.FateLemmas.{executed_at, held-kept}
+use Rattle.iscsi_history.proofs.FateLemmas.{executed_at}
 use Rattle.iscsi_history.proofs.ReplyForms.{in_among}
 use Rattle.iscsi_history.proofs.CloseLemmas.{is_at, brings, ignores, closed_by, entered_brought, admitted_brought, Sound, Clear, open-item, open-unended, by_bool}
 

@@ -1,14 +1,13 @@
 -- In the trace of a list of events that come on the session's connections each item is sound.
-use Rattle.std.proofs.Common.{arith, ◌≡◌, ℕ, ◌+◌, not, true, List, [], ◌∷◌, ap}
+use Rattle.std.proofs.Common.{arith, ◌≡◌, ℕ, ◌+◌, true, List, [], ◌∷◌}
 use Rattle.std.proofs.lemmas.Bool.Decides.{nat_tests}
 use Rattle.std.specs.List.{list_all}
 use Rattle.iscsi_history.specs.declared.event.Event.{Event}
-use Rattle.iscsi_history.specs.declared.event.Event.TheVariants.{Arrive, Done}
-use Rattle.iscsi_history.specs.rules.Settings.{Setting, is_known}
-use Rattle.iscsi_history.specs.rules.Trace.{Mark, Trace, after_items, is_closed}
+use Rattle.iscsi_history.specs.rules.Settings.{Setting}
+use Rattle.iscsi_history.specs.rules.Trace.{Mark, Trace, after_items}
 use Rattle.iscsi_history.specs.rules.Agenda.{belongs, items_of}
 use Rattle.iscsi_history.specs.rules.Run.{after_event, after_events, trace_of}
-use Rattle.iscsi_history.proofs.BoolLemmas.{and_parts, and_both}
+use Rattle.iscsi_history.proofs.BoolLemmas.{and_parts}
 use Rattle.iscsi_history.proofs.FormRuns.{Brings, Turns, TurnsOf, event_stands}
 use Rattle.iscsi_history.proofs.CloseLemmas.{Sound, Clear, clear-none, clear-item}
 use Rattle.iscsi_history.proofs.CloseItems.{OnOpen, item_sound}

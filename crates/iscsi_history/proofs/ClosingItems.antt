@@ -10,7 +10,6 @@ use Rattle.iscsi_history.specs.rules.Run.{effects_of_mark}
 use Rattle.iscsi_history.proofs.BoolLemmas.{or_false}
 use Rattle.iscsi_history.proofs.NewlyLemmas.{Untouched}
 use Rattle.iscsi_history.proofs.DeliveryLemmas.{IsQuiet}
-use Rattle.std.proofs.lemmas.Bool.{false≢true}
 
 pub record ClosesNone (item : List Mark) : Type 0 where
   pub session : list_any closes_session item ≡ false

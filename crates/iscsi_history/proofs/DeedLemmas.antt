@@ -11,7 +11,7 @@ use Rattle.iscsi_history.specs.rules.Trace.{Arrival, Command, Mark, Delivers, Ex
 use Rattle.iscsi_history.proofs.BoolLemmas.{or_first, or_second, or_false}
 use Rattle.iscsi_history.proofs.ElementLemmas.{In}
 use Rattle.iscsi_history.proofs.ListLemmas.{list_any-map}
-use Rattle.iscsi_history.proofs.Forms.{Start, AtTurn, start_mark, Deeds, if_some, marks_done, Each, is_closing}
+use Rattle.iscsi_history.proofs.Forms.{Start, start_mark, Deeds, if_some, marks_done, Each, is_closing}
 
 pub each_is : {A : Type 0} (P : A → Type 0) (x : Option A) (y : A) → Each P x → x ≡ Some y → P y
 each_is P x y h is = grind arith

@@ -1,6 +1,6 @@
 -- What is found where a request does what the table says, and what holds of each deed of it.
-use Rattle.std.proofs.Common.{◌≡◌, ℕ, ◌<◌, ◌==◌, ◌||◌, Bool, true, false, Some, None, ap, sym, subst, ◌∙◌, arith}
-use Rattle.std.proofs.lemmas.Bool.{false≢true, eqb-true}
+use Rattle.std.proofs.Common.{◌≡◌, ℕ, ◌<◌, ◌==◌, ◌||◌, Bool, true, false, Some, None, ap, subst, ◌∙◌, arith}
+use Rattle.std.proofs.lemmas.Bool.{eqb-true}
 use Rattle.std.proofs.lemmas.Bool.Decides.{nat_tests}
 use Rattle.iscsi_wire.specs.declared.request.Request.{Request}
 use Rattle.iscsi_wire.specs.Fields.{function, cid}
@@ -10,7 +10,7 @@ use Rattle.iscsi_history.specs.declared.deed.Deed.{Deed}
 use Rattle.iscsi_history.specs.declared.deed.Deed.TheVariants.{Nothing, Wait, Reply as Replies, Enter, Void, Empty, Abort, AbortEarlier, AbortAll, CloseConn, CloseSession}
 use Rattle.iscsi_history.specs.rules.Execution.{unit_named}
 use Rattle.iscsi_history.specs.rules.Management.{refusal}
-use Rattle.iscsi_history.specs.rules.Deeds.{Facts, command_deed, abort_deed, query_deed, function_deed, deed_of}
+use Rattle.iscsi_history.specs.rules.Deeds.{Facts, function_deed, deed_of}
 use Rattle.iscsi_history.specs.promises.Aborts.{is_set_abort}
 
 -- the unit that a request names is one of the session's
@@ -47,7 +47,6 @@ is_parting (LogOut response) = true
 is_parting _ = false
 
 module _ (f : Facts) (r : Request) where
-
   pub befits_function : Befits f r (function_deed f r)
   befits_function = grind (arith, nat_tests)
 

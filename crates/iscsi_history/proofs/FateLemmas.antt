@@ -3,9 +3,8 @@ use Rattle.std.proofs.Common.{arith, ◌≡◌, ℕ, ◌==◌, ◌||◌, cond, B
 use Rattle.std.proofs.lemmas.Bool.Decides.{nat_tests}
 use Rattle.std.specs.List.{list_any, filter_map, cons_option}
 use Rattle.std.proofs.lemmas.Bool.{false≢true, eqb-true}
-use Rattle.std.proofs.lemmas.List.{append-nil}
 use Rattle.iscsi_history.specs.rules.Settings.{Setting}
-use Rattle.iscsi_history.specs.rules.Trace.{Arrival, Mark, Admits, Executes, Voids, Trace, has, shown, first_of, number_received, contains, is_received, admits_at, admitted, delivers_number, is_delivered, empties_number, is_emptied, held}
+use Rattle.iscsi_history.specs.rules.Trace.{Arrival, Mark, Admits, Voids, Trace, has, first_of, number_received, contains, is_received, admits_at, admitted, delivers_number, is_delivered, empties_number, is_emptied, held}
 use Rattle.iscsi_history.specs.promises.Meaning.{voids_number, fates_of}
 use Rattle.iscsi_history.proofs.BoolLemmas.{or_false}
 use Rattle.iscsi_history.proofs.ElementLemmas.{In}
@@ -185,10 +184,6 @@ fate o n [] next x = Unreceived (record { received = refl; voided = refl; emptie
 fate o n (item ∷ t) next x =
     let f : HasForm o x.0 t item = x.1.1.0 in
     next_fate t n item (fate o n t _ x.1.1.1) (subst (Touch t n) (sym f.is) (touch_form o x.0 t n f.form f.formed))
-
--- counted: one fate of a received number, none of any other
-counted : (t : Trace) (n : ℕ) (r v e d : Bool) (h : Option Arrival) → NumberIs t n r v e d h → count_by (λ b. b) (is_some h ∷ v ∷ e ∷ d ∷ []) ≡ cond r 1 0 → count_by (λ b. b) (fates_of t n) ≡ cond (is_received t n) 1 0
-counted t n r v e d h s is = grind arith
 
 pub one_fate : (t : Trace) (n : ℕ) → Fate t n → count_by (λ b. b) (fates_of t n) ≡ cond (is_received t n) 1 0
 one_fate t n x2 = grind arith

@@ -1,5 +1,5 @@
 -- Items one after the other: their effects, the agenda in two halves, and ExpCmdSN, which doesn't go back.
-use Rattle.std.proofs.Common.{◌++◌, List, [], ap, append_assoc, refl, sym, ◌∙◌, ◌∷◌, ◌≡◌, length, ◌+◌, suc, zero, ℕ, ◌-◌, ◌<◌, arith, ◌==◌, inl, inr, true, ◌≤◌, ⊎_elim, ◌⊎◌}
+use Rattle.std.proofs.Common.{◌++◌, List, [], ap, append_assoc, refl, sym, ◌∙◌, ◌∷◌, ◌≡◌, length, ◌+◌, suc, zero, ℕ, ◌-◌, ◌<◌, arith, inl, inr, true, ◌≤◌, ⊎_elim, ◌⊎◌}
 use Rattle.std.proofs.lemmas.Bool.Decides.{nat_tests}
 use Rattle.std.specs.List.{list_all}
 use Rattle.std.proofs.lemmas.List.{append-nil}
@@ -35,8 +35,7 @@ turns o n zero t = []
 turns o n (suc more) t = let now = turn_at o n t in now ++ agenda o (n + 1) more (after_items now t)
 
 pub agenda-halves : (o : Setting) (n m : ℕ) (t : Trace) → agenda o n m t ≡ functions_at o n t ++ turns o n m (after_items (functions_at o n t) t)
-agenda-halves o n zero t = sym (append-nil (functions_at o n t))
-agenda-halves o n (suc m) t = grind (arith, nat_tests, append_assoc, after_items-append)
+agenda-halves o n m t = grind (arith, nat_tests, append-nil, append_assoc, after_items-append)
 
 pub turns-more : (o : Setting) (e f : ℕ) (t : Trace) → e < f → turns o e (f - e) t ≡ turn_at o e t ++ agenda o (e + 1) (f - (e + 1)) (after_items (turn_at o e t) t)
 turns-more o e f t past = ap (λ n. turns o e n t) (let z : f - e ≡ suc (f - (e + 1)) = omega arith in z)
@@ -44,8 +43,7 @@ turns-more o e f t past = ap (λ n. turns o e n t) (let z : f - e ≡ suc (f - (
 -- ---- ExpCmdSN doesn't go back
 
 still_received : (ns ns' : List ℕ) (n : ℕ) → HasOneMore ns ns' → contains ns n ≡ true → contains ns' n ≡ true
-still_received ns ns' n (inl same) there = ap (λ ms. contains ms n) same ∙ there
-still_received ns ns' n (inr more) there = ap (λ ms. contains ms n) more.1 ∙ list_any-append (λ k. k == n) ns (more.0 ∷ []) ∙ or_first (contains ns n) (contains (more.0 ∷ []) n) there
+still_received ns ns' n x3 there = grind (arith, nat_tests, list_any-append, or_first)
 
 pub exp_stays : (o : Setting) (t t' : Trace) → HasOneMore (received t) (received t') → exp_of o t ≤ exp_of o t'
 exp_stays o t t' more =

@@ -1,7 +1,7 @@
 -- Each item has a form: what a request does that executes.
-use Rattle.std.proofs.Common.{◌≡◌, ℕ, zero, suc, ◌+◌, ◌<◌, ◌≤◌, ◌==◌, ◌&&◌, ◌||◌, not, ⊎_elim, cond, Bool, true, false, List, [], ◌∷◌, ◌++◌, length, filter, count_by, Option, Some, None, option_map, refl, ap, sym, subst, ◌∙◌, arith, nat_lt, nat_le, append_assoc, eq-eqb}
+use Rattle.std.proofs.Common.{◌≡◌, ℕ, zero, suc, ◌+◌, ◌<◌, ◌≤◌, ◌==◌, ◌&&◌, ◌||◌, not, ⊎_elim, cond, Bool, true, false, List, [], ◌∷◌, ◌++◌, length, filter, count_by, Option, Some, None, refl, ap, sym, subst, ◌∙◌, arith, nat_lt, nat_le, append_assoc, eq-eqb}
 use Rattle.std.specs.List.{list_all, flat_map, range_with_len}
-use Rattle.std.proofs.lemmas.Bool.{false≢true, eqb-true}
+use Rattle.std.proofs.lemmas.Bool.{false≢true}
 use Rattle.std.proofs.lemmas.Bool.Decides.{nat_tests}
 use Rattle.std.proofs.lemmas.List.{append-nil}
 use Rattle.std.proofs.lemmas.List.Sums.{sum_by-cons, sum_by-append}
@@ -9,40 +9,37 @@ use Rattle.iscsi_wire.specs.declared.reply.Reply.{Reply}
 use Rattle.iscsi_wire.specs.declared.request.Request.{Request}
 use Rattle.iscsi_wire.specs.declared.reply.Reply.TheVariants.{Task, Logout}
 use Rattle.iscsi_wire.specs.Serial.{lift}
-use Rattle.iscsi_wire.specs.Fields.{attr_code, connection_of, is_immediate, opcode, function, itt, rtt, ref_cmd_sn}
+use Rattle.iscsi_wire.specs.Fields.{attr_code, connection_of, is_immediate, function, itt, rtt, ref_cmd_sn}
 use Rattle.iscsi_history.specs.declared.deed.Answer.{Answer}
-use Rattle.iscsi_history.specs.declared.deed.Answer.TheVariants.{Reject, Pong, NoUnit, Full, Respond, LogOut}
+use Rattle.iscsi_history.specs.declared.deed.Answer.TheVariants.{Respond}
 use Rattle.iscsi_history.specs.declared.deed.Deed.{Deed}
 use Rattle.iscsi_history.specs.declared.deed.Deed.TheVariants.{Nothing, Wait, Reply as Replies, Enter, Void, Empty, Abort, AbortEarlier, AbortAll, CloseConn, CloseSession}
 use Rattle.iscsi_history.specs.rules.Settings.{Setting, is_known}
-use Rattle.iscsi_history.specs.rules.Trace.{Arrival, Command, Mark, Delivers, Executes, Voids, Empties, Leaves, Enters, Trace, first_of, received, is_received, held, held_among, entered, live, live_in, is_closed}
+use Rattle.iscsi_history.specs.rules.Trace.{Arrival, Command, Mark, Voids, Empties, Leaves, Enters, Trace, first_of, received, is_received, held, held_among, entered, live, live_in, is_closed}
 use Rattle.iscsi_history.specs.rules.Execution.{attr_of, exp_of, max_of, unit_named, reply_on, next_command, reply_of}
 use Rattle.iscsi_history.specs.rules.Management.{refusal_of_function, answer, held_requests, held_command, live_with_tag, is_before, abort_all, refusal}
 use Rattle.iscsi_history.specs.rules.Logout.{is_open, is_last_open, live_of_units, all_held, end_session, close_conn}
 use Rattle.iscsi_history.specs.rules.Deeds.{Facts, function_deed, deed_of, facts_of, if_found, deed_marks, marks_after, function_marks}
 use Rattle.iscsi_history.specs.promises.Aborts.{is_set_abort, is_abort, is_complete}
 use Rattle.iscsi_history.specs.promises.Answers.{Answers}
-use Rattle.iscsi_history.proofs.BoolLemmas.{and_first, and_second, and_parts, not_true, or_false}
+use Rattle.iscsi_history.proofs.BoolLemmas.{and_first, and_parts, not_true, or_false}
 use Rattle.iscsi_history.proofs.ListLemmas.{fewer_counted}
 use Rattle.iscsi_history.proofs.ElementLemmas.{In, in-filter, first-in}
 use Rattle.iscsi_history.proofs.TraceLemmas.{live-quiet}
 use Rattle.iscsi_history.proofs.HeldLemmas.{held-number}
 use Rattle.iscsi_history.proofs.DeedTable.{named_below, Befits, unset, befits_function, befits_deed, refused_otherwise, through_function}
-use Rattle.iscsi_history.proofs.Forms.{Start, AtTurn, Deeds, idle, marks_done, begun, Each, is_closing, is_completed_by, Sweeps, IsDone}
+use Rattle.iscsi_history.proofs.Forms.{Start, Deeds, idle, marks_done, begun, Each, is_closing, is_completed_by, Sweeps, IsDone}
 
 -- ---- the mark by which a request executes changes nothing else
 
 pub live-begun : (start : Start) (a : Arrival) (t : Trace) → live (begun start a t) ≡ live t
-live-begun AtTurn a t = live-quiet (Delivers a ∷ []) t refl (λ k. refl)
-live-begun start a t = live-quiet (Executes a ∷ []) t refl (λ k. refl)
+live-begun start a t = grind (arith, nat_tests, live-quiet)
 
 entered-begun : (start : Start) (a : Arrival) (t : Trace) → entered (begun start a t) ≡ entered t
-entered-begun AtTurn a t = append-nil (entered t)
-entered-begun start a t = append-nil (entered t)
+entered-begun start a t = grind (arith, nat_tests, append-nil)
 
 received-begun : (start : Start) (a : Arrival) (t : Trace) → received (begun start a t) ≡ received t
-received-begun AtTurn a t = append-nil (received t)
-received-begun start a t = append-nil (received t)
+received-begun start a t = grind (arith, nat_tests, append-nil)
 
 -- ---- what is counted of a part
 
@@ -364,11 +361,7 @@ module _ (o : Setting) (t : Trace) (start : Start) (a : Arrival) where
     where
       -- a function that is completed isn't refused
       unrefused : (x : DoesDeed (deed_of (facts_of o t' a) a.request)) → is_abort a.request ≡ true → is_completed_by a x.does.deeds ≡ true → (y : Option Answer) → refusal o.level (unit_named o.units a.request) a.request ≡ y → refusal_of_function o a.request ≡ None
-      unrefused x aborts h None is = ap (option_map (reply_of a.request)) is
-      unrefused x aborts h (Some y) is =
-          let one : (opcode a.request == 0x02) ≡ true = and_first (opcode a.request == 0x02) (function a.request == 1 || is_set_abort a.request) aborts in
-          let refused : deed_of (facts_of o t' a) a.request ≡ Replies y = rw (one, is) in
-          absurd (refused_otherwise (facts_of o t' a) a.request y is (x.accepted y refused h))
+      unrefused x aborts h x3 is = grind (arith, nat_tests, and_first, t', refused_otherwise)
 
   pub does_after : Does o t start a (marks_after o (begun start a t) a)
   does_after = any_does.does

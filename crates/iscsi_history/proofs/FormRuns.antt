@@ -234,12 +234,7 @@ pub event_going : (o : Setting) (now : ℕ) (t : Trace) (e : Event) → HaveForm
 event_going o now t e x = by_items (items_of o now t e) (event_stands AnyArrival o now t e (any_brought o now t e))
   where
     by_items : (items : List (List Mark)) → TurnsOf AnyArrival o now t items → HaveForms o (now + 1) (after_items items t)
-    by_items [] s = absurd s
-    by_items (item ∷ items) s = turns_going o now _ _ (item ∷ t) items s.1 (HaveForms-more o now t item s.0.has (by_arrival (is_arrival s.0.has.form)))
-      where
-        by_arrival : (b : Bool) → HaveForms o (cond b now (now + 1)) t
-        by_arrival true = x
-        by_arrival false = HaveForms-on o now (now + 1) t (omega arith) x
+    by_items items s = grind (arith, nat_tests, turns_going, HaveForms-more, is_arrival, HaveForms, HaveForms-on)
 
 events_have_forms : (o : Setting) (now : ℕ) (t : Trace) (h : List Event) → HaveForms o now t → HaveForms o (now + length h) (after_events o now t h)
 events_have_forms o now t [] x = HaveForms-on o now (now + 0) t (omega arith) x

@@ -59,11 +59,7 @@ tickets_count o (item ∷ t) next x =
   where
     one_more : (y : Option Command) → filter_map enters item ≡ to_list y → Each (EntersNext o t x.1.1.0.form) y → map (λ (c : Command). c.ticket) (entered t) ≡ range_with_len 1 (length (entered t))
         → map (λ (c : Command). c.ticket) (entered t ++ filter_map enters item) ≡ range_with_len 1 (length (entered t ++ filter_map enters item))
-    one_more None is e before =
-        ap (λ cs. map (λ (c : Command). c.ticket) (entered t ++ cs)) is
-        ∙ ap (map (λ (c : Command). c.ticket)) (append-nil (entered t)) ∙ before
-        ∙ ap (λ cs. range_with_len 1 (length cs)) (sym (append-nil (entered t)))
-        ∙ ap (λ cs. range_with_len 1 (length (entered t ++ cs))) (sym is)
+    one_more None is e before = grind (arith, nat_tests, append-nil)
     one_more (Some c) is e before =
         ap (λ cs. map (λ (d : Command). d.ticket) (entered t ++ cs)) is
         ∙ map-append (λ (d : Command). d.ticket) (entered t) (c ∷ [])

@@ -1,7 +1,7 @@
 -- What a log shows of each ticket is a life.
 use Rattle.std.proofs.Common.{◌≡◌, ℕ, ◌+◌, ◌<◌, ◌≤◌, ◌==◌, ◌&&◌, ◌||◌, ◌⊎◌, inl, inr, not, ⊎_elim, cond, Bool, true, false, List, [], ◌∷◌, ◌++◌, map, filter, length, count_by, Option, Some, None, refl, ap, sym, subst, ◌∙◌, arith, eq-eqb, length-append}
 use Rattle.std.specs.List.{list_any, filter_map, flat_map, range_with_len}
-use Rattle.std.proofs.lemmas.Bool.{false≢true, eqb-true}
+use Rattle.std.proofs.lemmas.Bool.{eqb-true}
 use Rattle.std.proofs.lemmas.Bool.Decides.{nat_tests}
 use Rattle.std.proofs.lemmas.List.{append-nil, length-map, map-append}
 use Rattle.std.proofs.lemmas.List.Elements.{filter-append, filter_map-append}
@@ -185,8 +185,7 @@ module _ (o : Setting) (now : ℕ) (t : Trace) (next : ℕ) (x : HaveForms o nex
           ∙ leaves_form k form ∙ among (is_among k (leaving_in form)) refl
         where
           among : (b : Bool) → is_among k (leaving_in form) ≡ b → is_among k (leaving_in form) ≡ true
-          among true h = h
-          among false h = absurd (let z : mine k (leaving_in form) ≡ [] = mine-none k (leaving_in form) h in let y : l.leaver ∷ [] ≡ [] = sym l.only ∙ z in cc)
+          among b h = grind (arith, nat_tests, mine, leaving_in, mine-none)
 
       over : mine k (live (marks_of_form form ∷ t)) ≡ []
       over =
@@ -266,12 +265,7 @@ module _ (o : Setting) (now : ℕ) (t : Trace) (next : ℕ) (x : HaveForms o nex
               by_leaving : (cs : List Command) → mine k (leaving_in form) ≡ cs → State o (marks_of_form form ∷ t) k
               by_leaving [] h = Going (going_stays g none h (omega (arith, long, more)))
               by_leaving (d ∷ ds) h = Gone (going_leaves g none (leaves_alone g d ds h) (omega (arith, long, more)))
-          by_state (Gone q) = Gone (record {
-            some = q.some;
-            past = omega (arith, q.past, long, more);
-            unlive = unlive_after q.unlive none;
-            shown = ap is_life (unlive_shown q.unlive none) ∙ q.shown;
-          })
+          by_state (Gone q) = grind (arith, nat_tests, unlive_after, unlive_shown)
 
       by_entering : (y : Option Command) → entering_in form ≡ y → Each (EntersNext o t form) y → State o (marks_of_form form ∷ t) k
       by_entering None is e =

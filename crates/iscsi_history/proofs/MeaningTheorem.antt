@@ -1,7 +1,8 @@
 -- What the definitions mean, said once more in other words, holds of every trace.
 use Rattle.std.proofs.Common.{arith, ◌≡◌, ℕ, ◌==◌, ◌&&◌, ◌||◌, not, Bool, true, false, List, [], ◌∷◌, length, refl, ap, sym, ◌∙◌}
+use Rattle.std.proofs.lemmas.Bool.Decides.{nat_tests}
 use Rattle.std.specs.List.{list_any, filter_map}
-use Rattle.std.proofs.lemmas.Bool.{false≢true, eqb-true}
+use Rattle.std.proofs.lemmas.Bool.{false≢true}
 use Rattle.std.proofs.lemmas.List.Folds.{list_any-append}
 use Rattle.iscsi_history.specs.declared.event.Event.{Event}
 use Rattle.iscsi_history.specs.rules.Settings.{Setting}
@@ -9,7 +10,7 @@ use Rattle.iscsi_history.specs.rules.Trace.{Command, Trace, has, enters, entered
 use Rattle.iscsi_history.specs.rules.Run.{trace_of}
 use Rattle.iscsi_history.specs.promises.Meaning.{MeansWhatItSays}
 use Rattle.iscsi_history.proofs.ListLemmas.{any_filter}
-use Rattle.iscsi_history.proofs.BoolLemmas.{or_first, and_first, and_true, and_false}
+use Rattle.iscsi_history.proofs.BoolLemmas.{or_first, and_first}
 use Rattle.iscsi_history.proofs.Missing.{expected_low, expected_gone, expected_below}
 use Rattle.iscsi_history.proofs.Forms.{HasForm, HaveForms}
 use Rattle.iscsi_history.proofs.FormRuns.{trace_has_forms}
@@ -45,8 +46,7 @@ left_entered o k (item ∷ t) next x h =
     (by_item (list_any (leaves_ticket k) item) (λ here. leaving_live o x.0 t f.form f.formed k (sym (ap (list_any (leaves_ticket k)) f.is) ∙ here)) (left_entered o k t _ x.1.1.1) h)
   where
     by_item : (v : Bool) → (v ≡ true → is_among k (live t) ≡ true) → (has (leaves_ticket k) t ≡ true → is_among k (entered t) ≡ true) → (v || has (leaves_ticket k) t) ≡ true → is_among k (entered t) ≡ true
-    by_item true lives before h = and_first (is_among k (entered t)) (not (has (leaves_ticket k) t)) (sym (live_among k t) ∙ lives refl)
-    by_item false lives before h = before h
+    by_item v lives before h = grind (arith, nat_tests, and_first, live_among)
 
 entered_parted : (a l : Bool) → (l ≡ true → a ≡ true) → a ≡ ((a && not l) || l)
 entered_parted a l h = grind arith

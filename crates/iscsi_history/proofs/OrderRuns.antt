@@ -1,11 +1,10 @@
 -- In the log of a list of events the effects of each item stand in order.
-use Rattle.std.proofs.Common.{◌≡◌, ℕ, ◌+◌, ◌≤◌, ◌||◌, cond, Bool, true, false, List, [], ◌∷◌, ◌++◌, map, count_by, refl, ap, sym, subst, ◌∙◌, arith, nat_le}
+use Rattle.std.proofs.Common.{◌≡◌, ℕ, ◌+◌, ◌≤◌, ◌||◌, cond, Bool, true, false, List, [], ◌∷◌, ◌++◌, map, count_by, refl, ap, sym, subst, arith, nat_le}
 use Rattle.std.specs.List.{list_any, list_all}
 use Rattle.std.proofs.lemmas.Bool.{false≢true}
 use Rattle.std.proofs.lemmas.Bool.Decides.{nat_tests}
 use Rattle.std.proofs.lemmas.List.Sums.{sum_by-cons}
 use Rattle.iscsi_history.specs.declared.effect.Effect.{Effect}
-use Rattle.iscsi_history.specs.declared.effect.Effect.TheVariants.{Deliver, Immediate, Wait}
 use Rattle.iscsi_history.specs.declared.event.Event.{Event}
 use Rattle.iscsi_history.specs.rules.Settings.{Setting}
 use Rattle.iscsi_history.specs.rules.Trace.{Mark, Trace}
@@ -60,8 +59,7 @@ unasked_later e es x =
     by_test (is_request e) refl all
   where
     by_test : (b : Bool) → is_request e ≡ b → count_by is_request (e ∷ es) ≡ cond b 1 0 + count_by is_request es → Unasked es
-    by_test true is all = none_counted es (omega (arith, x.one_request))
-    by_test false is all = none_asked (rank e) es (let low : nat_le 1 (rank e) ≡ true = unasked_rank e is in let z : 1 ≤ rank e = grind (arith, nat_tests) in z) (none_below (rank e) es x.kinds)
+    by_test b is all = grind (arith, nat_tests, none_counted, none_asked, unasked_rank, none_below)
 
 -- effects that begin with a request, or none
 record IsFresh (es : List Effect) : Type 0 where
@@ -116,8 +114,7 @@ module _ (o : Setting) (now : ℕ) where
   event_in_order t e = by_items (items_of o now t e) (event_stands AnyArrival o now t e (any_brought o now t e))
     where
       by_items : (items : List (List Mark)) → TurnsOf AnyArrival o now t items → AreInOrder (in_parts (effects_of o t items))
-      by_items [] s = absurd s
-      by_items (item ∷ items) s = item_first _ _ t item items s.0.has s.1 (turns_in_order _ _ (item ∷ t) items s.1)
+      by_items items s = grind (arith, nat_tests, item_first, turns_in_order)
 
 -- ---- the entries of a log
 

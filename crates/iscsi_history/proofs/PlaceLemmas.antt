@@ -43,9 +43,7 @@ padded (x ∷ xs) zero = refl
 padded (x ∷ xs) (suc k) = padded xs k
 
 pub passed_at : (xs : List ℕ) (k : ℕ) → get_or (passed_on xs) k 0 ≡ get_or xs (suc k) 0
-passed_at [] zero = refl
-passed_at [] (suc k) = refl
-passed_at (x ∷ xs) k = padded xs k
+passed_at xs k = grind (arith, nat_tests, padded)
 
 -- ---- the first ones
 

@@ -1,5 +1,5 @@
 -- Which numbers an event and its items receive: none, or one.
-use Rattle.std.proofs.Common.{arith, Bool, List, ℕ, [], ◌∷◌, ◌≡◌, ◌⊎◌, ◌++◌, refl, ◌&&◌, cond, false, inl, inr, true, ap, None, Some, ◌==◌, ◌∙◌, sym, subst, ◌||◌}
+use Rattle.std.proofs.Common.{arith, Bool, List, ℕ, [], ◌∷◌, ◌≡◌, ◌⊎◌, ◌++◌, refl, ◌&&◌, cond, false, inl, true, ap, None, Some, ◌==◌, ◌∙◌, sym, subst, ◌||◌}
 use Rattle.std.proofs.lemmas.Bool.Decides.{nat_tests}
 use Rattle.std.specs.List.{filter_map, list_all}
 use Rattle.std.proofs.lemmas.Bool.{false≢true}
@@ -16,7 +16,7 @@ use Rattle.iscsi_history.specs.declared.kind.Kind.TheVariants.{PassedOver, Unkno
 use Rattle.iscsi_history.specs.rules.Agenda.{arrival_as, arrival_open, kind_of, arrival_of, numbered}
 use Rattle.iscsi_history.specs.declared.effect.Why.{Why}
 use Rattle.iscsi_history.proofs.BoolLemmas.{and_false, and_parts}
-use Rattle.iscsi_history.proofs.Forms.{Start, AtTurn, AtArrival, AfterWaiting, start_mark, Deeds, if_some, marks_done, Form, Received, Executed, marks_of_form, Each}
+use Rattle.iscsi_history.proofs.Forms.{Start, AtTurn, AtArrival, AfterWaiting, start_mark, Deeds, if_some, marks_done, Form, marks_of_form, Each}
 use Rattle.iscsi_history.proofs.FormItems.{Does, does_function, does_after}
 use Rattle.iscsi_history.proofs.FormRuns.{AnyArrival, immediate_stands}
 use Rattle.iscsi_history.proofs.DeedLemmas.{views}
@@ -46,9 +46,7 @@ receives_none : (o : Setting) (t : Trace) (start : Start) (a : Arrival) (ms : Li
 receives_none o t start a ms d other = grind (arith, nat_tests, start_mark, executed_receives, Each, if_some, false≢true)
 
 one_received : (form : Form) → AtMostOne (received_by (marks_of_form form))
-one_received (Received a) = inr (a.number, refl)
-one_received (Executed start a d) = subst AtMostOne (sym (executed_receives start a d)) (elim d.void as (λ x. AtMostOne (received_by (if_some Voids x))) [ Some n ↦ inr (n, refl) | None ↦ inl refl ])
-one_received form = inl refl
+one_received form = grind (arith, nat_tests, executed_receives, if_some)
 
 -- a function that waits is no ABORT TASK
 pub no_abort_task : (r : Request) → may_wait r ≡ true → (function r == 1) ≡ false

@@ -1,12 +1,12 @@
 -- In the trace of a list of events a request didn't execute so far, or is a live command, or has its reply: no two of these, and each once.
-use Rattle.std.proofs.Common.{◌≡◌, ℕ, ◌+◌, ◌<◌, ◌≤◌, ◌==◌, cond, Bool, true, false, List, [], ◌∷◌, ◌++◌, length, count_by, refl, sym, subst, arith, nat_lt}
+use Rattle.std.proofs.Common.{◌≡◌, ℕ, ◌+◌, ◌<◌, ◌≤◌, ◌==◌, cond, Bool, List, [], ◌∷◌, ◌++◌, length, count_by, refl, sym, subst, arith, nat_lt}
 use Rattle.std.proofs.lemmas.Bool.Decides.{nat_tests}
 use Rattle.iscsi_wire.specs.declared.reply.Reply.{Reply}
 use Rattle.iscsi_history.specs.rules.Settings.{Setting}
 use Rattle.iscsi_history.specs.rules.Trace.{Arrival, Command, Mark, Trace, entered, live}
 use Rattle.iscsi_history.specs.promises.Replies.{replies_to}
-use Rattle.iscsi_history.proofs.CountLemmas.{one, count-cons}
-use Rattle.iscsi_history.proofs.Forms.{Start, Deeds, Form, Completed, Executed, marks_of_form, IsDone, IsFormed, HasForm, is_arrival, HaveForms}
+use Rattle.iscsi_history.proofs.CountLemmas.{one}
+use Rattle.iscsi_history.proofs.Forms.{Start, Deeds, Form, Executed, marks_of_form, IsDone, IsFormed, HasForm, is_arrival, HaveForms}
 use Rattle.iscsi_history.proofs.DeedLemmas.{to_list}
 use Rattle.iscsi_history.proofs.TouchLemmas.{leaving_in, entering_in}
 use Rattle.iscsi_history.proofs.ReplyForms.{is_of, comes_of, answers_of, replies_form, entered_form, live_form}
@@ -18,10 +18,6 @@ use Rattle.iscsi_history.proofs.ReplyTurns.{executes_of, begins_of, awaited, awa
 abbrev pub aborted_in : Form → List Command
 aborted_in (Executed start a d) = d.leaving
 aborted_in _ = []
-
--- a request that executes is answered, or its command enters
-done_once : (o : Setting) (t : Trace) (v : ℕ) (start : Start) (a : Arrival) (d : Deeds) → IsDone o t start a d → answers_of v (Executed start a d) + count_by (comes_of v) (to_list d.entering) ≤ one (is_of v a)
-done_once o t v start a d x = grind arith
 
 -- what enters executes
 entering_once : (o : Setting) (now v : ℕ) (t : Trace) (form : Form) → IsFormed o now t form → count_by (comes_of v) (to_list (entering_in form)) ≤ executes_of v form

@@ -1,11 +1,11 @@
 -- What one item more changes of what follows from a trace.
-use Rattle.std.proofs.Common.{arith, ◌≡◌, ℕ, ◌==◌, ◌||◌, not, cond, Bool, true, false, List, [], ◌∷◌, ◌++◌, filter, None, refl, ap, ◌∙◌, eq-eqb}
+use Rattle.std.proofs.Common.{arith, ◌≡◌, ℕ, ◌==◌, ◌||◌, not, cond, Bool, true, false, List, [], ◌∷◌, ◌++◌, filter, refl, ap, ◌∙◌, eq-eqb}
 use Rattle.std.proofs.lemmas.Bool.Decides.{nat_tests}
 use Rattle.std.specs.List.{list_any, list_all, filter_map}
 use Rattle.std.proofs.lemmas.List.{append-nil}
 use Rattle.std.proofs.lemmas.List.Elements.{filter-append}
 use Rattle.std.proofs.lemmas.List.Folds.{list_any-append}
-use Rattle.iscsi_history.specs.rules.Trace.{Command, Mark, Trace, Admits, Voids, after_items, has, shown, enters, entered, leaves_ticket, live, is_among, received, is_received, contains, number_received, admits_at}
+use Rattle.iscsi_history.specs.rules.Trace.{Command, Mark, Trace, after_items, has, shown, enters, entered, leaves_ticket, live, is_among, received, is_received, contains, number_received, admits_at}
 use Rattle.iscsi_history.proofs.BoolLemmas.{and_both, or_none, or_second}
 
 -- ---- filters
