@@ -30,11 +30,11 @@ no_arrival b h = absurd cc
 
 -- what isn't held isn't delivered
 touched_unheld : (t : Trace) (n : ℕ) (item : List Mark) → Touch t n item → held t n ≡ None → list_any (delivers_number n) item ≡ false
-touched_unheld t n item x3 gone = grind arith
+touched_unheld t n item touch gone = grind arith
 
 -- a received number admits nothing
 touched_received : (t : Trace) (n : ℕ) (item : List Mark) → Touch t n item → is_received t n ≡ true → filter_map (admits_at n) item ≡ []
-touched_received t n item x3 there = grind arith
+touched_received t n item touch there = grind arith
 
 -- a number that is voided never admitted a request
 touched_voided : (t : Trace) (n : ℕ) (item : List Mark) → Touch t n item → list_any (voids_number n) item ≡ true → shown (admits_at n) (item ∷ t) ≡ []

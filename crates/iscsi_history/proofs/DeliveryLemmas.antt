@@ -61,9 +61,7 @@ executed_below-more o t n low =
 -- traces that admit the same at the numbers of a range
 pub same_range : (t t' : Trace) (a count : ℕ) → ((k : ℕ) → a ≤ k → k < a + count → request_at t k ≡ request_at t' k) → filter_map (request_at t) (range_with_len a count) ≡ filter_map (request_at t') (range_with_len a count)
 same_range t t' a zero h = refl
-same_range t t' a (suc count) h =
-    ap (λ x. cons_option x (filter_map (request_at t) (range_with_len (a + 1) count))) (h a (omega arith) (omega arith))
-    ∙ ap (cons_option (request_at t' a)) (same_range t t' (a + 1) count (λ k l u. h k (omega arith) (omega arith)))
+same_range t t' a (suc count) h = grind (arith, h a (omega arith) (omega arith), same_range t t' (a + 1) count (λ k l u. h k (omega arith) (omega arith)))
 
 -- an item that receives, admits and delivers nothing
 pub record IsQuiet (item : List Mark) : Type 0 where
@@ -83,15 +81,10 @@ pub admitted-quiet : (item : List Mark) (t : Trace) (n : ℕ) → IsQuiet item �
 admitted-quiet item t n q = ap (λ xs. shown (admits_at n) t ++ xs) (q.admits n) ∙ append-nil (shown (admits_at n) t)
 
 pub held-quiet : (item : List Mark) (t : Trace) (n : ℕ) → IsQuiet item → held (item ∷ t) n ≡ held t n
-held-quiet item t n q =
-    ap (λ b. cond ((b || is_delivered t n) || is_emptied (item ∷ t) n) None (admitted (item ∷ t) n)) (q.delivers_no n)
-    ∙ ap (λ b. cond (is_delivered t n || (b || is_emptied t n)) None (admitted (item ∷ t) n)) (q.empties_no n)
-    ∙ ap (λ xs. cond (is_delivered t n || is_emptied t n) None (first_of xs)) (admitted-quiet item t n q)
+held-quiet item t n q = grind (arith, q.delivers_no n, q.empties_no n, admitted-quiet item t n q)
 
 pub request_at-quiet : (item : List Mark) (t : Trace) (n : ℕ) → IsQuiet item → request_at (item ∷ t) n ≡ request_at t n
-request_at-quiet item t n q =
-    ap (λ b. cond (b || is_emptied t n) None (option_map (λ (a : Arrival). a.request) (admitted (item ∷ t) n))) (q.empties_no n)
-    ∙ ap (λ xs. cond (is_emptied t n) None (option_map (λ (a : Arrival). a.request) (first_of xs))) (admitted-quiet item t n q)
+request_at-quiet item t n q = grind (arith, q.empties_no n, admitted-quiet item t n q)
 
 pub executed_below-quiet : (o : Setting) (item : List Mark) (t : Trace) (n : ℕ) → IsQuiet item → executed_below o (item ∷ t) n ≡ executed_below o t n
 executed_below-quiet o item t n q =

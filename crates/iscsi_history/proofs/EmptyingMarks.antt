@@ -72,15 +72,10 @@ module _ (item : List Mark) (t : Trace) (n : ℕ) (v : VoidsOne item n) where
   admitted-voids k = ap (λ xs. shown (admits_at k) t ++ xs) (v.admits k) ∙ append-nil (shown (admits_at k) t)
 
   pub held-voids : (k : ℕ) → held (item ∷ t) k ≡ held t k
-  held-voids k =
-      ap (λ b. cond ((b || is_delivered t k) || is_emptied (item ∷ t) k) None (admitted (item ∷ t) k)) (v.delivers_no k)
-      ∙ ap (λ b. cond (is_delivered t k || (b || is_emptied t k)) None (admitted (item ∷ t) k)) (v.empties_no k)
-      ∙ ap (λ xs. cond (is_delivered t k || is_emptied t k) None (first_of xs)) (admitted-voids k)
+  held-voids k = grind (arith, v.delivers_no k, v.empties_no k, admitted-voids k)
 
   pub request_at-voids : (k : ℕ) → request_at (item ∷ t) k ≡ request_at t k
-  request_at-voids k =
-      ap (λ b. cond (b || is_emptied t k) None (option_map (λ (a : Arrival). a.request) (admitted (item ∷ t) k))) (v.empties_no k)
-      ∙ ap (λ xs. cond (is_emptied t k) None (option_map (λ (a : Arrival). a.request) (first_of xs))) (admitted-voids k)
+  request_at-voids k = grind (arith, v.empties_no k, admitted-voids k)
 
 -- ---- a request is taken out
 
@@ -95,23 +90,16 @@ module _ (item : List Mark) (t : Trace) (n : ℕ) (v : EmptiesOne item n) where
   emptied-empties k = ap (λ b. b || is_emptied t k) (v.empties k)
 
   pub held-empties : (k : ℕ) → held (item ∷ t) k ≡ cond (is_delivered t k || ((n == k) || is_emptied t k)) None (admitted t k)
-  held-empties k =
-      ap (λ b. cond ((b || is_delivered t k) || is_emptied (item ∷ t) k) None (admitted (item ∷ t) k)) (v.delivers_no k)
-      ∙ ap (λ b. cond (is_delivered t k || b) None (admitted (item ∷ t) k)) (emptied-empties k)
-      ∙ ap (λ xs. cond (is_delivered t k || ((n == k) || is_emptied t k)) None (first_of xs)) (admitted-empties k)
+  held-empties k = grind (arith, v.delivers_no k, emptied-empties k, admitted-empties k)
 
   pub held-other : (k : ℕ) → (n == k) ≡ false → held (item ∷ t) k ≡ held t k
   held-other k apart = held-empties k ∙ ap (λ b. cond (is_delivered t k || (b || is_emptied t k)) None (admitted t k)) apart
 
   pub held-gone : held (item ∷ t) n ≡ None
-  held-gone =
-      held-empties n
-      ∙ ap (λ b. cond b None (admitted t n)) (or_second (is_delivered t n) ((n == n) || is_emptied t n) (ap (λ b. b || is_emptied t n) (eq-eqb n n refl)))
+  held-gone = grind (arith, held-empties n, or_second (is_delivered t n) ((n == n) || is_emptied t n) (ap (λ b. b || is_emptied t n) (eq-eqb n n refl)))
 
   pub request_at-empties : (k : ℕ) → (n == k) ≡ false → request_at (item ∷ t) k ≡ request_at t k
-  request_at-empties k apart =
-      ap (λ b. cond b None (option_map (λ (a : Arrival). a.request) (admitted (item ∷ t) k))) (emptied-empties k ∙ ap (λ b. b || is_emptied t k) apart)
-      ∙ ap (λ xs. cond (is_emptied t k) None (option_map (λ (a : Arrival). a.request) (first_of xs))) (admitted-empties k)
+  request_at-empties k apart = grind (arith, emptied-empties k, apart, admitted-empties k)
 
 -- ---- requests are taken out together
 
@@ -156,8 +144,7 @@ module _ (t : Trace) where
   pub held_from-none : (a count : ℕ) → ((n : ℕ) → a ≤ n → n < a + count → held t n ≡ None) → held_from t a count ≡ []
   held_from-none a zero none = refl
   held_from-none a (suc count) none =
-      ap (λ x. (let l : List Arrival = elim x [ Some b ↦ b ∷ [] | None ↦ [] ] in l) ++ held_from t (a + 1) count) (none a (omega arith) (omega arith))
-      ∙ held_from-none (a + 1) count (λ n l u. none n (omega arith) (omega arith))
+      grind (arith, none a (omega arith) (omega arith), held_from-none (a + 1) count (λ n l u. none n (omega arith) (omega arith)))
 
 -- ---- items that are joined
 

@@ -69,8 +69,7 @@ enabled_once o t k = list_any (is_enable k) (effects_so_far o t)
 -- what is shown after an item, by what was shown before
 pub shown-item : (o : Setting) (t : Trace) (item : List Mark) (k : ℕ) → is_shown_enabled k (effects_so_far o (item ∷ t)) ≡ ((enabled_once o t k || is_among k (newly_enabled o t item)) && not (list_any (leaves_ticket k) item || has (leaves_ticket k) t))
 shown-item o t item k =
-    ap (λ b. list_any (is_enable k) (effects_so_far o (item ∷ t)) && not b) (left_so_far o (item ∷ t) k)
-    ∙ ap (λ b. b && not (has (leaves_ticket k) (item ∷ t))) (list_any-append (is_enable k) (effects_so_far o t) (effects_of_item o t item) ∙ ap (λ b. enabled_once o t k || b) (item_enables o t item k))
+    grind (arith, left_so_far o (item ∷ t) k, list_any-append (is_enable k) (effects_so_far o t) (effects_of_item o t item), item_enables o t item k)
 
 pub shown-before : (o : Setting) (t : Trace) (k : ℕ) → is_shown_enabled k (effects_so_far o t) ≡ (enabled_once o t k && not (has (leaves_ticket k) t))
 shown-before o t k = ap (λ b. enabled_once o t k && not b) (left_so_far o t k)
@@ -137,8 +136,7 @@ exact-left o item t out l regular x k =
 
     by_ticket : (b : Bool) → out k ≡ b → ((enabled_once o t k || is_among k (newly_enabled o t item)) && not (b || has (leaves_ticket k) t)) ≡ list_any (λ d. d.ticket == k && was_free d (item ∷ t)) rest
     by_ticket true is =
-        and_false (enabled_once o t k || is_among k (newly_enabled o t item))
-        ∙ sym (none_any (λ d. was_free d (item ∷ t)) k rest (none_gone out k (live t) is))
+        cc (and_false (enabled_once o t k || is_among k (newly_enabled o t item)), none_any (λ d. was_free d (item ∷ t)) k rest (none_gone out k (live t) is))
     by_ticket false is =
         bools (enabled_once o t k) (is_among k (newly_enabled o t item)) (has (leaves_ticket k) t) unnew
         ∙ ap (λ b. b || is_among k (newly_enabled o t item)) (sym (shown-before o t k) ∙ x k ∙ sym (any_without (λ d. was_free d t) out k (live t) is))

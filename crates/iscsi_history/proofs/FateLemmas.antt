@@ -186,4 +186,4 @@ fate o n (item ∷ t) next x =
     next_fate t n item (fate o n t _ x.1.1.1) (subst (Touch t n) (sym f.is) (touch_form o x.0 t n f.form f.formed))
 
 pub one_fate : (t : Trace) (n : ℕ) → Fate t n → count_by (λ b. b) (fates_of t n) ≡ cond (is_received t n) 1 0
-one_fate t n x2 = grind arith
+one_fate t n fate = grind arith

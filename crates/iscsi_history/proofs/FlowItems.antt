@@ -43,7 +43,7 @@ turns-more o e f t past = ap (λ n. turns o e n t) (let z : f - e ≡ suc (f - (
 -- ---- ExpCmdSN doesn't go back
 
 still_received : (ns ns' : List ℕ) (n : ℕ) → HasOneMore ns ns' → contains ns n ≡ true → contains ns' n ≡ true
-still_received ns ns' n x3 there = grind (arith, nat_tests, list_any-append, or_first)
+still_received ns ns' n more there = grind (arith, nat_tests, list_any-append, or_first)
 
 pub exp_stays : (o : Setting) (t t' : Trace) → HasOneMore (received t) (received t') → exp_of o t ≤ exp_of o t'
 exp_stays o t t' more =

@@ -361,7 +361,7 @@ module _ (o : Setting) (t : Trace) (start : Start) (a : Arrival) where
     where
       -- a function that is completed isn't refused
       unrefused : (x : DoesDeed (deed_of (facts_of o t' a) a.request)) → is_abort a.request ≡ true → is_completed_by a x.does.deeds ≡ true → (y : Option Answer) → refusal o.level (unit_named o.units a.request) a.request ≡ y → refusal_of_function o a.request ≡ None
-      unrefused x aborts h x3 is = grind (arith, nat_tests, and_first, t', refused_otherwise)
+      unrefused x aborts h y is = grind (arith, nat_tests, and_first, t', refused_otherwise)
 
   pub does_after : Does o t start a (marks_after o (begun start a t) a)
   does_after = any_does.does

@@ -64,22 +64,14 @@ held-here t a new undelivered unemptied = grind (arith, nat_tests, unadmitted, e
 
 -- a request's turn: others are held as before
 pub held-turned : (t : Trace) (a : Arrival) (ms : List Mark) (n : ℕ) → IsQuiet ms → (a.number == n) ≡ false → held ((Delivers a ∷ ms) ∷ t) n ≡ held t n
-held-turned t a ms n q apart =
-    ap (λ b. cond (((b || list_any (delivers_number n) ms) || is_delivered t n) || is_emptied ((Delivers a ∷ ms) ∷ t) n) None (admitted ((Delivers a ∷ ms) ∷ t) n)) apart
-    ∙ ap (λ b. cond ((b || is_delivered t n) || is_emptied ((Delivers a ∷ ms) ∷ t) n) None (admitted ((Delivers a ∷ ms) ∷ t) n)) (q.delivers_no n)
-    ∙ ap (λ b. cond (is_delivered t n || (b || is_emptied t n)) None (admitted ((Delivers a ∷ ms) ∷ t) n)) (q.empties_no n)
-    ∙ ap (λ xs. cond (is_delivered t n || is_emptied t n) None (first_of (shown (admits_at n) t ++ xs))) (q.admits n)
-    ∙ ap (λ xs. cond (is_delivered t n || is_emptied t n) None (first_of xs)) (append-nil (shown (admits_at n) t))
+held-turned t a ms n q apart = grind (arith, apart, q.delivers_no n, q.empties_no n, q.admits n, append-nil (shown (admits_at n) t))
 
 -- the request itself isn't held any more
 pub held-delivered : (t : Trace) (a : Arrival) (ms : List Mark) (n : ℕ) → a.number ≡ n → held ((Delivers a ∷ ms) ∷ t) n ≡ None
 held-delivered t a ms n here = grind arith
 
 pub request_at-turned : (t : Trace) (a : Arrival) (ms : List Mark) (n : ℕ) → IsQuiet ms → request_at ((Delivers a ∷ ms) ∷ t) n ≡ request_at t n
-request_at-turned t a ms n q =
-    ap (λ b. cond (b || is_emptied t n) None (option_map (λ (b : Arrival). b.request) (admitted ((Delivers a ∷ ms) ∷ t) n))) (q.empties_no n)
-    ∙ ap (λ xs. cond (is_emptied t n) None (option_map (λ (b : Arrival). b.request) (first_of (shown (admits_at n) t ++ xs)))) (q.admits n)
-    ∙ ap (λ xs. cond (is_emptied t n) None (option_map (λ (b : Arrival). b.request) (first_of xs))) (append-nil (shown (admits_at n) t))
+request_at-turned t a ms n q = grind (arith, q.empties_no n, q.admits n, append-nil (shown (admits_at n) t))
 
 -- who is admitted after an admission
 pub admitted-cases : (t : Trace) (a : Arrival) (n : ℕ) (b : Arrival) → admitted ((Admits a ∷ []) ∷ t) n ≡ Some b → (admitted t n ≡ Some b) ⊎ (a ≡ b)

@@ -129,11 +129,8 @@ one_unit_of item t c a (suc n) low high =
 
 -- what becomes enabled of a ticket: nothing where it isn't live
 pub newly_none : (o : Setting) (t : Trace) (item : List Mark) (k : ℕ) → mine k (live (item ∷ t)) ≡ [] → mine k (newly_enabled o t item) ≡ []
-newly_none o t item k none =
-    mine-units item t (live (item ∷ t)) k (range_with_len 0 o.units)
-    ∙ ap (λ cs. flat_map (newly_in item t cs) (range_with_len 0 o.units)) none ∙ no_units item t (range_with_len 0 o.units)
+newly_none o t item k none = grind (arith, mine-units item t (live (item ∷ t)) k (range_with_len 0 o.units), none, no_units item t (range_with_len 0 o.units))
 
 pub newly_one : (o : Setting) (t : Trace) (item : List Mark) (k : ℕ) (c : Command) → mine k (live (item ∷ t)) ≡ c ∷ [] → c.unit < o.units → mine k (newly_enabled o t item) ≡ cond (becomes_free item t c) (c ∷ []) []
 newly_one o t item k c one below =
-    mine-units item t (live (item ∷ t)) k (range_with_len 0 o.units)
-    ∙ ap (λ cs. flat_map (newly_in item t cs) (range_with_len 0 o.units)) one ∙ one_unit_of item t c 0 o.units (omega arith) (omega arith)
+    grind (arith, mine-units item t (live (item ∷ t)) k (range_with_len 0 o.units), one, one_unit_of item t c 0 o.units (omega arith) (omega arith))

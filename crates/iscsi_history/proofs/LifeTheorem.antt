@@ -127,9 +127,7 @@ module _ (o : Setting) (now : ℕ) (t : Trace) (next : ℕ) (x : HaveForms o nex
       here = ap (λ n. list_any (leaves_ticket n) (marks_of_form form)) (eqb-true g.command.ticket k same) ∙ leaves_form k form ∙ among-mine k (leaving_in form) unleft
 
       still : mine k (live (marks_of_form form ∷ t)) ≡ g.command ∷ []
-      still =
-          live_unentered none ∙ ap (filter (λ c. not (list_any (leaves_ticket c.ticket) (marks_of_form form)))) g.live_one
-          ∙ ap (λ b. cond (not b) (g.command ∷ []) []) here
+      still = grind (arith, live_unentered none, g.live_one, here)
 
       by_tests : (a b : Bool) → going_on g.command b ++ map enable_effect (cond ((a || b) && not b) (g.command ∷ []) []) ≡ going_on g.command (a || b)
       by_tests a b = grind arith
@@ -170,13 +168,7 @@ module _ (o : Setting) (now : ℕ) (t : Trace) (next : ℕ) (x : HaveForms o nex
     some = g.some;
     past = omega (arith, g.past, more);
     unlive = over;
-    shown =
-        ap is_life
-        (shown_unentered none
-        ∙ ap (λ cs. life_of k (effects_so_far o t) ++ (map leave_effect cs ++ map enable_effect (mine k (newly_enabled o t (marks_of_form form))))) l.only
-        ∙ ap (λ cs. life_of k (effects_so_far o t) ++ (leave_effect l.leaver ∷ map enable_effect cs)) (newly_none o t (marks_of_form form) k over)
-        ∙ ap (λ es. es ++ leave_effect l.leaver ∷ []) g.shown)
-        ∙ by_test (was_free g.command t);
+    shown = grind (arith, shown_unentered none, l.only, newly_none o t (marks_of_form form) k over, g.shown, by_test (was_free g.command t));
   }
     where
       leaves : list_any (leaves_ticket g.command.ticket) (marks_of_form form) ≡ true
@@ -188,9 +180,7 @@ module _ (o : Setting) (now : ℕ) (t : Trace) (next : ℕ) (x : HaveForms o nex
           among b h = grind (arith, nat_tests, mine, leaving_in, mine-none)
 
       over : mine k (live (marks_of_form form ∷ t)) ≡ []
-      over =
-          live_unentered none ∙ ap (filter (λ c. not (list_any (leaves_ticket c.ticket) (marks_of_form form)))) g.live_one
-          ∙ ap (λ b. cond (not b) (g.command ∷ []) []) leaves
+      over = grind (arith, live_unentered none, g.live_one, leaves)
 
       by_test : (b : Bool) → is_life (going_on g.command b ++ leave_effect l.leaver ∷ []) ≡ true
       by_test b = grind arith
@@ -226,17 +216,10 @@ module _ (o : Setting) (now : ℕ) (t : Trace) (next : ℕ) (x : HaveForms o nex
       long = ap (λ cs. length (entered t ++ cs)) entered_is ∙ length-append (entered t) (c ∷ [])
 
       unleft : has (leaves_ticket c.ticket) (marks_of_form form ∷ t) ≡ false
-      unleft =
-          ap (λ b. b || has (leaves_ticket c.ticket) t) (leaves_form c.ticket form ∙ ap (is_among c.ticket) e.stays)
-          ∙ ap (λ n. has (leaves_ticket n) t) number ∙ s.unleft
+      unleft = grind (arith, leaves_form c.ticket form, e.stays, number, s.unleft)
 
       there : mine k (live (marks_of_form form ∷ t)) ≡ c ∷ []
-      there =
-          live_more (marks_of_form form) t k
-          ∙ ap (λ cs. filter (λ d. not (list_any (leaves_ticket d.ticket) (marks_of_form form))) cs ++ filter (λ d. not (has (leaves_ticket d.ticket) (marks_of_form form ∷ t))) (mine k (filter_map enters (marks_of_form form)))) s.unlive
-          ∙ ap (λ cs. filter (λ d. not (has (leaves_ticket d.ticket) (marks_of_form form ∷ t))) (mine k cs)) entered_is
-          ∙ ap (filter (λ d. not (has (leaves_ticket d.ticket) (marks_of_form form ∷ t)))) one
-          ∙ ap (λ b. cond (not b) (c ∷ []) []) unleft
+      there = grind (arith, live_more (marks_of_form form) t k, s.unlive, entered_is, one, unleft)
 
       unfree : was_free c t ≡ false
       unfree = never_free c t (beyond_entered o t next x c.ticket (omega (arith, e.next)))
@@ -294,7 +277,7 @@ state_more o k (item ∷ t) next x =
 -- ---- the log
 
 state_life : (o : Setting) (t : Trace) (k : ℕ) → State o t k → is_life (life_of k (effects_so_far o t)) ≡ true
-state_life o t k x3 = grind arith
+state_life o t k state = grind arith
 
 -- the tickets that effects show as entering are those of the commands that entered
 tickets_of_marks : (o : Setting) (t : Trace) (ms : List Mark) → tickets_entered (flat_map (effects_of_mark o t) ms) ≡ map (λ (c : Command). c.ticket) (filter_map enters ms)

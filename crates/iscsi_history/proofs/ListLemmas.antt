@@ -39,9 +39,7 @@ all_of_filter p (x ∷ xs) = grind (arith, all_of_filter p xs)
 
 pub count_by-map : {A B : Type 0} (p : B → Bool) (f : A → B) (xs : List A) → count_by p (map f xs) ≡ count_by (λ x. p (f x)) xs
 count_by-map p f [] = refl
-count_by-map p f (x ∷ xs) =
-    sum_by-cons (λ y. cond (p y) 1 0) (f x) (map f xs) ∙ ap (λ n. cond (p (f x)) 1 0 + n) (count_by-map p f xs)
-    ∙ sym (sum_by-cons (λ y. cond (p (f y)) 1 0) x xs)
+count_by-map p f (x ∷ xs) = grind (arith, sum_by-cons (λ y. cond (p y) 1 0) (f x) (map f xs), count_by-map p f xs, sum_by-cons (λ y. cond (p (f y)) 1 0) x xs)
 
 pub count_by-push : {A : Type 0} (p : A → Bool) (xs : List A) (x : A) → count_by p (xs ++ x ∷ []) ≡ count_by p xs + cond (p x) 1 0
 count_by-push p xs x = grind (arith, nat_tests, sum_by-append, sum_by-cons)
@@ -74,8 +72,7 @@ IsSome-position p xs h = grind (arith, nat_tests, first_place, some_by)
 
 -- the connections with these CIDs are the known ones
 pub is_known-cids : (cid : ℕ) (xs ys : List (ℕ × ℕ)) → map (λ (c : ℕ × ℕ). c.0) xs ≡ map (λ (c : ℕ × ℕ). c.0) ys → is_known cid xs ≡ is_known cid ys
-is_known-cids cid xs ys h =
-    sym (list_any-map (λ k. k == cid) (λ (c : ℕ × ℕ). c.0) xs) ∙ ap (list_any (λ k. k == cid)) h ∙ list_any-map (λ k. k == cid) (λ (c : ℕ × ℕ). c.0) ys
+is_known-cids cid xs ys h = grind (arith, list_any-map (λ k. k == cid) (λ (c : ℕ × ℕ). c.0) xs, h, list_any-map (λ k. k == cid) (λ (c : ℕ × ℕ). c.0) ys)
 
 -- ---- live commands
 
@@ -138,9 +135,7 @@ none_both p q (x ∷ xs) h = grind (arith, none_both p q xs)
 
 pub filter_here : {A : Type 0} (p q : A → Bool) (xs : List A) → All (λ x. p x ≡ q x) xs → filter p xs ≡ filter q xs
 filter_here p q [] same = refl
-filter_here p q (x ∷ xs) same =
-    ap (λ b. cond b (x ∷ filter p xs) (filter p xs)) (All-head (λ y. p y ≡ q y) x xs same)
-    ∙ ap (λ ys. cond (q x) (x ∷ ys) ys) (filter_here p q xs (All-tail (λ y. p y ≡ q y) x xs same))
+filter_here p q (x ∷ xs) same = grind (arith, All-head (λ y. p y ≡ q y) x xs same, filter_here p q xs (All-tail (λ y. p y ≡ q y) x xs same))
 
 pub filter_every : (p : ℕ → Bool) (ts : List ℕ) → list_all p ts ≡ true → filter p ts ≡ ts
 filter_every p [] all = refl

@@ -31,10 +31,7 @@ live_among k t = any_filter (λ (c : Command). c.ticket == k) (λ (c : Command).
 
     by_ticket : (cs : List Command) → list_any (λ c. not (has (leaves_ticket c.ticket) t) && (c.ticket == k)) cs ≡ (is_among k cs && not (has (leaves_ticket k) t))
     by_ticket [] = refl
-    by_ticket (c ∷ cs) =
-        ap (λ b. b || list_any (λ x. not (has (leaves_ticket x.ticket) t) && (x.ticket == k)) cs) (same c (c.ticket == k) refl)
-        ∙ ap (λ b. ((c.ticket == k) && not (has (leaves_ticket k) t)) || b) (by_ticket cs)
-        ∙ apart_or (c.ticket == k) (is_among k cs) (not (has (leaves_ticket k) t))
+    by_ticket (c ∷ cs) = grind (arith, same c (c.ticket == k) refl, by_ticket cs, apart_or (c.ticket == k) (is_among k cs) (not (has (leaves_ticket k) t)))
 
 -- nothing leaves that didn't enter
 left_entered : (o : Setting) (k : ℕ) (t : Trace) (next : ℕ) → HaveForms o next t → has (leaves_ticket k) t ≡ true → is_among k (entered t) ≡ true

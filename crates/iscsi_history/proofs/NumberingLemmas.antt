@@ -87,11 +87,7 @@ map_push f [] x = refl
 map_push f (y ∷ xs) x = ap (λ ys. f y ∷ ys) (map_push f xs x)
 
 counted_more : (o : Setting) (conn n : ℕ) → counted_from o conn (n + 1) ≡ counted_from o conn n ++ wire (first_stat_sn o conn + n) ∷ []
-counted_more o conn n =
-    ap (λ k. map (λ j. wire (first_stat_sn o conn + j)) (range_with_len 0 k)) (let z : n + 1 ≡ suc n = omega arith in z)
-    ∙ ap (map (λ j. wire (first_stat_sn o conn + j))) (range_more 0 n)
-    ∙ map_push (λ j. wire (first_stat_sn o conn + j)) (range_with_len 0 n) (0 + n)
-    ∙ ap (λ k. counted_from o conn n ++ wire (first_stat_sn o conn + k) ∷ []) (let z : 0 + n ≡ n = omega arith in z)
+counted_more o conn n = grind (arith, range_more 0 n, map_push (λ j. wire (first_stat_sn o conn + j)) (range_with_len 0 n) (0 + n))
 
 -- one item more
 item_counts : (o : Setting) (t : Trace) (conn : ℕ) (item : List Mark) (x : Option ℕ) → filter_map sent_on item ≡ to_list x
