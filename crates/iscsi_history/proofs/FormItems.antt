@@ -24,6 +24,7 @@ use Rattle.iscsi_history.specs.promises.Aborts.{is_set_abort, is_abort, is_compl
 use Rattle.iscsi_history.specs.promises.Answers.{Answers}
 use Rattle.iscsi_history.proofs.BoolLemmas.{and_first, and_parts, not_true, or_false}
 use Rattle.iscsi_history.proofs.ListLemmas.{fewer_counted}
+use Rattle.iscsi_history.proofs.CountLemmas.{one, count-cons, count-filter}
 use Rattle.iscsi_history.proofs.ElementLemmas.{In, in-filter, first-in}
 use Rattle.iscsi_history.proofs.TraceLemmas.{live-quiet}
 use Rattle.iscsi_history.proofs.HeldLemmas.{held-number}
@@ -52,28 +53,16 @@ first_counted p (x ∷ cs) c h =
     omega (arith, all, one, ap {B = ℕ} (λ (d : Command). cond (p d) 1 0) same)
 
 -- those of a unit, and those of the units after it
+one_of_units : (n u : ℕ) (b : Bool) → one ((n == u) && b) + one (nat_le (u + 1) n && b) ≡ one (nat_le u n && b)
+one_of_units n u b = grind (arith, nat_tests)
+
 of_units : (p : Command → Bool) (u : ℕ) (cs : List Command)
     → count_by p (filter (λ c. c.unit == u) cs) + count_by p (filter (λ c. nat_le (u + 1) c.unit) cs) ≡ count_by p (filter (λ c. nat_le u c.unit) cs)
-of_units p u [] = refl
-of_units p u (c ∷ cs) =
-    let rest = of_units p u cs in
-    let here : List Command = filter (λ d. d.unit == u) cs in
-    let after : List Command = filter (λ d. nat_le (u + 1) d.unit) cs in
-    let all : List Command = filter (λ d. nat_le u d.unit) cs in
-    let n : ℕ = cond (p c) 1 0 in
-    let a : count_by p (c ∷ here) ≡ n + count_by p here = sum_by-cons (λ y. cond (p y) 1 0) c here in
-    let b : count_by p (c ∷ after) ≡ n + count_by p after = sum_by-cons (λ y. cond (p y) 1 0) c after in
-    let d : count_by p (c ∷ all) ≡ n + count_by p all = sum_by-cons (λ y. cond (p y) 1 0) c all in
-    by_tests (c.unit == u) (nat_le (u + 1) c.unit) (nat_le u c.unit) refl refl refl rest a b d
+of_units p u cs = omega (arith, count-filter p (λ c. c.unit == u) cs, count-filter p (λ c. nat_le (u + 1) c.unit) cs, count-filter p (λ c. nat_le u c.unit) cs, counts cs)
   where
-    by_tests : (v w x : Bool) → (c.unit == u) ≡ v → nat_le (u + 1) c.unit ≡ w → nat_le u c.unit ≡ x
-        → count_by p (filter (λ d. d.unit == u) cs) + count_by p (filter (λ d. nat_le (u + 1) d.unit) cs) ≡ count_by p (filter (λ d. nat_le u d.unit) cs)
-        → count_by p (c ∷ filter (λ d. d.unit == u) cs) ≡ cond (p c) 1 0 + count_by p (filter (λ d. d.unit == u) cs)
-        → count_by p (c ∷ filter (λ d. nat_le (u + 1) d.unit) cs) ≡ cond (p c) 1 0 + count_by p (filter (λ d. nat_le (u + 1) d.unit) cs)
-        → count_by p (c ∷ filter (λ d. nat_le u d.unit) cs) ≡ cond (p c) 1 0 + count_by p (filter (λ d. nat_le u d.unit) cs)
-        → count_by p (cond v (c ∷ filter (λ d. d.unit == u) cs) (filter (λ d. d.unit == u) cs)) + count_by p (cond w (c ∷ filter (λ d. nat_le (u + 1) d.unit) cs) (filter (λ d. nat_le (u + 1) d.unit) cs))
-        ≡ count_by p (cond x (c ∷ filter (λ d. nat_le u d.unit) cs) (filter (λ d. nat_le u d.unit) cs))
-    by_tests v w x i j k rest a b d = grind arith
+    counts : (cs : List Command) → count_by (λ c. (c.unit == u) && p c) cs + count_by (λ c. nat_le (u + 1) c.unit && p c) cs ≡ count_by (λ c. nat_le u c.unit && p c) cs
+    counts [] = refl
+    counts (c ∷ cs) = omega (arith, counts cs, one_of_units c.unit u (p c), count-cons (λ c. (c.unit == u) && p c) c cs, count-cons (λ c. nat_le (u + 1) c.unit && p c) c cs, count-cons (λ c. nat_le u c.unit && p c) c cs)
 
 -- the commands of units are no more than all
 units_counted : (p : Command → Bool) (cs : List Command) (u n : ℕ) → count_by p (flat_map (λ v. filter (λ c. c.unit == v) cs) (range_with_len u n)) ≤ count_by p (filter (λ c. nat_le u c.unit) cs)
@@ -117,6 +106,18 @@ pub record DoesAny (o : Setting) (t : Trace) (start : Start) (a : Arrival) (ms :
   pub does : Does o t start a ms
   pub accepted : is_abort a.request ≡ true → is_completed_by a does.deeds ≡ true → refusal_of_function o a.request ≡ None
   pub sweeps : is_abort a.request ≡ true → is_set_abort a.request ≡ true → is_completed_by a does.deeds ≡ true → Sweeps o (begun start a t) a does.deeds
+
+-- what is done where there is taken out what there is of these connections
+abbrev parted : Setting → Trace → Arrival → (ℕ → Bool) → Option ℕ → Bool → Deeds
+parted o t a of_these closing ending = record {
+  void = None;
+  leaving = filter (λ (c : Command). of_these (connection_of c.arrival.request)) (live_of_units o t);
+  emptied = filter (λ (b : Arrival). of_these (connection_of b.request)) (all_held o t);
+  entering = None;
+  reply = Some (Logout (itt a.request) 0);
+  closing = closing;
+  ending = ending;
+}
 
 -- it closes something
 abbrev closes : Deed → Bool
@@ -192,26 +193,10 @@ module _ (o : Setting) (t : Trace) (start : Start) (a : Arrival) where
 
   -- it takes out what there is of these connections
   does_part : (of_these : ℕ → Bool) (closing : Option ℕ) (ending : Bool) → Each (λ conn. of_these conn ≡ true) closing → (ending ≡ true → (conn : ℕ) → is_open o t' conn ≡ true → of_these conn ≡ true)
-      → Does o t start a (marks_done a (record {
-        void = None;
-        leaving = filter (λ (c : Command). of_these (connection_of c.arrival.request)) (live_of_units o t');
-        emptied = filter (λ (b : Arrival). of_these (connection_of b.request)) (all_held o t');
-        entering = None;
-        reply = Some (Logout (itt a.request) 0);
-        closing = closing;
-        ending = ending;
-      }))
+      → Does o t start a (marks_done a (parted o t' a of_these closing ending))
   unfolding t'
   does_part of_these closing ending closes ends = record {
-    deeds = record {
-      void = None;
-      leaving = filter (λ (c : Command). of_these (connection_of c.arrival.request)) (live_of_units o t');
-      emptied = filter (λ (b : Arrival). of_these (connection_of b.request)) (all_held o t');
-      entering = None;
-      reply = Some (Logout (itt a.request) 0);
-      closing = closing;
-      ending = ending;
-    };
+    deeds = parted o t' a of_these closing ending;
     is = refl;
     done = record {
       voids = tt;
@@ -224,22 +209,22 @@ module _ (o : Setting) (t : Trace) (start : Start) (a : Arrival) where
     };
   }
 
-  -- it is answered by a Logout Response
-  closes_well : (d : Deed) (ms : List Mark) → closes d ≡ true → is_refused d ≡ false → (does : Does o t start a ms) → is_completed_by a does.deeds ≡ false → DoesWell o t start a d ms
-  closes_well d ms closing not_refused does none = record {
-    does = does;
-    stays = λ h. absurd (false≢true (sym h ∙ closing));
-    sweeps = λ set h. absurd (false≢true (sym none ∙ h));
-    accepted = λ x is. absurd (false≢true (sym not_refused ∙ ap is_refused is));
-  }
+  -- it is done well, where it isn't an answer alone
+  does_well : (d : Deed) (ms : List Mark) (does : Does o t start a ms) → (closes d ≡ false → is_closing does.deeds ≡ false) → (is_set_abort a.request ≡ true → is_completed_by a does.deeds ≡ true → Sweeps o (begun start a t) a does.deeds)
+      → is_refused d ≡ false → DoesWell o t start a d ms
+  does_well d ms does stays sweeps not_refused = record { does = does; stays = stays; sweeps = sweeps; accepted = λ x is. absurd (false≢true (sym not_refused ∙ ap is_refused is)) }
+
+  -- it closes something, or a command enters, or nothing happens: no function is completed by that
+  does_other : (d : Deed) (ms : List Mark) (does : Does o t start a ms) → (closes d ≡ false → is_closing does.deeds ≡ false) → is_completed_by a does.deeds ≡ false → is_refused d ≡ false → DoesWell o t start a d ms
+  does_other d ms does stays none not_refused = does_well d ms does stays (λ set h. absurd (false≢true (sym none ∙ h))) not_refused
 
   does_end : DoesWell o t start a CloseSession (end_session o t' a)
   unfolding t' does_part
-  does_end = subst (DoesWell o t start a CloseSession) (simp append_assoc) (closes_well CloseSession _ refl refl (does_part (λ conn. true) None true tt (λ ends conn here. refl)) refl)
+  does_end = subst (DoesWell o t start a CloseSession) (simp append_assoc) (does_other CloseSession _ (does_part (λ conn. true) None true tt (λ ends conn here. refl)) (λ h. absurd (false≢true (sym h))) refl refl)
 
   does_close : (closing : ℕ) → DoesWell o t start a (CloseConn closing) (close_conn o t' a closing)
   unfolding t' does_part
-  does_close closing = subst (DoesWell o t start a (CloseConn closing)) (simp append_assoc) (closes_well (CloseConn closing) _ refl refl (does_part (λ conn. conn == closing) (Some closing) (is_last_open o t' closing) (eq-eqb closing closing refl) last) refl)
+  does_close closing = subst (DoesWell o t start a (CloseConn closing)) (simp append_assoc) (does_other (CloseConn closing) _ (does_part (λ conn. conn == closing) (Some closing) (is_last_open o t' closing) (eq-eqb closing closing refl) last) (λ h. absurd (false≢true (sym h))) refl refl)
     where
       last : is_last_open o t' closing ≡ true → (conn : ℕ) → is_open o t' conn ≡ true → (conn == closing) ≡ true
       last ends conn here =
@@ -260,12 +245,7 @@ module _ (o : Setting) (t : Trace) (start : Start) (a : Arrival) where
 
   -- a function that is no abort of a whole set takes this out, or nothing
   does_single : (d : Deed) (ds : Deeds) → IsDone o t start a ds → is_closing ds ≡ false → (function a.request == 1) ≡ true → is_refused d ≡ false → DoesWell o t start a d (marks_done a ds)
-  does_single d ds done stays one not_refused = record {
-    does = record { deeds = ds; is = refl; done = done };
-    stays = λ h. stays;
-    sweeps = λ set h. absurd (false≢true (sym (unset a.request 1 one refl) ∙ set));
-    accepted = λ x is. absurd (false≢true (sym not_refused ∙ ap is_refused is));
-  }
+  does_single d ds done stays one not_refused = does_well d _ (record { deeds = ds; is = refl; done = done }) (λ h. stays) (λ set h. absurd (false≢true (sym (unset a.request 1 one refl) ∙ set))) not_refused
 
   does_void : Befits (facts_of o t' a) a.request Void → DoesDeed Void
   unfolding t'
@@ -299,25 +279,11 @@ module _ (o : Setting) (t : Trace) (start : Start) (a : Arrival) where
   does_all : (d : Deed) → is_refused d ≡ false → (unit : ℕ) → unit_named o.units a.request ≡ Some unit → (covers : Command → Bool) → ((c : Command) → is_before a c ≡ true → covers c ≡ true) → ((function a.request == 5) ≡ true → (c : Command) → covers c ≡ true)
       → DoesWell o t start a d (abort_all t' a unit covers)
   unfolding t'
-  does_all d not_refused unit named covers early whole = record {
-    does = record {
-      deeds = record idle { leaving = filter covers (live_in unit t'); reply = Some (Task (itt a.request) 0) };
-      is = refl;
-      done = leave_done (filter covers (live_in unit t')) (λ p. omega (arith, fewer_counted p covers (live_in unit t'), fewer_counted p (λ (c : Command). c.unit == unit) (live t')));
-    };
-    stays = λ h. refl;
-    sweeps = λ set h. record { unit = unit; named = named; covers = covers; early = early; whole = whole; is = refl };
-    accepted = λ x is. absurd (false≢true (sym not_refused ∙ ap is_refused is));
-  }
-
-  -- it closes something, or a command enters, or nothing happens: no function is completed by that
-  does_other : (d : Deed) (ms : List Mark) (does : Does o t start a ms) → (closes d ≡ false → is_closing does.deeds ≡ false) → is_completed_by a does.deeds ≡ false → is_refused d ≡ false → DoesWell o t start a d ms
-  does_other d ms does stays none not_refused = record {
-    does = does;
-    stays = stays;
-    sweeps = λ set h. absurd (false≢true (sym none ∙ h));
-    accepted = λ x is. absurd (false≢true (sym not_refused ∙ ap is_refused is));
-  }
+  does_all d not_refused unit named covers early whole =
+      let cs : List Command = filter covers (live_in unit t') in
+      let few : (p : Command → Bool) → count_by p cs ≤ count_by p (live t') = λ p. omega (arith, fewer_counted p covers (live_in unit t'), fewer_counted p (λ (c : Command). c.unit == unit) (live t')) in
+      does_well d _ (record { deeds = record idle { leaving = cs; reply = Some (Task (itt a.request) 0) }; is = refl; done = leave_done cs few }) (λ h. refl)
+      (λ set h. record { unit = unit; named = named; covers = covers; early = early; whole = whole; is = refl }) not_refused
 
   does_deed : (d : Deed) → Befits (facts_of o t' a) a.request d → DoesDeed d
   unfolding t' does_nothing does_reply does_enter
