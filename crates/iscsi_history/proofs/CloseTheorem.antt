@@ -16,31 +16,12 @@ use Rattle.iscsi_history.specs.rules.Agenda.{belongs}
 use Rattle.iscsi_history.specs.promises.Enabling.{effects_so_far}
 use Rattle.iscsi_history.specs.promises.Closes.{is_session_close, is_close_of, is_ignored, is_on, ClosesHold, ClosesHoldIn}
 use Rattle.iscsi_history.proofs.BoolLemmas.{and_both, or_second, or_comm, or_false}
-use Rattle.iscsi_history.proofs.MomentLemmas.{log_effects}
+use Rattle.iscsi_history.proofs.MomentLemmas.{log_effects, enables_none, shown_so_far}
 use Rattle.iscsi_history.proofs.ElementLemmas.{In, in-filter, in-append}
 use Rattle.iscsi_history.proofs.CloseLemmas.{is_at, ignores, Sound, Clear, clear-item, open-unended}
 use Rattle.iscsi_history.proofs.CloseRuns.{Sounds, clear_of, trace_sounds}
 
 -- ---- what the effects show of closing
-
-enables_none : (p : Effect → Bool) → ((ticket unit : ℕ) → p (Enable ticket unit) ≡ false) → (cs : List Command) → list_any p (map (λ (c : Command). Enable c.ticket c.unit) cs) ≡ false
-enables_none p none [] = refl
-enables_none p none (c ∷ cs) = ap (λ b. b || list_any p (map (λ (d : Command). Enable d.ticket d.unit) cs)) (none c.ticket c.unit) ∙ enables_none p none cs
-
-module _ (o : Setting) (p : Effect → Bool) (q : Mark → Bool) (none : (ticket unit : ℕ) → p (Enable ticket unit) ≡ false) (same : (t : Trace) (m : Mark) → list_any p (effects_of_mark o t m) ≡ q m) where
-  shown_marks : (t : Trace) (ms : List Mark) → list_any p (flat_map (effects_of_mark o t) ms) ≡ list_any q ms
-  shown_marks t [] = refl
-  shown_marks t (m ∷ ms) = grind (arith, shown_marks t ms)
-
-  shown_item : (t : Trace) (item : List Mark) → list_any p (effects_of_item o t item) ≡ list_any q item
-  shown_item t item =
-      list_any-append p (flat_map (effects_of_mark o t) item) (map (λ (c : Command). Enable c.ticket c.unit) (newly_enabled o t item))
-      ∙ ap (λ b. list_any p (flat_map (effects_of_mark o t) item) || b) (enables_none p none (newly_enabled o t item))
-      ∙ or_false (list_any p (flat_map (effects_of_mark o t) item)) ∙ shown_marks t item
-
-  shown_so_far : (t : Trace) → list_any p (effects_so_far o t) ≡ has q t
-  shown_so_far [] = refl
-  shown_so_far (item ∷ t) = grind (arith, nat_tests, shown_so_far t, list_any-append, shown_item, or_comm)
 
 session_mark : (o : Setting) (t : Trace) (m : Mark) → list_any is_session_close (effects_of_mark o t m) ≡ closes_session m
 session_mark o t m = grind arith

@@ -10,7 +10,7 @@ use Rattle.iscsi_history.specs.rules.Settings.{Setting}
 use Rattle.iscsi_history.specs.rules.Run.{newly_enabled, effects_of_mark, effects_of_item}
 use Rattle.iscsi_history.specs.promises.Enabling.{is_leave, effects_so_far, is_enable, is_shown_enabled, is_enabled, EnabledSoFar}
 use Rattle.iscsi_history.proofs.NewlyLemmas.{flat_map-none, new_in, new_in-none, is_here, was_free-stays, Untouched, live-untouched, live_in-untouched, newly-untouched, any_or, is_new, newly_among, was_or_new}
-use Rattle.iscsi_history.proofs.MomentLemmas.{enables, item_enables, left_unlive}
+use Rattle.iscsi_history.proofs.MomentLemmas.{enables, enables_none, shown_so_far, item_enables, left_unlive}
 use Rattle.iscsi_history.proofs.BoolLemmas.{or_false, or_comm, and_both, or_second, and_false}
 use Rattle.iscsi_history.proofs.TraceLemmas.{weaker}
 use Rattle.iscsi_history.proofs.ListLemmas.{any_all}
@@ -29,39 +29,15 @@ newly-one o item t unit inside same = flat_map-one (new_in t item) 0 o.units uni
 
 -- ---- what the effects show
 
-left_marks : (o : Setting) (t : Trace) (k : ℕ) (item : List Mark) → list_any (is_leave k) (flat_map (effects_of_mark o t) item) ≡ list_any (leaves_ticket k) item
-left_marks o t k [] = refl
-left_marks o t k (Admits a ∷ ms) = left_marks o t k ms
-left_marks o t k (Delivers a ∷ ms) = left_marks o t k ms
-left_marks o t k (Executes a ∷ ms) = left_marks o t k ms
-left_marks o t k (Voids n ∷ ms) = left_marks o t k ms
-left_marks o t k (Empties a ∷ ms) = left_marks o t k ms
-left_marks o t k (Waits a ∷ ms) = left_marks o t k ms
-left_marks o t k (Leaves c ∷ ms) = ap (λ b. (c.ticket == k) || b) (left_marks o t k ms)
-left_marks o t k (Enters c ∷ ms) = left_marks o t k ms
-left_marks o t k (Sends conn reply ∷ ms) = left_marks o t k ms
-left_marks o t k (ClosesConn conn ∷ ms) = left_marks o t k ms
-left_marks o t k (ClosesSession ∷ ms) = left_marks o t k ms
-left_marks o t k (Ignores why ∷ ms) = left_marks o t k ms
-
-no_leave : (k : ℕ) (cs : List Command) → list_any (is_leave k) (enables cs) ≡ false
-no_leave k [] = refl
-no_leave k (c ∷ cs) = no_leave k cs
-
-item_leaves : (o : Setting) (t : Trace) (item : List Mark) (k : ℕ) → list_any (is_leave k) (effects_of_item o t item) ≡ list_any (leaves_ticket k) item
-item_leaves o t item k =
-    list_any-append (is_leave k) (flat_map (effects_of_mark o t) item) (enables (newly_enabled o t item))
-    ∙ ap (λ b. list_any (is_leave k) (flat_map (effects_of_mark o t) item) || b) (no_leave k (newly_enabled o t item))
-    ∙ or_false (list_any (is_leave k) (flat_map (effects_of_mark o t) item)) ∙ left_marks o t k item
-
 -- the commands that left, by the effects, are those of the marks
 left_so_far : (o : Setting) (t : Trace) (k : ℕ) → list_any (is_leave k) (effects_so_far o t) ≡ has (leaves_ticket k) t
-left_so_far o [] k = refl
-left_so_far o (item ∷ t) k =
-    list_any-append (is_leave k) (effects_so_far o t) (effects_of_item o t item)
-    ∙ ap (λ b. b || list_any (is_leave k) (effects_of_item o t item)) (left_so_far o t k)
-    ∙ ap (λ b. has (leaves_ticket k) t || b) (item_leaves o t item k)
-    ∙ or_comm (has (leaves_ticket k) t) (list_any (leaves_ticket k) item)
+left_so_far o t k = shown_so_far o (is_leave k) (leaves_ticket k) (λ ticket unit. refl) left_mark t
+  where
+    left_mark : (t : Trace) (m : Mark) → list_any (is_leave k) (effects_of_mark o t m) ≡ leaves_ticket k m
+    left_mark t m = grind arith
+
+no_leave : (k : ℕ) (cs : List Command) → list_any (is_leave k) (enables cs) ≡ false
+no_leave k cs = enables_none (is_leave k) (λ ticket unit. refl) cs
 
 abbrev pub enabled_once : Setting → Trace → ℕ → Bool
 enabled_once o t k = list_any (is_enable k) (effects_so_far o t)

@@ -11,6 +11,7 @@ use Rattle.iscsi_history.specs.rules.Run.{trace_of}
 use Rattle.iscsi_history.specs.promises.Meaning.{MeansWhatItSays}
 use Rattle.iscsi_history.proofs.ListLemmas.{any_filter}
 use Rattle.iscsi_history.proofs.BoolLemmas.{or_first, and_first}
+use Rattle.iscsi_history.proofs.MomentLemmas.{live_among}
 use Rattle.iscsi_history.proofs.Missing.{expected_low, expected_gone, expected_below}
 use Rattle.iscsi_history.proofs.Forms.{HasForm, HaveForms}
 use Rattle.iscsi_history.proofs.FormRuns.{trace_has_forms}
@@ -18,20 +19,6 @@ use Rattle.iscsi_history.proofs.TouchLemmas.{leaving_live}
 use Rattle.iscsi_history.proofs.FateLemmas.{fate, one_fate}
 
 -- ---- commands that entered
-
--- a command is live where it entered and hasn't left
-live_among : (k : ℕ) (t : Trace) → is_among k (live t) ≡ (is_among k (entered t) && not (has (leaves_ticket k) t))
-live_among k t = any_filter (λ (c : Command). c.ticket == k) (λ (c : Command). not (has (leaves_ticket c.ticket) t)) (entered t) ∙ by_ticket (entered t)
-  where
-    same : (c : Command) → (v : Bool) → (c.ticket == k) ≡ v → (not (has (leaves_ticket c.ticket) t) && v) ≡ (v && not (has (leaves_ticket k) t))
-    same c v is = grind arith
-
-    apart_or : (a b c : Bool) → ((a && c) || (b && c)) ≡ ((a || b) && c)
-    apart_or a b c = grind arith
-
-    by_ticket : (cs : List Command) → list_any (λ c. not (has (leaves_ticket c.ticket) t) && (c.ticket == k)) cs ≡ (is_among k cs && not (has (leaves_ticket k) t))
-    by_ticket [] = refl
-    by_ticket (c ∷ cs) = grind (arith, same c (c.ticket == k) refl, by_ticket cs, apart_or (c.ticket == k) (is_among k cs) (not (has (leaves_ticket k) t)))
 
 -- nothing leaves that didn't enter
 left_entered : (o : Setting) (k : ℕ) (t : Trace) (next : ℕ) → HaveForms o next t → has (leaves_ticket k) t ≡ true → is_among k (entered t) ≡ true
