@@ -73,15 +73,8 @@ counted_among k (c ∷ cs) h = grind (arith, counted_among k cs)
 -- one element more that counts
 pub count_set : {A : Type 0} (p : A → Bool) (ps : List A) (k : ℕ) (x d : A) → k < length ps → p (get_or ps k d) ≡ false → p x ≡ true → count_by p (set ps k x) ≡ count_by p ps + 1
 count_set p [] k x d lt before now = absurd (omega arith)
-count_set p (y ∷ ps) zero x d lt before now =
-    let new : count_by p (x ∷ ps) ≡ 1 + count_by p ps = sum_by-cons (λ z. cond (p z) 1 0) x ps ∙ ap (λ b. cond b 1 0 + count_by p ps) now in
-    let old : count_by p (y ∷ ps) ≡ 0 + count_by p ps = sum_by-cons (λ z. cond (p z) 1 0) y ps ∙ ap (λ b. cond b 1 0 + count_by p ps) before in
-    omega (arith, new, old)
-count_set p (y ∷ ps) (suc k) x d lt before now =
-    let new : count_by p (y ∷ set ps k x) ≡ cond (p y) 1 0 + count_by p (set ps k x) = sum_by-cons (λ z. cond (p z) 1 0) y (set ps k x) in
-    let old : count_by p (y ∷ ps) ≡ cond (p y) 1 0 + count_by p ps = sum_by-cons (λ z. cond (p z) 1 0) y ps in
-    let rest : count_by p (set ps k x) ≡ count_by p ps + 1 = count_set p ps k x d (omega arith) before now in
-    omega (arith, new, old, rest)
+count_set p (y ∷ ps) zero x d lt before now = grind (arith, count-cons)
+count_set p (y ∷ ps) (suc k) x d lt before now = grind (arith, count_set p ps k x d, count-cons)
 
 -- ---- what is left out
 
@@ -98,24 +91,13 @@ fewer p (y ∷ xs) x h = grind (arith, nat_tests, fewer p xs x, at_most)
 
 pub count_shift : {A : Type 0} (p : Option A → Bool) (x : A) (ps : List (Option A)) → p None ≡ false → get_or ps 0 None ≡ Some x → count_by p (drop 1 ps ++ None ∷ []) + cond (p (Some x)) 1 0 ≡ count_by p ps
 count_shift p x [] none found = absurd cc
-count_shift p x (y ∷ ps) none found =
-    let first : count_by p (y ∷ ps) ≡ cond (p y) 1 0 + count_by p ps = sum_by-cons (λ z. cond (p z) 1 0) y ps in
-    let last : count_by p (ps ++ None ∷ []) ≡ count_by p ps + count_by p (None ∷ []) = sum_by-append (λ z. cond (p z) 1 0) ps (None ∷ []) in
-    let gone : count_by p (None ∷ []) ≡ 0 + 0 = sum_by-cons (λ z. cond (p z) 1 0) None [] ∙ ap (λ b. cond b 1 0 + 0) none in
-    omega (arith, first, last, gone, ap {B = ℕ} (λ z. cond (p z) 1 0) found)
+count_shift p x (y ∷ ps) none found = grind (arith, count-cons, sum_by-append)
 
 -- another element at a place
 pub count_replaced : {A : Type 0} (p : A → Bool) (ps : List A) (k : ℕ) (x d : A) → k < length ps → count_by p (set ps k x) + cond (p (get_or ps k d)) 1 0 ≡ count_by p ps + cond (p x) 1 0
 count_replaced p [] k x d lt = absurd (omega arith)
-count_replaced p (y ∷ ps) zero x d lt =
-    let new : count_by p (x ∷ ps) ≡ cond (p x) 1 0 + count_by p ps = sum_by-cons (λ z. cond (p z) 1 0) x ps in
-    let old : count_by p (y ∷ ps) ≡ cond (p y) 1 0 + count_by p ps = sum_by-cons (λ z. cond (p z) 1 0) y ps in
-    omega (arith, new, old)
-count_replaced p (y ∷ ps) (suc k) x d lt =
-    let new : count_by p (y ∷ set ps k x) ≡ cond (p y) 1 0 + count_by p (set ps k x) = sum_by-cons (λ z. cond (p z) 1 0) y (set ps k x) in
-    let old : count_by p (y ∷ ps) ≡ cond (p y) 1 0 + count_by p ps = sum_by-cons (λ z. cond (p z) 1 0) y ps in
-    let rest : count_by p (set ps k x) + cond (p (get_or ps k d)) 1 0 ≡ count_by p ps + cond (p x) 1 0 = count_replaced p ps k x d (omega arith) in
-    omega (arith, new, old, rest)
+count_replaced p (y ∷ ps) zero x d lt = grind (arith, count-cons)
+count_replaced p (y ∷ ps) (suc k) x d lt = grind (arith, count_replaced p ps k x d, count-cons)
 
 -- at least the one that is found is left out
 pub fewer_left : {A : Type 0} (p q : A → Bool) (xs : List A) (x : A) → find p xs ≡ Some x → q x ≡ true → length (filter (λ y. not (q y)) xs) + 1 ≤ length xs
@@ -124,7 +106,7 @@ fewer_left p q (y ∷ xs) x found is = grind (arith, nat_tests, fewer_left p q x
 
 pub none_counted : {A : Type 0} (p : Option A → Bool) (n : ℕ) → p None ≡ false → count_by p (replicate n None) ≡ 0
 none_counted p zero h = refl
-none_counted p (suc n) h = sum_by-cons (λ y. cond (p y) 1 0) None (replicate n None) ∙ ap (λ b. cond b 1 0 + count_by p (replicate n None)) h ∙ (let rest : count_by p (replicate n None) ≡ 0 = none_counted p n h in omega (arith, rest))
+none_counted p (suc n) h = grind (arith, none_counted p n, count-cons)
 
 pub count_places : {A : Type 0} (p : Option A → Bool) (q : ℕ → Bool) (ps : List (Option A)) (e : ℕ) → ((k : ℕ) → k < length ps → p (get_or ps k None) ≡ q (e + k)) → count_by p ps ≡ count_by q (range_with_len e (length ps))
 count_places p q [] e h = refl

@@ -46,11 +46,7 @@ received-begun start a t = grind (arith, nat_tests, append-nil)
 
 first_counted : (p : Command → Bool) (cs : List Command) (c : Command) → first_of cs ≡ Some c → count_by p (c ∷ []) ≤ count_by p cs
 first_counted p [] c h = absurd cc
-first_counted p (x ∷ cs) c h =
-    let same : x ≡ c = cc in
-    let all : count_by p (x ∷ cs) ≡ cond (p x) 1 0 + count_by p cs = sum_by-cons (λ y. cond (p y) 1 0) x cs in
-    let one : count_by p (c ∷ []) ≡ cond (p c) 1 0 + 0 = sum_by-cons (λ y. cond (p y) 1 0) c [] in
-    omega (arith, all, one, ap {B = ℕ} (λ (d : Command). cond (p d) 1 0) same)
+first_counted p (x ∷ cs) c h = grind (arith, count-cons)
 
 -- those of a unit, and those of the units after it
 one_of_units : (n u : ℕ) (b : Bool) → one ((n == u) && b) + one (nat_le (u + 1) n && b) ≡ one (nat_le u n && b)

@@ -114,19 +114,7 @@ module _ (o : Setting) (t : Trace) (tag unit below : ℕ) where
   -- none from the number below on
   pub none_below : (count e : ℕ) → below ≤ e → filter (is_sought o tag unit below) (held_among t (range_with_len e count)) ≡ []
   none_below zero e past = refl
-  none_below (suc count) e past = by_held (none_below count (e + 1) (omega arith)) (held t e) refl
-    where
-      rest : List Arrival
-      rest = held_among t (range_with_len (e + 1) count)
-
-      by_held : filter (is_sought o tag unit below) rest ≡ [] → (x : Option Arrival) → held t e ≡ x → filter (is_sought o tag unit below) (elim (held t e) [ Some a ↦ a ∷ [] | None ↦ [] ] ++ rest) ≡ []
-      by_held none None is = ap (λ y. filter (is_sought o tag unit below) ((let l : List Arrival = elim y [ Some a ↦ a ∷ [] | None ↦ [] ] in l) ++ rest)) is ∙ none
-      by_held none (Some a) is =
-          let number : a.number ≡ e = held-number t e a is in
-          let no : nat_lt a.number below ≡ false = grind (arith, nat_tests) in
-          ap (λ y. filter (is_sought o tag unit below) ((let l : List Arrival = elim y [ Some b ↦ b ∷ [] | None ↦ [] ] in l) ++ rest)) is
-          ∙ ap (λ b. cond (b && opcode a.request == 0x01 && itt a.request == tag && is_to o unit a.request) (a ∷ filter (is_sought o tag unit below) rest) (filter (is_sought o tag unit below) rest)) no
-          ∙ none
+  none_below (suc count) e past = grind (arith, nat_tests, none_below count (e + 1), held-number t e)
 
   -- the one that is found is held, at a number of the range
   pub found_held : (count e : ℕ) (h : Arrival) → first_of (filter (is_sought o tag unit below) (held_among t (range_with_len e count))) ≡ Some h

@@ -156,12 +156,7 @@ module _ (o : Setting) (now : ℕ) (t : Trace) (next : ℕ) (x : HaveForms o nex
         where
           by_unit : (b : Bool) → (d.unit == g.command.unit) ≡ b → (d.unit == g.command.unit) ≡ true
           by_unit true h = h
-          by_unit false h = absurd (
-              let p : Command → Bool = λ c. not (c.unit == g.command.unit) in
-              let one : count_by p (d ∷ []) ≡ cond (p d) 1 0 + 0 = sum_by-cons (λ c. cond (p c) 1 0) d [] in
-              let here : cond (p d) 1 0 ≡ 1 = ap {B = ℕ} (λ b. cond (not b) 1 0) h in
-              let there : cond (p g.command) 1 0 ≡ 0 = ap {B = ℕ} (λ b. cond (not b) 1 0) (eq-eqb g.command.unit g.command.unit refl) in
-              let z : ⊥ = omega (arith, one, here, there, few p, ap (count_by p) is) in z)
+          by_unit false h = grind (arith, nat_tests, few (λ c. not (c.unit == g.command.unit)), sum_by-cons)
 
   going_leaves : (g : IsGoing o t k) → mine k (to_list (entering_in form)) ≡ [] → LeavesAlone g.command → length (entered t) ≤ length (entered (marks_of_form form ∷ t)) → IsGone o (marks_of_form form ∷ t) k
   going_leaves g none l more = record {

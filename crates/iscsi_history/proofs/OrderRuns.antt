@@ -32,9 +32,7 @@ none_below n (e ∷ es) h =
   where
     more : (xs : List Effect) → list_all (λ x. nat_le (rank e) (rank x)) xs ≡ true → nat_le n (rank e) ≡ true → list_all (λ x. nat_le n (rank x)) xs ≡ true
     more [] h low = refl
-    more (x ∷ xs) h low =
-        let parts = and_parts (nat_le (rank e) (rank x)) (list_all (λ y. nat_le (rank e) (rank y)) xs) h in
-        and_both (nat_le n (rank x)) (list_all (λ y. nat_le n (rank y)) xs) (let z : nat_le n (rank x) ≡ true = grind (arith, nat_tests) in z) (more xs parts.1 low)
+    more (x ∷ xs) h low = grind (arith, nat_tests, more xs)
 
 unasked_rank : (e : Effect) → is_request e ≡ false → nat_le 1 (rank e) ≡ true
 unasked_rank e h = grind arith
