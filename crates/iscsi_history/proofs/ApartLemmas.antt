@@ -6,6 +6,7 @@ use Rattle.std.specs.List.{list_all}
 use Rattle.std.proofs.lemmas.List.Folds.{list_any-append}
 use Rattle.std.proofs.lemmas.List.Sums.{sum_by-cons}
 use Rattle.iscsi_history.specs.rules.Trace.{Command, is_among, first_of, are_apart}
+use Rattle.iscsi_history.proofs.ListLemmas.{none_out}
 use Rattle.iscsi_history.proofs.BoolLemmas.{and_parts, and_both, or_none, not_true}
 
 pub eq_sym : (a b : ℕ) → (a == b) ≡ (b == a)
@@ -26,11 +27,6 @@ pub apart-filter : (p : Command → Bool) (cs : List Command) → are_apart cs �
 apart-filter p [] h = refl
 apart-filter p (c ∷ cs) h = grind (arith, nat_tests, apart-filter p cs, and_parts, and_both, unamong-filter, not_true)
 
--- where no command has the ticket, nothing is taken out by it
-pub kept_all : (k : ℕ) (cs : List Command) → is_among k cs ≡ false → filter (λ d. not (d.ticket == k)) cs ≡ cs
-kept_all k [] h = refl
-kept_all k (c ∷ cs) h = grind (arith, kept_all k cs)
-
 -- how many pass, without the command of a ticket
 pub count-without : (p : Command → Bool) (k : ℕ) (cs : List Command) (c : Command) → are_apart cs ≡ true → first_of (filter (λ d. d.ticket == k) cs) ≡ Some c
     → count_by p (filter (λ d. not (d.ticket == k)) cs) + cond (p c) 1 0 ≡ count_by p cs
@@ -44,7 +40,7 @@ count-without p k (x ∷ cs) c apart found =
       | true ↦ λ is here.
           let same : x ≡ c = cc in
           let gone : is_among k cs ≡ false = ap (λ n. is_among n cs) (sym (eqb-true x.ticket k is)) ∙ not_true (is_among x.ticket cs) parts.0 in
-          omega (arith, all, ap (count_by p) (kept_all k cs gone), ap {B = ℕ} (λ (d : Command). cond (p d) 1 0) same)
+          omega (arith, all, ap (count_by p) (none_out (λ (d : Command). d.ticket == k) cs gone), ap {B = ℕ} (λ (d : Command). cond (p d) 1 0) same)
       | false ↦ λ is later. omega (arith, all, sum_by-cons (λ d. cond (p d) 1 0) x away, count-without p k cs c parts.1 later)
     ] refl found
 

@@ -1,44 +1,13 @@
 -- Tests joined by "and" and "or".
+pub use Rattle.std.proofs.lemmas.Bool.{and_parts, and_from as and_both, or_parts as or_none, or_left as or_first, or_right as or_second, not-true as not_true}
+pub use Rattle.std.proofs.Math.Bool.{and_comm, or_comm, and-true as and_true, and-false as and_false, or-false as or_false}
 use Rattle.std.proofs.Common.{arith, ◌≡◌, ◌&&◌, ◌||◌, not, Bool, true, false, cond}
-
-pub and_parts : (a b : Bool) → (a && b) ≡ true → (a ≡ true) × (b ≡ true)
-and_parts a b h = grind arith
 
 pub and_first : (a b : Bool) → (a && b) ≡ true → a ≡ true
 and_first a b h = grind arith
 
 pub and_second : (a b : Bool) → (a && b) ≡ true → b ≡ true
 and_second a b h = grind arith
-
-pub and_both : (a b : Bool) → a ≡ true → b ≡ true → (a && b) ≡ true
-and_both a b h k = grind arith
-
-pub and_comm : (a b : Bool) → (a && b) ≡ (b && a)
-and_comm a b = grind arith
-
-pub and_true : (b : Bool) → (b && true) ≡ b
-and_true b = grind arith
-
-pub and_false : (b : Bool) → (b && false) ≡ false
-and_false b = grind arith
-
-pub or_none : (a b : Bool) → (a || b) ≡ false → (a ≡ false) × (b ≡ false)
-or_none a b h = grind arith
-
-pub or_first : (a b : Bool) → a ≡ true → (a || b) ≡ true
-or_first a b h = grind arith
-
-pub or_second : (a b : Bool) → b ≡ true → (a || b) ≡ true
-or_second a b h = grind arith
-
-pub or_comm : (a b : Bool) → (a || b) ≡ (b || a)
-or_comm a b = grind arith
-
-pub or_false : (b : Bool) → (b || false) ≡ b
-or_false b = grind arith
-
-pub not_true : (b : Bool) → not b ≡ true → b ≡ false
-not_true b h = grind arith
 
 pub not_flip : (b v : Bool) → v ≡ not b → b ≡ not v
 not_flip b v is = grind arith

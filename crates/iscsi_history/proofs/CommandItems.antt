@@ -8,9 +8,9 @@ use Rattle.iscsi_wire.specs.declared.reply.Reply.TheVariants.{Scsi}
 use Rattle.iscsi_history.specs.rules.Trace.{Command, Mark, Trace, Admits, Arrival, entered, enters, leaves_ticket, live, live_in, is_among, are_apart, first_of, Leaves, waiting_through, sent_on}
 use Rattle.iscsi_history.specs.rules.Execution.{unfinished, reply_on, sense_of_status}
 use Rattle.iscsi_history.specs.rules.Settings.{Setting}
-use Rattle.iscsi_history.proofs.NewlyLemmas.{Untouched, live-untouched, both_all}
+use Rattle.iscsi_history.proofs.NewlyLemmas.{any_in_units as any_of_units, Untouched, live-untouched, both_all}
 use Rattle.iscsi_history.proofs.TraceLemmas.{live-leaves, weaker}
-use Rattle.iscsi_history.proofs.ListLemmas.{filter-swap, any_at, any_in_range, none_passes}
+use Rattle.iscsi_history.proofs.ListLemmas.{any_same, any_filter, filter-swap, any_at, any_in_range, none_passes}
 use Rattle.iscsi_history.proofs.BoolLemmas.{and_parts, or_false, or_none, not_true, and_true, alike, and_both, same_alike, or_second}
 use Rattle.iscsi_history.proofs.ApartLemmas.{unamong-filter, eq_sym}
 use Rattle.iscsi_history.proofs.DeliveryLemmas.{IsQuiet}
@@ -108,31 +108,9 @@ among_unit k (c ∷ cs) = ap (λ b. b || list_any (λ (d : Command). d.ticket ==
 
 -- some command passes just where one of some unit does
 pub any_in_units : (p : Command → Bool) (n : ℕ) (cs : List Command) → list_all (λ c. nat_lt c.unit n) cs ≡ true → list_any (λ unit. list_any p (filter (λ (c : Command). c.unit == unit) cs)) (range_with_len 0 n) ≡ list_any p cs
-any_in_units p n [] inside = never (range_with_len 0 n)
-  where
-    never : (us : List ℕ) → list_any (λ unit. false) us ≡ false
-    never [] = refl
-    never (u ∷ us) = never us
-any_in_units p n (x ∷ cs) inside =
-    let parts = and_parts (nat_lt x.unit n) (list_all (λ c. nat_lt c.unit n) cs) inside in
-    let here : ℕ → Bool = λ unit. list_any p (filter (λ (c : Command). c.unit == unit) (x ∷ cs)) in
-    elim (p x) as (λ b. p x ≡ b → list_any here (range_with_len 0 n) ≡ (b || list_any p cs)) [
-      | true ↦ λ is. any_at here 0 n x.unit (omega arith) (below x.unit parts.0)
-          (ap (λ b. list_any p (cond b (x ∷ filter (λ (c : Command). c.unit == x.unit) cs) (filter (λ (c : Command). c.unit == x.unit) cs))) (eq-eqb x.unit x.unit refl)
-          ∙ ap (λ b. b || list_any p (filter (λ (c : Command). c.unit == x.unit) cs)) is)
-      | false ↦ λ is. any_in_range here (λ unit. list_any p (filter (λ (c : Command). c.unit == unit) cs)) 0 n (λ unit low high. without unit is) ∙ any_in_units p n cs parts.1
-    ] refl
-  where
-    below : (u : ℕ) → nat_lt u n ≡ true → u < 0 + n
-    below u test = let lt : u < n = grind (arith, nat_tests) in omega (arith, lt)
-
-    without : (unit : ℕ) → p x ≡ false → list_any p (filter (λ (c : Command). c.unit == unit) (x ∷ cs)) ≡ list_any p (filter (λ (c : Command). c.unit == unit) cs)
-    without unit is =
-        let rest : List Command = filter (λ (c : Command). c.unit == unit) cs in
-        elim (x.unit == unit) as (λ b. list_any p (cond b (x ∷ rest) rest) ≡ list_any p rest) [
-          | true ↦ ap (λ b. b || list_any p rest) is
-          | false ↦ refl
-        ]
+any_in_units p n cs inside =
+    any_same (λ unit. list_any p (filter (λ (c : Command). c.unit == unit) cs)) (λ unit. list_any (λ d. (d.unit == unit) && p d) cs) (range_with_len 0 n) (λ unit. any_filter p (λ (c : Command). c.unit == unit) cs)
+    ∙ any_of_units n p cs inside
 
 -- ---- the marks by which commands leave
 

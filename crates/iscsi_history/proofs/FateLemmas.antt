@@ -70,11 +70,7 @@ joined t n item r v e d r' v' e' d' as' h x s i holds = grind (arith, nat_tests,
 
 -- a number whose request is gone stays as it is
 stays : (t : Trace) (n : ℕ) (item : List Mark) (v e d : Bool) → NumberIs t n true v e d None → Touch t n item → NumberIs (item ∷ t) n true v e d None
-stays t n item v e d s (NotTouched i) = grind (arith, received-item)
-stays t n item v e d s (AdmitsNow a new i) = absurd (false≢true (sym new ∙ s.received))
-stays t n item v e d s (VoidsNow new i) = absurd (false≢true (sym new ∙ s.received))
-stays t n item v e d s (EmptiesNow b there i) = absurd (none_some b (sym s.holds ∙ there))
-stays t n item v e d s (DeliversNow b there i) = absurd (none_some b (sym s.holds ∙ there))
+stays t n item v e d s touch = grind (arith, received-item)
 
 next_fate : (t : Trace) (n : ℕ) (item : List Mark) → Fate t n → Touch t n item → Fate (item ∷ t) n
 next_fate t n item (Unreceived s) (NotTouched i) = Unreceived (joined t n item false false false false false false false false [] None None s i (held-kept t n item i.emptied i.delivered i.admits ∙ s.holds))

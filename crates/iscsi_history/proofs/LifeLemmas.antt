@@ -11,14 +11,11 @@ use Rattle.iscsi_history.specs.rules.Trace.{Command, Mark, Trace, enters, entere
 use Rattle.iscsi_history.specs.rules.Run.{newly_enabled}
 use Rattle.iscsi_history.proofs.DeliveryLemmas.{range_more}
 use Rattle.iscsi_history.proofs.Forms.{Each, HasForm, HaveForms}
+use Rattle.iscsi_history.proofs.ListLemmas.{filter-swap}
 use Rattle.iscsi_history.proofs.DeedLemmas.{to_list}
 use Rattle.iscsi_history.proofs.TouchLemmas.{mine, entering_in, enters_form, EntersNext, entering_next}
 
 -- ---- lists of commands
-
-pub filter-swap : (p q : Command → Bool) (cs : List Command) → filter p (filter q cs) ≡ filter q (filter p cs)
-filter-swap p q [] = refl
-filter-swap p q (c ∷ cs) = grind (arith, filter-swap p q cs)
 
 -- no command has the ticket just where none is among them
 pub mine-none : (k : ℕ) (cs : List Command) → is_among k cs ≡ false → mine k cs ≡ []

@@ -14,6 +14,7 @@ use Rattle.iscsi_history.specs.rules.Run.{effects_of_mark, newly_enabled, effect
 use Rattle.iscsi_history.specs.promises.Enabling.{effects_so_far, effects_in}
 use Rattle.iscsi_history.specs.promises.Lives.{ticket_entered, tickets_entered, life_of, is_life, StartsOnce}
 use Rattle.iscsi_history.proofs.ElementLemmas.{In, in-filter}
+use Rattle.iscsi_history.proofs.ListLemmas.{filter-swap}
 use Rattle.iscsi_history.proofs.TraceLemmas.{live-item}
 use Rattle.iscsi_history.proofs.NewlyLemmas.{never_free}
 use Rattle.iscsi_history.proofs.MomentLemmas.{log_effects}
@@ -21,7 +22,7 @@ use Rattle.iscsi_history.proofs.Forms.{Form, marks_of_form, Each, IsFormed, HasF
 use Rattle.iscsi_history.proofs.FormRuns.{trace_has_forms}
 use Rattle.iscsi_history.proofs.DeedLemmas.{to_list}
 use Rattle.iscsi_history.proofs.TouchLemmas.{mine, leave_effect, enter_effect, enable_effect, leaving_in, entering_in, enters_form, leaves_form, life_item, leaving_few, EntersNext, entering_next}
-use Rattle.iscsi_history.proofs.LifeLemmas.{filter-swap, mine-none, among-mine, count-mine, tickets_count, beyond_entered, newly_none, newly_one}
+use Rattle.iscsi_history.proofs.LifeLemmas.{mine-none, among-mine, count-mine, tickets_count, beyond_entered, newly_none, newly_one}
 
 -- ---- the state of a ticket
 

@@ -14,6 +14,7 @@ use Rattle.iscsi_history.proofs.BoolLemmas.{and_parts, and_both, or_none, not_tr
 use Rattle.iscsi_history.proofs.ApartLemmas.{unamong-filter}
 use Rattle.iscsi_history.proofs.TraceLemmas.{all_among, live-quiet}
 use Rattle.iscsi_history.proofs.ListLemmas.{all_of_filter, any_filter, any_flat_map, any_same}
+use Rattle.iscsi_history.proofs.DeedLemmas.{any-none}
 use Rattle.iscsi_history.proofs.MomentLemmas.{free_now}
 
 pub filter_all : {A : Type 0} (f g : A → Bool) (p : A → Bool) (xs : List A) → list_all p xs ≡ true → ((x : A) → p x ≡ true → f x ≡ g x) → filter f xs ≡ filter g xs
@@ -115,17 +116,13 @@ any_or f g h (x ∷ xs) same = grind (arith, any_or f g h xs)
 
 -- ---- what an item enables, of all units
 
-any_never : {A : Type 0} (xs : List A) → list_any (λ x. false) xs ≡ false
-any_never [] = refl
-any_never (x ∷ xs) = any_never xs
-
 -- some unit is that of the command, where it is one of the session's
 unit_among : (n from unit : ℕ) → from ≤ unit → unit < from + n → list_any (λ u. unit == u) (range_with_len from n) ≡ true
 unit_among zero from unit low high = absurd (omega arith)
 unit_among (suc n) from unit low high = grind (arith, unit_among n (from + 1) unit)
 
-any_in_units : (n : ℕ) (g : Command → Bool) (cs : List Command) → list_all (λ d. nat_lt d.unit n) cs ≡ true → list_any (λ u. list_any (λ d. (d.unit == u) && g d) cs) (range_with_len 0 n) ≡ list_any g cs
-any_in_units n g [] all = any_never (range_with_len 0 n)
+pub any_in_units : (n : ℕ) (g : Command → Bool) (cs : List Command) → list_all (λ d. nat_lt d.unit n) cs ≡ true → list_any (λ u. list_any (λ d. (d.unit == u) && g d) cs) (range_with_len 0 n) ≡ list_any g cs
+any_in_units n g [] all = any-none (range_with_len 0 n)
 any_in_units n g (x ∷ cs) all =
     let parts = and_parts (nat_lt x.unit n) (list_all (λ d. nat_lt d.unit n) cs) all in
     let inside : x.unit < 0 + n = below x.unit parts.0 in
@@ -138,7 +135,7 @@ any_in_units n g (x ∷ cs) all =
 
     either : (b : Bool) (us : List ℕ) → list_any (λ u. x.unit == u) us ≡ true → list_any (λ u. (x.unit == u) && b) us ≡ b
     either true us h = any_same (λ u. (x.unit == u) && true) (λ u. x.unit == u) us (λ u. and_true (x.unit == u)) ∙ h
-    either false us h = any_same (λ u. (x.unit == u) && false) (λ u. false) us (λ u. and_false (x.unit == u)) ∙ any_never us
+    either false us h = any_same (λ u. (x.unit == u) && false) (λ u. false) us (λ u. and_false (x.unit == u)) ∙ any-none us
 
 pub was_or_new : (item : List Mark) (t : Trace) (d : Command) → was_free d (item ∷ t) ≡ (was_free d t || is_new item t d)
 was_or_new item t d = grind arith
