@@ -2,6 +2,7 @@
 use Rattle.std.proofs.Common.{arith, List, false, ℕ, ◌≡◌, ap, ◌||◌, ◌∙◌, ◌∷◌, [], sym, ◌&&◌, ◌==◌, cond, filter, map, refl, true, ◌++◌, None, Option, Some, Bool, not}
 use Rattle.std.specs.List.{list_any, flat_map, filter_map, list_all}
 use Rattle.iscsi_wire.specs.Serial.{wire}
+use Rattle.iscsi_history.proofs.DeedLemmas.{views, tests}
 use Rattle.iscsi_history.specs.rules.Trace.{Mark, closes_conn, closes_session, Trace, has, is_closed, is_ended, Arrival, Empties, ClosesConn, ClosesSession, sent_on, Command, Leaves, waiting_through}
 use Rattle.iscsi_history.specs.rules.Settings.{Setting, is_known}
 use Rattle.iscsi_history.specs.rules.Logout.{is_open, is_last_open, parting}
@@ -33,8 +34,7 @@ all_open o (c ∷ cs) within = grind (arith, all_open o cs)
 -- ---- the marks of a Logout
 
 pub untouched-emptied : (as' : List Arrival) → Untouched (map Empties as')
-untouched-emptied [] = record { enters_none = refl; leaves_no = λ k. refl }
-untouched-emptied (a ∷ as') = let rest : Untouched (map Empties as') = untouched-emptied as' in record { enters_none = rest.enters_none; leaves_no = rest.leaves_no }
+untouched-emptied as' = record { enters_none = simp views; leaves_no = λ k. simp tests }
 
 -- what follows those that are taken out
 abbrev pub closing_marks : Setting → Trace → Arrival → Option ℕ → List Mark
@@ -52,12 +52,10 @@ quiet-closing o t a scope = grind arith
 -- ---- lists of such marks
 
 pub emptied_sends : (hs : List Arrival) (rest : List Mark) → filter_map sent_on (map Empties hs ++ rest) ≡ filter_map sent_on rest
-emptied_sends [] rest = refl
-emptied_sends (h ∷ hs) rest = emptied_sends hs rest
+emptied_sends hs rest = simp views
 
 pub left_sends : (cs : List Command) (rest : List Mark) → filter_map sent_on (map Leaves cs ++ rest) ≡ filter_map sent_on rest
-left_sends [] rest = refl
-left_sends (c ∷ cs) rest = left_sends cs rest
+left_sends cs rest = simp views
 
 pub emptied_waits : (hs : List Arrival) (rest : List Mark) (ws : List Arrival) → waiting_through (map Empties hs ++ rest) ws ≡ waiting_through rest ws
 emptied_waits [] rest ws = refl
@@ -76,12 +74,10 @@ left_shown o t [] rest = refl
 left_shown o t (c ∷ cs) rest = ap (λ es. Leave c.ticket c.unit ∷ es) (left_shown o t cs rest)
 
 pub emptied_any : (test : Mark → Bool) (hs : List Arrival) (rest : List Mark) → ((h : Arrival) → test (Empties h) ≡ false) → list_any test (map Empties hs ++ rest) ≡ list_any test rest
-emptied_any test [] rest none = refl
-emptied_any test (h ∷ hs) rest none = ap (λ b. b || list_any test (map Empties hs ++ rest)) (none h) ∙ emptied_any test hs rest none
+emptied_any test hs rest none = simp (tests, none)
 
 pub left_any : (test : Mark → Bool) (cs : List Command) (rest : List Mark) → ((c : Command) → test (Leaves c) ≡ false) → list_any test (map Leaves cs ++ rest) ≡ list_any test rest
-left_any test [] rest none = refl
-left_any test (c ∷ cs) rest none = ap (λ b. b || list_any test (map Leaves cs ++ rest)) (none c) ∙ left_any test cs rest none
+left_any test cs rest none = simp (tests, none)
 
 -- ---- what is open afterwards
 

@@ -5,6 +5,8 @@ use Rattle.std.proofs.lemmas.List.{append-nil}
 use Rattle.std.proofs.lemmas.Bool.{eqb-true, false≢true}
 use Rattle.iscsi_wire.specs.Fields.{is_immediate, connection_of, itt}
 use Rattle.iscsi_wire.specs.declared.reply.Reply.TheVariants.{Scsi}
+use Rattle.iscsi_history.proofs.ListLemmas.{none_left}
+use Rattle.iscsi_history.proofs.DeedLemmas.{views, tests}
 use Rattle.iscsi_history.specs.rules.Trace.{Command, Mark, Trace, Admits, Arrival, entered, enters, leaves_ticket, live, live_in, is_among, are_apart, first_of, Leaves, waiting_through, sent_on}
 use Rattle.iscsi_history.specs.rules.Execution.{unfinished, reply_on, sense_of_status}
 use Rattle.iscsi_history.specs.rules.Settings.{Setting}
@@ -115,38 +117,31 @@ any_in_units p n cs inside =
 -- ---- the marks by which commands leave
 
 pub leaves_only : (cs : List Command) (ms : List Mark) (k : ℕ) → list_any (leaves_ticket k) (map Leaves cs ++ ms) ≡ (is_among k cs || list_any (leaves_ticket k) ms)
-leaves_only [] ms k = refl
-leaves_only (c ∷ cs) ms k = grind (arith, leaves_only cs ms k)
+leaves_only cs ms k = simp tests
 
 pub enters_only : (cs : List Command) (ms : List Mark) → filter_map enters (map Leaves cs ++ ms) ≡ filter_map enters ms
-enters_only [] ms = refl
-enters_only (c ∷ cs) ms = enters_only cs ms
+enters_only cs ms = simp views
 
 -- ---- commands leave, and a function is answered
 
 pub quiet-leaving : (cs : List Command) (a : Arrival) (reply : Reply) → IsQuiet (map Leaves cs ++ reply_on a reply)
-quiet-leaving [] a reply = record { receives = refl; admits = λ n. refl; delivers_none = refl; delivers_no = λ n. refl; empties_no = λ n. refl }
-quiet-leaving (c ∷ cs) a reply = grind (arith, quiet-leaving cs a reply)
+quiet-leaving cs a reply = record { receives = simp views; admits = λ n. simp views; delivers_none = simp views; delivers_no = λ n. simp tests; empties_no = λ n. simp tests }
 
 pub leaving-enters : (cs : List Command) (a : Arrival) (reply : Reply) → filter_map enters (map Leaves cs ++ reply_on a reply) ≡ []
-leaving-enters [] a reply = refl
-leaving-enters (c ∷ cs) a reply = leaving-enters cs a reply
+leaving-enters cs a reply = simp views
 
 pub leaving-calm : (cs : List Command) (a : Arrival) (reply : Reply) (ws : List Arrival) → waiting_through (map Leaves cs ++ reply_on a reply) ws ≡ ws
 leaving-calm [] a reply ws = refl
 leaving-calm (c ∷ cs) a reply ws = leaving-calm cs a reply ws
 
 pub leaving-closes : (cs : List Command) (a : Arrival) (reply : Reply) → ClosesNone (map Leaves cs ++ reply_on a reply)
-leaving-closes [] a reply = record { session = refl; conns = λ c. refl }
-leaving-closes (c ∷ cs) a reply = let none : ClosesNone (map Leaves cs ++ reply_on a reply) = leaving-closes cs a reply in record { session = none.session; conns = λ k. none.conns k }
+leaving-closes cs a reply = record { session = simp tests; conns = λ c. simp tests }
 
 pub leaving-sends : (cs : List Command) (a : Arrival) (reply : Reply) → filter_map sent_on (map Leaves cs ++ reply_on a reply) ≡ connection_of a.request ∷ []
-leaving-sends [] a reply = refl
-leaving-sends (c ∷ cs) a reply = leaving-sends cs a reply
+leaving-sends cs a reply = simp views
 
 pub leaving-tickets : (cs : List Command) (a : Arrival) (reply : Reply) (k : ℕ) → list_any (leaves_ticket k) (map Leaves cs ++ reply_on a reply) ≡ is_among k cs
-leaving-tickets [] a reply k = refl
-leaving-tickets (c ∷ cs) a reply k = ap (λ b. (c.ticket == k) || b) (leaving-tickets cs a reply k)
+leaving-tickets cs a reply k = simp tests
 
 pub leaving-shown : (o : Setting) (t : Trace) (cs : List Command) (a : Arrival) (reply : Reply)
     → flat_map (effects_of_mark o t) (map Leaves cs ++ reply_on a reply) ≡ map (λ (c : Command). Leave c.ticket c.unit) cs ++ Send (connection_of a.request) (stat_sn_of o t (connection_of a.request)) reply ∷ []
@@ -186,7 +181,7 @@ ticket_alone q (x ∷ cs) c apart found =
       | true ↦ λ here.
           let same : x ≡ c = cc in
           subst (λ (d : Command). (filter (λ e. e.ticket == d.ticket) (x ∷ cs) ≡ d ∷ []) × (is_among d.ticket (x ∷ cs) ≡ true)) same
-          (ap (λ b. cond b (x ∷ filter (λ e. e.ticket == x.ticket) cs) (filter (λ e. e.ticket == x.ticket) cs)) (eq-eqb x.ticket x.ticket refl) ∙ ap (λ ds. x ∷ ds) (none_with x.ticket cs gone), ap (λ b. b || is_among x.ticket cs) (eq-eqb x.ticket x.ticket refl))
+          (ap (λ b. cond b (x ∷ filter (λ e. e.ticket == x.ticket) cs) (filter (λ e. e.ticket == x.ticket) cs)) (eq-eqb x.ticket x.ticket refl) ∙ ap (λ ds. x ∷ ds) (none_left (λ (e : Command). e.ticket == x.ticket) cs gone), ap (λ b. b || is_among x.ticket cs) (eq-eqb x.ticket x.ticket refl))
       | false ↦ λ later.
           let rest = ticket_alone q cs c parts.1 later in
           let other : (x.ticket == c.ticket) ≡ false =
@@ -196,9 +191,3 @@ ticket_alone q (x ∷ cs) c apart found =
           ] refl in
           (ap (λ b. cond b (x ∷ filter (λ e. e.ticket == c.ticket) cs) (filter (λ e. e.ticket == c.ticket) cs)) other ∙ rest.0, or_second (x.ticket == c.ticket) (is_among c.ticket cs) rest.1)
     ] found
-  where
-    none_with : (k : ℕ) (ds : List Command) → is_among k ds ≡ false → filter (λ e. e.ticket == k) ds ≡ []
-    none_with k [] h = refl
-    none_with k (d ∷ ds) h =
-        let parts = or_none (d.ticket == k) (is_among k ds) h in
-        ap (λ b. cond b (d ∷ filter (λ e. e.ticket == k) ds) (filter (λ e. e.ticket == k) ds)) parts.0 ∙ none_with k ds parts.1

@@ -4,6 +4,7 @@ use Rattle.std.proofs.lemmas.Bool.Decides.{nat_tests}
 use Rattle.std.specs.List.{filter_map, list_any, cons_option, range_with_len}
 use Rattle.std.proofs.lemmas.List.{append-nil}
 use Rattle.std.proofs.lemmas.Grind.{flat_map-append}
+use Rattle.iscsi_history.proofs.DeedLemmas.{views, tests}
 use Rattle.iscsi_history.specs.rules.Trace.{Arrival, Executes, Mark, Trace, admits_at, delivers_number, empties_number, number_received, Voids, Empties, admitted, contains, first_of, held, is_delivered, is_emptied, is_received, shown, received, Command, Leaves, Enters, Sends, held_among, has}
 use Rattle.iscsi_wire.specs.declared.reply.Reply.{Reply}
 use Rattle.iscsi_history.specs.promises.Executed.{delivers, request_at}
@@ -36,13 +37,17 @@ pub record VoidsOne (item : List Mark) (n : ℕ) : Type 0 where
   pub delivers_no : (k : ℕ) → list_any (delivers_number k) item ≡ false
   pub empties_no : (k : ℕ) → list_any (empties_number k) item ≡ false
 
--- an item that empties this number alone, and receives, admits and delivers nothing
-pub record EmptiesOne (item : List Mark) (n : ℕ) : Type 0 where
+-- an item that empties these numbers, and receives, admits and delivers nothing
+pub record EmptiesThese (item : List Mark) (out : ℕ → Bool) : Type 0 where
   pub receives : filter_map number_received item ≡ []
   pub admits : (k : ℕ) → filter_map (admits_at k) item ≡ []
   pub delivers_none : filter_map delivers item ≡ []
   pub delivers_no : (k : ℕ) → list_any (delivers_number k) item ≡ false
-  pub empties : (k : ℕ) → list_any (empties_number k) item ≡ (n == k)
+  pub empties : (k : ℕ) → list_any (empties_number k) item ≡ out k
+
+-- this number alone
+abbrev pub EmptiesOne : List Mark → ℕ → Type 0
+EmptiesOne item n = EmptiesThese item (λ k. n == k)
 
 pub voids-one : (m : Mark) (n : ℕ) (ms : List Mark) → IsQuiet (m ∷ []) → IsQuiet ms → VoidsOne (m ∷ Voids n ∷ ms) n
 voids-one m n ms q qs = record {
@@ -103,30 +108,19 @@ module _ (item : List Mark) (t : Trace) (n : ℕ) (v : EmptiesOne item n) where
 
 -- ---- requests are taken out together
 
--- an item that empties these numbers, and receives, admits and delivers nothing
-pub record EmptiesThese (item : List Mark) (out : ℕ → Bool) : Type 0 where
-  pub receives : filter_map number_received item ≡ []
-  pub admits : (k : ℕ) → filter_map (admits_at k) item ≡ []
-  pub delivers_none : filter_map delivers item ≡ []
-  pub delivers_no : (k : ℕ) → list_any (delivers_number k) item ≡ false
-  pub empties : (k : ℕ) → list_any (empties_number k) item ≡ out k
-
 -- some of these requests has the number
 abbrev pub is_number_of : List Arrival → ℕ → Bool
 is_number_of hs n = list_any (λ (a : Arrival). a.number == n) hs
 
-empties-held : (hs : List Arrival) (rest : List Mark) → IsQuiet rest → EmptiesThese (map Empties hs ++ rest) (is_number_of hs)
-empties-held [] rest q = record { receives = q.receives; admits = q.admits; delivers_none = q.delivers_none; delivers_no = q.delivers_no; empties = q.empties_no }
-empties-held (h ∷ hs) rest q =
-    let e : EmptiesThese (map Empties hs ++ rest) (is_number_of hs) = empties-held hs rest q in
-    record { receives = e.receives; admits = e.admits; delivers_none = e.delivers_none; delivers_no = e.delivers_no; empties = λ k. ap (λ b. (h.number == k) || b) (e.empties k) }
-
 -- commands leave, requests are taken out, and quiet marks follow
 pub empties-these : (cs : List Command) (hs : List Arrival) (rest : List Mark) → IsQuiet rest → EmptiesThese ((map Leaves cs ++ map Empties hs) ++ rest) (is_number_of hs)
-empties-these [] hs rest q = empties-held hs rest q
-empties-these (c ∷ cs) hs rest q =
-    let e : EmptiesThese ((map Leaves cs ++ map Empties hs) ++ rest) (is_number_of hs) = empties-these cs hs rest q in
-    record { receives = e.receives; admits = e.admits; delivers_none = e.delivers_none; delivers_no = e.delivers_no; empties = e.empties }
+empties-these cs hs rest q = record {
+  receives = simp (views, q.receives);
+  admits = λ k. simp (views, q.admits k);
+  delivers_none = simp (views, q.delivers_none);
+  delivers_no = λ k. simp (tests, q.delivers_no k);
+  empties = λ k. simp (tests, q.empties_no k);
+}
 
 -- ---- the requests that are held at the numbers of a range
 

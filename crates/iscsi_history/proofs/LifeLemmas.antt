@@ -6,6 +6,7 @@ use Rattle.std.proofs.lemmas.Bool.Decides.{nat_tests}
 use Rattle.std.proofs.lemmas.List.{append-nil, map-append}
 use Rattle.std.proofs.lemmas.List.Elements.{filter-append}
 use Rattle.std.proofs.lemmas.List.Sums.{sum_by-cons}
+use Rattle.iscsi_history.proofs.ListLemmas.{none_left}
 use Rattle.iscsi_history.specs.rules.Settings.{Setting}
 use Rattle.iscsi_history.specs.rules.Trace.{Command, Mark, Trace, enters, entered, live, is_among, was_free}
 use Rattle.iscsi_history.specs.rules.Run.{newly_enabled}
@@ -19,8 +20,7 @@ use Rattle.iscsi_history.proofs.TouchLemmas.{mine, entering_in, enters_form, Ent
 
 -- no command has the ticket just where none is among them
 pub mine-none : (k : ℕ) (cs : List Command) → is_among k cs ≡ false → mine k cs ≡ []
-mine-none k [] h = refl
-mine-none k (c ∷ cs) h = grind (arith, mine-none k cs)
+mine-none k cs h = none_left (λ (c : Command). c.ticket == k) cs h
 
 pub among-mine : (k : ℕ) (cs : List Command) → mine k cs ≡ [] → is_among k cs ≡ false
 among-mine k [] h = refl

@@ -1,7 +1,7 @@
 -- What a log shows of each ticket is a life.
 use Rattle.std.proofs.Common.{◌≡◌, ℕ, ◌+◌, ◌<◌, ◌≤◌, ◌==◌, ◌&&◌, ◌||◌, ◌⊎◌, inl, inr, not, ⊎_elim, cond, Bool, true, false, List, [], ◌∷◌, ◌++◌, map, filter, length, count_by, Option, Some, None, refl, ap, sym, subst, ◌∙◌, arith, eq-eqb, length-append}
 use Rattle.std.specs.List.{list_any, filter_map, flat_map, range_with_len}
-use Rattle.std.proofs.lemmas.Bool.{eqb-true}
+use Rattle.std.proofs.lemmas.Bool.{eqb-true, false_from_ne_true, false≢true}
 use Rattle.std.proofs.lemmas.Bool.Decides.{nat_tests}
 use Rattle.std.proofs.lemmas.List.{append-nil, length-map, map-append}
 use Rattle.std.proofs.lemmas.List.Elements.{filter-append, filter_map-append}
@@ -21,7 +21,7 @@ use Rattle.iscsi_history.proofs.MomentLemmas.{log_effects}
 use Rattle.iscsi_history.proofs.Forms.{Form, marks_of_form, Each, IsFormed, HasForm, HaveForms}
 use Rattle.iscsi_history.proofs.FormRuns.{trace_has_forms}
 use Rattle.iscsi_history.proofs.DeedLemmas.{to_list}
-use Rattle.iscsi_history.proofs.TouchLemmas.{mine, leave_effect, enter_effect, enable_effect, leaving_in, entering_in, enters_form, leaves_form, life_item, leaving_few, EntersNext, entering_next}
+use Rattle.iscsi_history.proofs.TouchLemmas.{mine, leave_effect, enter_effect, enable_effect, leaving_in, entering_in, enters_form, leaves_form, life_item, leaving_few, leaving_live, EntersNext, entering_next}
 use Rattle.iscsi_history.proofs.LifeLemmas.{mine-none, among-mine, count-mine, tickets_count, beyond_entered, newly_none, newly_one}
 
 -- ---- the state of a ticket
@@ -87,14 +87,8 @@ module _ (o : Setting) (now : ℕ) (t : Trace) (next : ℕ) (x : HaveForms o nex
   -- nothing of it is live: nothing leaves, and nothing becomes enabled
   unlive_leaving : mine k (live t) ≡ [] → mine k (leaving_in form) ≡ []
   unlive_leaving none =
-      let live_none : count_by (λ c. c.ticket == k && true) (live t) ≡ 0 = count-mine (λ c. true) k (live t) ∙ ap (count_by (λ c. true)) none in
-      let few : count_by (λ c. c.ticket == k && true) (leaving_in form) ≤ count_by (λ c. c.ticket == k && true) (live t) = leaving_few o now t form formed (λ c. c.ticket == k && true) in
-      let counted : count_by (λ c. true) (mine k (leaving_in form)) ≤ 0 = omega (arith, few, live_none, count-mine (λ c. true) k (leaving_in form)) in
-      nothing (mine k (leaving_in form)) counted
-    where
-      nothing : (cs : List Command) → count_by (λ c. true) cs ≤ 0 → cs ≡ []
-      nothing [] h = refl
-      nothing (c ∷ cs) h = absurd (let all : count_by (λ d. true) (c ∷ cs) ≡ 1 + count_by (λ d. true) cs = sum_by-cons (λ d. 1) c cs in let z : ⊥ = omega arith in z)
+      let here : Bool = is_among k (leaving_in form) in
+      mine-none k (leaving_in form) (false_from_ne_true here (λ h. false≢true (sym (among-mine k (live t) none) ∙ leaving_live o now t form formed k (leaves_form k form ∙ h))))
 
   unlive_after : mine k (live t) ≡ [] → mine k (to_list (entering_in form)) ≡ [] → mine k (live (marks_of_form form ∷ t)) ≡ []
   unlive_after unlive none = live_unentered none ∙ ap (filter (λ c. not (list_any (leaves_ticket c.ticket) (marks_of_form form)))) unlive

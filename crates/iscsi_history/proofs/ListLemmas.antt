@@ -149,6 +149,10 @@ pub map-flat_map : {A B C : Type 0} (g : B → C) (f : A → List B) (xs : List 
 map-flat_map g f [] = refl
 map-flat_map g f (x ∷ xs) = map-append g (f x) (flat_map f xs) ∙ ap (λ ys. map g (f x) ++ ys) (map-flat_map g f xs)
 
+pub none_left : {A : Type 0} (p : A → Bool) (xs : List A) → list_any p xs ≡ false → filter p xs ≡ []
+none_left p [] none = refl
+none_left p (x ∷ xs) none = grind (arith, none_left p xs)
+
 pub none_out : {A : Type 0} (p : A → Bool) (xs : List A) → list_any p xs ≡ false → filter (λ x. not (p x)) xs ≡ xs
 none_out p [] none = refl
 none_out p (x ∷ xs) none = grind (arith, none_out p xs)

@@ -7,6 +7,7 @@ use Rattle.std.proofs.lemmas.List.Sums.{sum_by-cons}
 use Rattle.iscsi_tasks.specs.declared.member.Member.{Member}
 use Rattle.iscsi_tasks.specs.Sets.{given_in, is_new, after_moment, looked_at, Members, left_by, tasks_in, with_ticket, opened as opened_set}
 use Rattle.iscsi_tasks.specs.declared.task.Task.{Task}
+use Rattle.iscsi_history.proofs.ListLemmas.{none_left}
 use Rattle.iscsi_history.proofs.ListLemmas.{map-map, filter-map, find-found}
 use Rattle.iscsi_history.proofs.BoolLemmas.{or_false, and_parts, and_false}
 use Rattle.iscsi_history.proofs.ApartLemmas.{eq_sym}
@@ -53,8 +54,7 @@ ungiven_given (m ∷ ms) =
 -- ---- nothing is left to leave
 
 pub none_filtered : (q : Member → Bool) (ms : List Member) → list_any q ms ≡ false → filter q ms ≡ []
-none_filtered q [] h = refl
-none_filtered q (x ∷ ms) h = grind (arith, none_filtered q ms)
+none_filtered q ms h = none_left q ms h
 
 -- ---- tickets go up along a set
 
