@@ -1,7 +1,7 @@
 -- Each item fits in where it stands.
 use Rattle.std.proofs.Common.{◌≡◌, ℕ, ◌<◌, ◌≤◌, ◌==◌, ◌&&◌, not, Bool, true, false, List, [], ◌∷◌, ◌++◌, filter, Some, None, refl, ap, sym, subst, ◌∙◌, arith}
 use Rattle.std.specs.List.{list_any, filter_map}
-use Rattle.std.proofs.lemmas.Bool.{false≢true, eqb-true, or_cases}
+use Rattle.std.proofs.lemmas.Bool.{false≢true, eqb-true, or_cases, false_from_ne_true}
 use Rattle.std.proofs.lemmas.Bool.Decides.{nat_tests}
 use Rattle.iscsi_wire.specs.declared.request.Request.{Request}
 use Rattle.iscsi_wire.specs.Fields.{function}
@@ -38,11 +38,7 @@ touched_received t n item touch there = grind arith
 
 -- a number that is voided never admitted a request
 touched_voided : (t : Trace) (n : ℕ) (item : List Mark) → Touch t n item → list_any (voids_number n) item ≡ true → shown (admits_at n) (item ∷ t) ≡ []
-touched_voided t n item (NotTouched i) now = absurd (false≢true (sym i.voided ∙ now))
-touched_voided t n item (AdmitsNow a new i) now = absurd (false≢true (sym i.voided ∙ now))
-touched_voided t n item (VoidsNow new i) now = ap (λ as'. as' ++ filter_map (admits_at n) item) (unadmitted n t new) ∙ i.admits
-touched_voided t n item (EmptiesNow b there i) now = absurd (false≢true (sym i.voided ∙ now))
-touched_voided t n item (DeliversNow b there i) now = absurd (false≢true (sym i.voided ∙ now))
+touched_voided t n item touch now = grind (arith, unadmitted n t)
 
 -- ---- what an abort of a whole set covers, leaves
 
@@ -120,7 +116,7 @@ module _ (o : Setting) (now p : ℕ) (t : Trace) where
   form_fits form x at =
       let item : List Mark = marks_of_form form in
       record {
-        leaves = λ k gone. elim (list_any (leaves_ticket k) item) as (λ b. list_any (leaves_ticket k) item ≡ b → b ≡ false) [ true ↦ λ is. absurd (false≢true (sym gone ∙ leaving_live o now t form x k is)) | false ↦ λ is. refl ] refl;
+        leaves = λ k gone. false_from_ne_true (list_any (leaves_ticket k) item) (λ is. false≢true (sym gone ∙ leaving_live o now t form x k is));
         delivers_held = λ n none. touched_unheld t n item (touch_form o now t n form x) none;
         delivers_on = λ n lt. delivers_form n form ∙ delivers_here form at n lt;
         admits = λ n there. touched_received t n item (touch_form o now t n form x) there;

@@ -174,20 +174,4 @@ among_passing q (x ∷ cs) apart =
 -- no other command has the ticket of the first that passes
 pub ticket_alone : (q : Command → Bool) (cs : List Command) (c : Command) → are_apart cs ≡ true → first_of (filter q cs) ≡ Some c → (filter (λ d. d.ticket == c.ticket) cs ≡ c ∷ []) × (is_among c.ticket cs ≡ true)
 ticket_alone q [] c apart found = absurd cc
-ticket_alone q (x ∷ cs) c apart found =
-    let parts = and_parts (not (is_among x.ticket cs)) (are_apart cs) apart in
-    let gone : is_among x.ticket cs ≡ false = not_true (is_among x.ticket cs) parts.0 in
-    elim (q x) as (λ b. first_of (cond b (x ∷ filter q cs) (filter q cs)) ≡ Some c → (filter (λ d. d.ticket == c.ticket) (x ∷ cs) ≡ c ∷ []) × (is_among c.ticket (x ∷ cs) ≡ true)) [
-      | true ↦ λ here.
-          let same : x ≡ c = cc in
-          subst (λ (d : Command). (filter (λ e. e.ticket == d.ticket) (x ∷ cs) ≡ d ∷ []) × (is_among d.ticket (x ∷ cs) ≡ true)) same
-          (ap (λ b. cond b (x ∷ filter (λ e. e.ticket == x.ticket) cs) (filter (λ e. e.ticket == x.ticket) cs)) (eq-eqb x.ticket x.ticket refl) ∙ ap (λ ds. x ∷ ds) (none_left (λ (e : Command). e.ticket == x.ticket) cs gone), ap (λ b. b || is_among x.ticket cs) (eq-eqb x.ticket x.ticket refl))
-      | false ↦ λ later.
-          let rest = ticket_alone q cs c parts.1 later in
-          let other : (x.ticket == c.ticket) ≡ false =
-          elim (x.ticket == c.ticket) as (λ b. (x.ticket == c.ticket) ≡ b → b ≡ false) [
-            | true ↦ λ is. absurd (false≢true (sym gone ∙ ap (λ k. is_among k cs) (eqb-true x.ticket c.ticket is) ∙ rest.1))
-            | false ↦ λ is. refl
-          ] refl in
-          (ap (λ b. cond b (x ∷ filter (λ e. e.ticket == c.ticket) cs) (filter (λ e. e.ticket == c.ticket) cs)) other ∙ rest.0, or_second (x.ticket == c.ticket) (is_among c.ticket cs) rest.1)
-    ] found
+ticket_alone q (x ∷ cs) c apart found = grind (arith, nat_tests, ticket_alone q cs c, none_left (λ e. e.ticket == x.ticket) cs)

@@ -109,8 +109,7 @@ pub done_at : (n : ℕ) (a : Arrival) (d : Deeds) → ItemAt n (marks_done a d) 
 done_at n a d = record { receives = simp (views, tests); voided = simp tests; emptied = simp tests; delivered = simp tests; admits = simp views }
 
 pub executed_at : (n : ℕ) (start : Start) (a : Arrival) (d : Deeds) → ItemAt n (start_mark start a ∷ marks_done a d) (void_at n d) (void_at n d) (emptied_at n d) (delivered_at n start a) []
-executed_at n AtTurn a d = record { receives = (done_at n a d).receives; voided = (done_at n a d).voided; emptied = (done_at n a d).emptied; delivered = ap (λ b. (a.number == n) || b) (done_at n a d).delivered; admits = (done_at n a d).admits }
-executed_at n start a d = record { receives = (done_at n a d).receives; voided = (done_at n a d).voided; emptied = (done_at n a d).emptied; delivered = (done_at n a d).delivered; admits = (done_at n a d).admits }
+executed_at n start a d = grind (arith, done_at n a d)
 
 -- ---- where they may be
 

@@ -1,6 +1,6 @@
 -- In the trace of a list of events each item has a form, and stands where it is due: the one walk over the agenda.
 use Rattle.std.proofs.Common.{◌≡◌, ℕ, zero, suc, ◌+◌, ◌-◌, ◌<◌, ◌≤◌, ◌==◌, ◌&&◌, ◌||◌, inl, inr, not, cond, Bool, true, false, List, [], ◌∷◌, ◌++◌, filter, length, Option, Some, None, refl, ap, sym, subst, ◌∙◌, arith, nat_lt, nat_le}
-use Rattle.std.proofs.lemmas.Bool.{eqb-true, false≢true}
+use Rattle.std.proofs.lemmas.Bool.{eqb-true, false≢true, cond_both}
 use Rattle.std.proofs.lemmas.Bool.Decides.{nat_tests}
 use Rattle.iscsi_wire.specs.Fields.{connection_of, function, header_of, is_immediate, opcode, itt, request_of}
 use Rattle.iscsi_wire.specs.declared.reply.Reply.{Reply}
@@ -127,20 +127,12 @@ module _ (Q : Trace → Arrival → Type 0) (o : Setting) (now : ℕ) where
 
   numbered_stands : (t : Trace) (a : Arrival) → a.event ≡ now → Q t a → TurnsOf t (numbered o t a)
   numbered_stands t a here q =
-      elim (nat_lt a.number (exp_of o t) || nat_lt (max_of o t) a.number) as (λ b. (nat_lt a.number (exp_of o t) || nat_lt (max_of o t) a.number) ≡ b
-      → TurnsOf t (cond b (ignored Outside) (cond (is_received t a.number) (ignored Duplicate) (with_turns o t (Admits a ∷ []))))) [
-        | true ↦ λ outside. ignored_stands t Outside
-        | false ↦ λ outside. elim (is_received t a.number) as (λ b. is_received t a.number ≡ b → TurnsOf t (cond b (ignored Duplicate) (with_turns o t (Admits a ∷ [])))) [
-          | true ↦ λ is. ignored_stands t Duplicate
-          | false ↦ λ is.
-              let tests = or_none (nat_lt a.number (exp_of o t)) (nat_lt (max_of o t) a.number) outside in
-              let below : nat_lt a.number (exp_of o t) ≡ false = tests.0 in
-              let above : nat_lt (max_of o t) a.number ≡ false = tests.1 in
-              let low : exp_of o t ≤ a.number = grind (arith, nat_tests) in
-              let high : a.number ≤ max_of o t = grind (arith, nat_tests) in
-              turns_stand t (Admits a ∷ []) (record { has = record { form = Received a; is = refl; formed = (here, is) }; at = (q, (low, high)) })
-        ] refl
-      ] refl
+      cond_both (nat_lt a.number (exp_of o t) || nat_lt (max_of o t) a.number) _ _ (TurnsOf t) (λ outside. ignored_stands t Outside) (λ inside.
+      cond_both (is_received t a.number) _ _ (TurnsOf t) (λ is. ignored_stands t Duplicate) (λ new.
+      turns_stand t (Admits a ∷ []) (record { has = record { form = Received a; is = refl; formed = (here, new) }; at = (q, in_window inside) })))
+    where
+      in_window : (nat_lt a.number (exp_of o t) || nat_lt (max_of o t) a.number) ≡ false → (exp_of o t ≤ a.number) × (a.number ≤ max_of o t)
+      in_window inside = grind (arith, nat_tests)
 
   -- a request that executes as it arrives
   starts_at_once : (t : Trace) (a : Arrival) → a.event ≡ now → Q t a → (is_abort a.request ≡ true → is_set_abort a.request ≡ true → is_completed_by a (any_does o t AtArrival a).does.deeds ≡ true → a.number ≤ exp_of o t) → Stands (exp_of o t) t (execution o t (Executes a) a)
@@ -171,20 +163,12 @@ module _ (Q : Trace → Arrival → Type 0) (o : Setting) (now : ℕ) where
           absurd (false≢true (sym may ∙ and_both (opcode a.request == 0x02) (may_wait a.request) (and_first (opcode a.request == 0x02) (function a.request == 1 || is_set_abort a.request) aborts) (and_both (is_immediate a.request) (is_set_abort a.request) at_once set))))
 
   arrival_stands : (t : Trace) (a : Arrival) → a.event ≡ now → (is_closed (connection_of a.request) t ≡ false → Q t a) → TurnsOf t (arrival o t a)
-  arrival_stands t a here comes =
-      elim (is_closed (connection_of a.request) t) as (λ b. is_closed (connection_of a.request) t ≡ b → TurnsOf t (cond b (ignored Closed) (arrival_open o t a))) [
-        | true ↦ λ is. ignored_stands t Closed
-        | false ↦ λ is. by_kind (comes is) (kind_of a.request)
-      ] refl
+  arrival_stands t a here comes = cond_both (is_closed (connection_of a.request) t) _ _ (TurnsOf t) (λ is. ignored_stands t Closed) (λ is. by_kind (comes is) (kind_of a.request))
     where
       by_kind : Q t a → (k : Kind) → TurnsOf t (arrival_as o t a k)
       by_kind q PassedOver = ignored_stands t Data
       by_kind q Unknown = alone t (rejected a) (record { has = record { form = Rejected a; is = refl; formed = tt }; at = q })
-      by_kind q ExecutesKind =
-          elim (is_immediate a.request) as (λ b. is_immediate a.request ≡ b → TurnsOf t (cond b (with_turns o t (immediate_item o t a)) (numbered o t a))) [
-            | true ↦ λ is. turns_stand t (immediate_item o t a) (immediate_stands t a here q is)
-            | false ↦ λ is. numbered_stands t a here q
-          ] refl
+      by_kind q ExecutesKind = cond_both (is_immediate a.request) _ _ (TurnsOf t) (λ is. turns_stand t (immediate_item o t a) (immediate_stands t a here q is)) (λ is. numbered_stands t a here q)
 
   completion_stands : (t : Trace) (ticket status : ℕ) → TurnsOf t (completion status (command_of t ticket))
   completion_stands t ticket status = by_command (command_of t ticket) refl

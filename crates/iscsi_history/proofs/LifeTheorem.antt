@@ -107,12 +107,7 @@ module _ (o : Setting) (now : ℕ) (t : Trace) (next : ℕ) (x : HaveForms o nex
     command = g.command;
     live_one = still;
     below = g.below;
-    shown =
-        shown_unentered none
-        ∙ ap (λ cs. life_of k (effects_so_far o t) ++ (map leave_effect cs ++ map enable_effect (mine k (newly_enabled o t (marks_of_form form))))) unleft
-        ∙ ap (λ es. es ++ map enable_effect (mine k (newly_enabled o t (marks_of_form form)))) g.shown
-        ∙ ap (λ cs. going_on g.command (was_free g.command t) ++ map enable_effect cs) (newly_one o t (marks_of_form form) k g.command still g.below)
-        ∙ by_tests (is_free_at g.command (marks_of_form form ∷ t)) (was_free g.command t);
+    shown = grind (arith, shown_unentered none, unleft, g.shown, newly_one o t (marks_of_form form) k g.command still g.below);
   }
     where
       same : (g.command.ticket == k) ≡ true
@@ -147,11 +142,7 @@ module _ (o : Setting) (now : ℕ) (t : Trace) (next : ℕ) (x : HaveForms o nex
           let all : count_by (λ c. true) (d ∷ e ∷ es) ≡ 1 + count_by (λ c. true) (e ∷ es) = sum_by-cons (λ c. 1) d (e ∷ es) in
           let rest : count_by (λ c. true) (e ∷ es) ≡ 1 + count_by (λ c. true) es = sum_by-cons (λ c. 1) e es in
           let z : ⊥ = omega (arith, all, rest, few (λ c. true), ap (count_by (λ c. true)) is) in z)
-      by_rest [] is = record { leaver = d; only = is; unit = by_unit (d.unit == g.command.unit) refl }
-        where
-          by_unit : (b : Bool) → (d.unit == g.command.unit) ≡ b → (d.unit == g.command.unit) ≡ true
-          by_unit true h = h
-          by_unit false h = grind (arith, nat_tests, few (λ c. not (c.unit == g.command.unit)), sum_by-cons)
+      by_rest [] is = grind (arith, nat_tests, few (λ c. not (c.unit == g.command.unit)), sum_by-cons)
 
   going_leaves : (g : IsGoing o t k) → mine k (to_list (entering_in form)) ≡ [] → LeavesAlone g.command → length (entered t) ≤ length (entered (marks_of_form form ∷ t)) → IsGone o (marks_of_form form ∷ t) k
   going_leaves g none l more = record {
@@ -184,13 +175,7 @@ module _ (o : Setting) (now : ℕ) (t : Trace) (next : ℕ) (x : HaveForms o nex
     command = c;
     live_one = there;
     below = e.below;
-    shown =
-        shown_more
-        ∙ ap (λ es. es ++ ((map leave_effect (mine k (leaving_in form)) ++ map enter_effect (mine k (to_list (entering_in form)))) ++ map enable_effect (mine k (newly_enabled o t (marks_of_form form))))) s.shown
-        ∙ ap (λ cs. (map leave_effect (mine k cs) ++ map enter_effect (mine k (to_list (entering_in form)))) ++ map enable_effect (mine k (newly_enabled o t (marks_of_form form)))) e.stays
-        ∙ ap (λ cs. map enter_effect cs ++ map enable_effect (mine k (newly_enabled o t (marks_of_form form)))) (ap (λ y. mine k (to_list y)) is ∙ one)
-        ∙ ap (λ cs. enter_effect c ∷ map enable_effect cs) (newly_one o t (marks_of_form form) k c there e.below)
-        ∙ by_test (is_free_at c (marks_of_form form ∷ t)) (was_free c t) unfree;
+    shown = grind (arith, shown_more, s.shown, e.stays, is, one, newly_one o t (marks_of_form form) k c there e.below, unfree);
   }
     where
       number : c.ticket ≡ k
