@@ -119,9 +119,6 @@ module _ (o : Setting) (now : ℕ) (t : Trace) (next : ℕ) (x : HaveForms o nex
       still : mine k (live (marks_of_form form ∷ t)) ≡ g.command ∷ []
       still = grind (arith, live_unentered none, g.live_one, here)
 
-      by_tests : (a b : Bool) → going_on g.command b ++ map enable_effect (cond ((a || b) && not b) (g.command ∷ []) []) ≡ going_on g.command (a || b)
-      by_tests a b = grind arith
-
   -- it leaves, alone and from its own unit
   record LeavesAlone (c : Command) : Type 0 where
     leaver : Command
@@ -198,9 +195,6 @@ module _ (o : Setting) (now : ℕ) (t : Trace) (next : ℕ) (x : HaveForms o nex
 
       unfree : was_free c t ≡ false
       unfree = never_free c t (beyond_entered o t next x c.ticket (omega (arith, e.next)))
-
-      by_test : (a b : Bool) → b ≡ false → enter_effect c ∷ map enable_effect (cond ((a || b) && not b) (c ∷ []) []) ≡ going_on c (a || b)
-      by_test a b h = grind arith
 
   -- ---- any state
 
