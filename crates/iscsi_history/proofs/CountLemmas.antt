@@ -1,5 +1,6 @@
 -- How many of a list pass tests, one weaker than the other.
 use Rattle.std.proofs.Common.{◌≡◌, ℕ, ◌+◌, ◌≤◌, ◌==◌, ◌&&◌, ◌||◌, not, cond, Bool, true, false, List, [], ◌∷◌, filter, count_by, refl, ap, sym, ◌∙◌, arith, length, ◌<◌, get_or, set, suc, zero, Some, find, ◌++◌, None, Option, drop, replicate}
+use Rattle.std.proofs.lemmas.Grind.{common_steps}
 use Rattle.std.proofs.lemmas.Bool.Decides.{nat_tests}
 use Rattle.std.proofs.lemmas.Bool.{false≢true}
 use Rattle.std.proofs.lemmas.List.Sums.{sum_by-cons, sum_by-append}
@@ -17,11 +18,7 @@ count-cons p x xs = sum_by-cons (λ y. cond (p y) 1 0) x xs
 -- those of a part that pass
 pub count-filter : {A : Type 0} (p q : A → Bool) (xs : List A) → count_by p (filter q xs) ≡ count_by (λ x. q x && p x) xs
 count-filter p q [] = refl
-count-filter p q (x ∷ xs) =
-    elim (q x) as (λ b. count_by p (cond b (x ∷ filter q xs) (filter q xs)) ≡ cond (b && p x) 1 0 + count_by (λ y. q y && p y) xs) [
-      | true ↦ count-cons p x (filter q xs) ∙ ap (λ n. cond (p x) 1 0 + n) (count-filter p q xs)
-      | false ↦ count-filter p q xs ∙ (let z : count_by (λ y. q y && p y) xs ≡ 0 + count_by (λ y. q y && p y) xs = omega arith in z)
-    ] ∙ sym (count-cons (λ y. q y && p y) x xs)
+count-filter p q (x ∷ xs) = grind (arith, common_steps, nat_tests, count-filter p q xs, count-cons)
 
 one_weaker : (b c : Bool) → (b ≡ true → c ≡ true) → one b ≤ one c
 one_weaker b c h = grind arith
@@ -58,11 +55,7 @@ count-split p q (x ∷ xs) =
 -- what is among some that are counted is counted
 pub among_counted : (k : ℕ) (cs : List Command) → is_among k cs ≡ true → 1 ≤ count_by (λ (c : Command). c.ticket == k) cs
 among_counted k [] h = absurd (false≢true h)
-among_counted k (c ∷ cs) h = by_test (c.ticket == k) (sum_by-cons (λ (x : Command). cond (x.ticket == k) 1 0) c cs) (among_counted k cs) h
-  where
-    by_test : (v : Bool) → count_by (λ (x : Command). x.ticket == k) (c ∷ cs) ≡ cond v 1 0 + count_by (λ (x : Command). x.ticket == k) cs → (is_among k cs ≡ true → 1 ≤ count_by (λ (x : Command). x.ticket == k) cs) → (v || is_among k cs) ≡ true
-        → 1 ≤ count_by (λ (x : Command). x.ticket == k) (c ∷ cs)
-    by_test v all rest h = grind arith
+among_counted k (c ∷ cs) h = grind (arith, common_steps, nat_tests, among_counted k cs, sum_by-cons)
 
 pub counted_among : (k : ℕ) (cs : List Command) → 1 ≤ count_by (λ (c : Command). c.ticket == k) cs → is_among k cs ≡ true
 counted_among k [] h = absurd (omega arith)

@@ -1,5 +1,6 @@
 -- Each command is started at most once.
 use Rattle.std.proofs.Common.{◌≡◌, ℕ, zero, suc, ◌+◌, ◌<◌, ◌≤◌, ◌==◌, ◌&&◌, ◌||◌, not, ⊎_elim, cond, Bool, true, false, List, [], ◌∷◌, ◌++◌, map, filter, length, count_by, Option, Some, None, refl, ap, sym, ◌∙◌, arith, eq-eqb, length-append}
+use Rattle.std.proofs.lemmas.Grind.{common_steps}
 use Rattle.std.specs.List.{list_any, filter_map, flat_map, range_with_len}
 use Rattle.std.proofs.lemmas.Bool.{cases_eq}
 use Rattle.std.proofs.lemmas.Bool.Decides.{nat_tests}
@@ -28,21 +29,11 @@ among-mine k (c ∷ cs) h = grind (arith, among-mine k cs)
 
 pub mine-none_counted : (k : ℕ) (cs : List Command) → count_by (λ c. c.ticket == k) cs ≤ 0 → mine k cs ≡ []
 mine-none_counted k [] h = refl
-mine-none_counted k (c ∷ cs) h =
-    let all : count_by (λ c. c.ticket == k) (c ∷ cs) ≡ cond (c.ticket == k) 1 0 + count_by (λ c. c.ticket == k) cs = sum_by-cons (λ d. cond (d.ticket == k) 1 0) c cs in
-    by_test (c.ticket == k) all (mine-none_counted k cs)
-  where
-    by_test : (b : Bool) → count_by (λ c. c.ticket == k) (c ∷ cs) ≡ cond b 1 0 + count_by (λ c. c.ticket == k) cs → (count_by (λ c. c.ticket == k) cs ≤ 0 → mine k cs ≡ []) → cond b (c ∷ mine k cs) (mine k cs) ≡ []
-    by_test b all rest = grind arith
+mine-none_counted k (c ∷ cs) h = grind (arith, common_steps, nat_tests, mine-none_counted k cs, sum_by-cons, mine)
 
 pub count-mine : (p : Command → Bool) (k : ℕ) (cs : List Command) → count_by (λ c. c.ticket == k && p c) cs ≡ count_by p (mine k cs)
 count-mine p k [] = refl
-count-mine p k (c ∷ cs) =
-    sum_by-cons (λ d. cond (d.ticket == k && p d) 1 0) c cs ∙ ap (λ n. cond (c.ticket == k && p c) 1 0 + n) (count-mine p k cs) ∙ by_test (c.ticket == k)
-  where
-    by_test : (b : Bool) → cond (b && p c) 1 0 + count_by p (mine k cs) ≡ count_by p (cond b (c ∷ mine k cs) (mine k cs))
-    by_test true = sym (sum_by-cons (λ d. cond (p d) 1 0) c (mine k cs))
-    by_test false = (let z : 0 + count_by p (mine k cs) ≡ count_by p (mine k cs) = omega arith in z)
+count-mine p k (c ∷ cs) = grind (arith, common_steps, nat_tests, count-mine p k cs, sum_by-cons, mine)
 
 -- ---- tickets are 1, 2, 3, ..
 

@@ -1,5 +1,6 @@
 -- Lists of connections and commands, and lists at large.
 use Rattle.std.proofs.Common.{◌≡◌, ℕ, suc, ◌+◌, ◌<◌, ◌≤◌, ◌==◌, ◌&&◌, ◌||◌, not, cond, Bool, true, false, List, [], ◌∷◌, ◌++◌, length, map, filter, find, count_by, Some, None, refl, ap, sym, ◌∙◌, arith, Option, is_some, All, zero, ◌-◌}
+use Rattle.std.proofs.lemmas.Grind.{common_steps}
 use Rattle.std.specs.List.{list_any, list_all, flat_map, position, position_or_len, cons_option, range_with_len}
 use Rattle.std.proofs.lemmas.Bool.{false≢true}
 use Rattle.std.proofs.lemmas.Bool.Decides.{nat_tests}
@@ -47,13 +48,7 @@ count_by-push p xs x = grind (arith, nat_tests, sum_by-append, sum_by-cons)
 -- fewer are counted of fewer
 pub fewer_counted : {A : Type 0} (p q : A → Bool) (xs : List A) → count_by p (filter q xs) ≤ count_by p xs
 fewer_counted p q [] = omega arith
-fewer_counted p q (x ∷ xs) =
-    let all : count_by p (x ∷ xs) ≡ cond (p x) 1 0 + count_by p xs = sum_by-cons (λ y. cond (p y) 1 0) x xs in
-    let rest : count_by p (filter q xs) ≤ count_by p xs = fewer_counted p q xs in
-    elim (q x) as (λ b. count_by p (cond b (x ∷ filter q xs) (filter q xs)) ≤ count_by p (x ∷ xs)) [
-      | true ↦ omega (arith, all, rest, sum_by-cons (λ y. cond (p y) 1 0) x (filter q xs))
-      | false ↦ omega (arith, all, rest)
-    ]
+fewer_counted p q (x ∷ xs) = grind (arith, common_steps, nat_tests, fewer_counted p q xs, sum_by-cons)
 
 pub filter-shorter : {A : Type 0} (p : A → Bool) (xs : List A) → length (filter p xs) ≤ length xs
 filter-shorter p [] = omega arith

@@ -1,5 +1,6 @@
 -- The effects of an item stand in order.
 use Rattle.std.proofs.Common.{◌≡◌, ℕ, ◌≤◌, ◌||◌, cond, Bool, true, false, List, [], ◌∷◌, ◌++◌, map, count_by, Option, Some, None, refl, ap, sym, subst, ◌∙◌, arith, nat_le}
+use Rattle.std.proofs.lemmas.Grind.{common_steps}
 use Rattle.std.specs.List.{list_any, list_all, flat_map}
 use Rattle.std.proofs.lemmas.Bool.Decides.{nat_tests}
 use Rattle.std.proofs.lemmas.List.Sums.{sum_by-cons}
@@ -77,13 +78,7 @@ rises_enables (c ∷ cs) = rises-again 8 (Enable c.ticket c.unit) _ refl refl re
 
 -- a reply, and after it no other
 rises_reply : (conn sn : ℕ) (reply : Reply) (es : List Effect) → Rises 6 es → Rises 5 (Send conn sn reply ∷ es)
-rises_reply conn sn reply es r = record {
-  sorted = le_first 6 es 5 r.from r.sorted (omega arith);
-  from = and_both true (list_all (λ x. nat_le 5 (rank x)) es) refl (weaker_from 5 6 es (omega arith) r.from);
-  unignored = r.unignored;
-  replies = omega (arith, r.replies, sum_by-cons (λ x. cond (is_reply x) 1 0) (Send conn sn reply) es);
-  requests = omega (arith, r.requests, sum_by-cons (λ x. cond (is_request x) 1 0) (Send conn sn reply) es);
-}
+rises_reply conn sn reply es r = grind (arith, common_steps, nat_tests, le_first, and_both, weaker_from, sum_by-cons)
 
 -- a request, and after it no other
 rises_request : (e : Effect) (es : List Effect) → rank e ≡ 0 → is_ignored e ≡ false → is_reply e ≡ false → Rises 1 es → Rises 0 (e ∷ es)

@@ -1,5 +1,6 @@
 -- In the log of a list of events the effects of each item stand in order.
 use Rattle.std.proofs.Common.{◌≡◌, ℕ, ◌+◌, ◌≤◌, ◌||◌, cond, Bool, true, false, List, [], ◌∷◌, ◌++◌, map, count_by, refl, ap, sym, subst, arith, nat_le}
+use Rattle.std.proofs.lemmas.Grind.{common_steps}
 use Rattle.std.specs.List.{list_any, list_all}
 use Rattle.std.proofs.lemmas.Bool.{false≢true}
 use Rattle.std.proofs.lemmas.Bool.Decides.{nat_tests}
@@ -43,21 +44,11 @@ none_asked n (e ∷ es) low h = grind (arith, none_asked n es)
 
 none_counted : (es : List Effect) → count_by is_request es ≤ 0 → Unasked es
 none_counted [] h = refl
-none_counted (e ∷ es) h =
-    let all : count_by is_request (e ∷ es) ≡ cond (is_request e) 1 0 + count_by is_request es = sum_by-cons (λ x. cond (is_request x) 1 0) e es in
-    by_test (is_request e) refl all (none_counted es)
-  where
-    by_test : (b : Bool) → is_request e ≡ b → count_by is_request (e ∷ es) ≡ cond b 1 0 + count_by is_request es → (count_by is_request es ≤ 0 → Unasked es) → Unasked (e ∷ es)
-    by_test b is all rest = grind arith
+none_counted (e ∷ es) h = grind (arith, common_steps, nat_tests, none_counted es, sum_by-cons)
 
 -- after the first effect of an item there is no request
 unasked_later : (e : Effect) (es : List Effect) → IsInOrder (e ∷ es) → Unasked es
-unasked_later e es x =
-    let all : count_by is_request (e ∷ es) ≡ cond (is_request e) 1 0 + count_by is_request es = sum_by-cons (λ y. cond (is_request y) 1 0) e es in
-    by_test (is_request e) refl all
-  where
-    by_test : (b : Bool) → is_request e ≡ b → count_by is_request (e ∷ es) ≡ cond b 1 0 + count_by is_request es → Unasked es
-    by_test b is all = grind (arith, nat_tests, none_counted, none_asked, unasked_rank, none_below)
+unasked_later e es x = grind (arith, common_steps, nat_tests, sum_by-cons, none_counted, none_asked, unasked_rank, none_below)
 
 -- effects that begin with a request, or none
 record IsFresh (es : List Effect) : Type 0 where

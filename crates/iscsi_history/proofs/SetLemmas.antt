@@ -1,5 +1,6 @@
 -- A unit's set of commands: its tickets, and what has been shown of it.
 use Rattle.std.proofs.Common.{List, map, ℕ, [], ap, cond, false, refl, true, ◌∷◌, ◌≡◌, ◌==◌, None, Some, filter, find, not, sym, ◌∙◌, ◌<◌, arith, get_or, replicate, suc, zero, ◌+◌, Bool, count_by, ◌≤◌, ◌||◌, ◌&&◌, nat_lt, length, eq-eqb}
+use Rattle.std.proofs.lemmas.Grind.{common_steps}
 use Rattle.std.proofs.lemmas.Bool.Decides.{nat_tests}
 use Rattle.std.specs.List.{list_any, list_all}
 use Rattle.std.proofs.lemmas.Bool.{eqb-true}
@@ -42,14 +43,7 @@ set_opened (suc n) (suc u) depth lt = set_opened n u depth (omega arith)
 
 pub ungiven_given : (ms : List Member) → count_by (λ m. not m.given) (given_in ms) ≤ count_by (λ m. not m.given) ms
 ungiven_given [] = omega arith
-ungiven_given (m ∷ ms) =
-    let p : Member → Bool = λ x. not x.given in
-    let given : Member = record { task = m.task; enabled = m.enabled; given = true } in
-    let all : count_by p (m ∷ ms) ≡ cond (p m) 1 0 + count_by p ms = sum_by-cons (λ x. cond (p x) 1 0) m ms in
-    elim (is_new m) as (λ b. count_by p (cond b (given ∷ ms) (m ∷ given_in ms)) ≤ count_by p (m ∷ ms)) [
-      | true ↦ let now : count_by p (given ∷ ms) ≡ 0 + count_by p ms = sum_by-cons (λ x. cond (p x) 1 0) given ms in omega (arith, all, now)
-      | false ↦ let now : count_by p (m ∷ given_in ms) ≡ cond (p m) 1 0 + count_by p (given_in ms) = sum_by-cons (λ x. cond (p x) 1 0) m (given_in ms) in omega (arith, all, now, ungiven_given ms)
-    ]
+ungiven_given (m ∷ ms) = grind (arith, common_steps, nat_tests, ungiven_given ms, sum_by-cons)
 
 -- ---- nothing is left to leave
 
