@@ -1,5 +1,5 @@
 -- Each item fits in where it stands.
-use Rattle.std.proofs.Common.{◌≡◌, ℕ, ◌<◌, ◌≤◌, ◌==◌, ◌&&◌, not, Bool, true, false, List, [], ◌∷◌, ◌++◌, filter, Some, None, refl, ap, sym, subst, ◌∙◌, arith}
+use Rattle.std.proofs.Common.{◌≡◌, ℕ, ◌<◌, ◌≤◌, ◌==◌, ◌&&◌, not, Bool, true, false, List, [], ◌∷◌, filter, Some, None, ap, sym, subst, ◌∙◌, arith}
 use Rattle.std.specs.List.{list_any, filter_map}
 use Rattle.std.proofs.lemmas.Bool.{false≢true, eqb-true, or_cases, false_from_ne_true}
 use Rattle.std.proofs.lemmas.Bool.Decides.{nat_tests}
@@ -21,7 +21,7 @@ use Rattle.iscsi_history.proofs.FormRuns.{StandsAt, Stands, AnyArrival}
 use Rattle.iscsi_history.proofs.DeedLemmas.{begun_any, none_done}
 use Rattle.iscsi_history.proofs.TouchLemmas.{leaves_form, leaving_live}
 use Rattle.iscsi_history.proofs.TurnLemmas.{delivers_in, delivers_form}
-use Rattle.iscsi_history.proofs.FateLemmas.{Touch, NotTouched, AdmitsNow, VoidsNow, EmptiesNow, DeliversNow, touch_form}
+use Rattle.iscsi_history.proofs.FateLemmas.{Touch, touch_form}
 
 -- ---- what an item does to a number
 

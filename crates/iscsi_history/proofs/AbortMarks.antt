@@ -1,7 +1,7 @@
 -- Where no part has a thing, nothing has it: marks and commands one after the other.
-use Rattle.std.proofs.Common.{arith, ◌≡◌, ℕ, ◌||◌, Bool, false, List, [], ◌∷◌, map, Option, None, refl, ap, ◌∙◌}
+use Rattle.std.proofs.Common.{arith, ◌≡◌, ℕ, Bool, false, List, [], ◌∷◌, map, Option, None, refl}
 use Rattle.std.proofs.lemmas.Bool.Decides.{nat_tests}
-use Rattle.std.specs.List.{list_any, filter_map, cons_option, flat_map}
+use Rattle.std.specs.List.{list_any, filter_map, flat_map}
 use Rattle.std.proofs.lemmas.List.Folds.{list_any-append}
 use Rattle.iscsi_history.proofs.DeedLemmas.{views, tests}
 use Rattle.iscsi_history.specs.rules.Trace.{Command, Mark, is_among}

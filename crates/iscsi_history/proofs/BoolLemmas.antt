@@ -1,7 +1,7 @@
 -- Tests joined by "and" and "or".
 pub use Rattle.std.proofs.lemmas.Bool.{and_parts, and_from as and_both, or_parts as or_none, or_left as or_first, or_right as or_second, not-true as not_true}
 pub use Rattle.std.proofs.Math.Bool.{and_comm, or_comm, and-true as and_true, and-false as and_false, or-false as or_false}
-use Rattle.std.proofs.Common.{arith, ◌≡◌, ◌&&◌, ◌||◌, not, Bool, true, false, cond}
+use Rattle.std.proofs.Common.{arith, ◌≡◌, ◌&&◌, not, Bool, true, cond}
 
 pub and_first : (a b : Bool) → (a && b) ≡ true → a ≡ true
 and_first a b h = grind arith

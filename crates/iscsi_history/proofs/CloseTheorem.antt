@@ -1,11 +1,9 @@
 -- Nothing goes on in a session that is closed, nor on a connection that is, in the trace of each list of events that come on
 -- the session's connections. A request on another one would go on after the last of them is closed, and the session with it.
-use Rattle.std.proofs.Common.{arith, ◌≡◌, ℕ, ◌==◌, ◌&&◌, ◌||◌, inl, ⊎_elim, not, Bool, true, false, List, [], ◌∷◌, ◌++◌, map, filter, refl, ap, sym, subst, ◌∙◌}
-use Rattle.std.proofs.lemmas.Bool.Decides.{nat_tests}
+use Rattle.std.proofs.Common.{arith, ◌≡◌, ℕ, ◌==◌, ◌&&◌, ◌||◌, inl, ⊎_elim, not, true, false, List, [], ◌∷◌, ◌++◌, map, filter, refl, ap, sym, subst, ◌∙◌}
 use Rattle.std.specs.List.{list_all, list_any, flat_map, range_with_len}
 use Rattle.std.proofs.lemmas.Bool.{false≢true}
 use Rattle.std.proofs.lemmas.List.Folds.{list_any-append, list_all-append}
-use Rattle.iscsi_history.specs.declared.effect.Effect.{Effect}
 use Rattle.iscsi_history.specs.declared.effect.Effect.TheVariants.{Enable}
 use Rattle.iscsi_history.specs.declared.event.Event.{Event}
 use Rattle.iscsi_history.specs.rules.Settings.{Setting}
@@ -13,9 +11,8 @@ use Rattle.iscsi_history.specs.rules.Trace.{Command, Mark, Ignores, Trace, has, 
 use Rattle.iscsi_history.specs.rules.Logout.{is_open}
 use Rattle.iscsi_history.specs.rules.Run.{trace_of, effects_of_mark, newly_enabled, effects_of_item, run_of}
 use Rattle.iscsi_history.specs.rules.Agenda.{belongs}
-use Rattle.iscsi_history.specs.promises.Enabling.{effects_so_far}
 use Rattle.iscsi_history.specs.promises.Closes.{is_session_close, is_close_of, is_ignored, is_on, ClosesHold, ClosesHoldIn}
-use Rattle.iscsi_history.proofs.BoolLemmas.{and_both, or_second, or_comm, or_false}
+use Rattle.iscsi_history.proofs.BoolLemmas.{and_both, or_second}
 use Rattle.iscsi_history.proofs.MomentLemmas.{log_effects, enables_none, shown_so_far}
 use Rattle.iscsi_history.proofs.ElementLemmas.{In, in-filter, in-append}
 use Rattle.iscsi_history.proofs.CloseLemmas.{is_at, ignores, Sound, Clear, clear-item, open-unended}

@@ -3,7 +3,7 @@ use Rattle.std.proofs.Common.{arith, List, false, ℕ, ◌≡◌, ap, ◌||◌, 
 use Rattle.std.specs.List.{list_any, flat_map, filter_map, list_all}
 use Rattle.iscsi_wire.specs.Serial.{wire}
 use Rattle.iscsi_history.proofs.DeedLemmas.{views, tests}
-use Rattle.iscsi_history.specs.rules.Trace.{Mark, closes_conn, closes_session, Trace, has, is_closed, is_ended, Arrival, Empties, ClosesConn, ClosesSession, sent_on, Command, Leaves, waiting_through}
+use Rattle.iscsi_history.specs.rules.Trace.{Mark, closes_conn, closes_session, Trace, is_closed, Arrival, Empties, ClosesConn, ClosesSession, sent_on, Command, Leaves, waiting_through}
 use Rattle.iscsi_history.specs.rules.Settings.{Setting, is_known}
 use Rattle.iscsi_history.specs.rules.Logout.{is_open, is_last_open, parting}
 use Rattle.iscsi_history.specs.declared.effect.Effect.TheVariants.{Empty, Leave}

@@ -1,8 +1,8 @@
 -- Items by which commands enter and leave, and the commands with a ticket.
-use Rattle.std.proofs.Common.{List, ap, count_by, not, ◌∷◌, ◌≡◌, [], refl, ◌&&◌, ◌==◌, Bool, filter, length, ℕ, ◌++◌, ◌∙◌, ◌+◌, false, ◌||◌, cond, sym, true, None, Some, eq-eqb, ◌<◌, arith, nat_lt, map, subst}
+use Rattle.std.proofs.Common.{List, ap, count_by, not, ◌∷◌, ◌≡◌, [], refl, ◌&&◌, ◌==◌, Bool, filter, length, ℕ, ◌++◌, ◌∙◌, ◌+◌, false, ◌||◌, cond, true, None, Some, eq-eqb, arith, nat_lt, map}
 use Rattle.std.specs.List.{list_any, filter_map, list_all, range_with_len, flat_map}
 use Rattle.std.proofs.lemmas.List.{append-nil}
-use Rattle.std.proofs.lemmas.Bool.{eqb-true, false≢true}
+use Rattle.std.proofs.lemmas.Bool.{eqb-true}
 use Rattle.iscsi_wire.specs.Fields.{is_immediate, connection_of, itt}
 use Rattle.iscsi_wire.specs.declared.reply.Reply.TheVariants.{Scsi}
 use Rattle.iscsi_history.proofs.ListLemmas.{none_left}
@@ -12,8 +12,8 @@ use Rattle.iscsi_history.specs.rules.Execution.{unfinished, reply_on, sense_of_s
 use Rattle.iscsi_history.specs.rules.Settings.{Setting}
 use Rattle.iscsi_history.proofs.NewlyLemmas.{any_in_units as any_of_units, Untouched, live-untouched, both_all}
 use Rattle.iscsi_history.proofs.TraceLemmas.{live-leaves, weaker}
-use Rattle.iscsi_history.proofs.ListLemmas.{any_same, any_filter, filter-swap, any_at, any_in_range, none_passes}
-use Rattle.iscsi_history.proofs.BoolLemmas.{and_parts, or_false, or_none, not_true, and_true, alike, and_both, same_alike, or_second}
+use Rattle.iscsi_history.proofs.ListLemmas.{any_same, any_filter, filter-swap, none_passes}
+use Rattle.iscsi_history.proofs.BoolLemmas.{and_parts, or_false, not_true, and_true, alike, and_both, same_alike}
 use Rattle.iscsi_history.proofs.ApartLemmas.{unamong-filter, eq_sym}
 use Rattle.iscsi_history.proofs.DeliveryLemmas.{IsQuiet}
 use Rattle.std.proofs.lemmas.Bool.Decides.{nat_tests}
@@ -110,9 +110,7 @@ among_unit k (c ∷ cs) = ap (λ b. b || list_any (λ (d : Command). d.ticket ==
 
 -- some command passes just where one of some unit does
 pub any_in_units : (p : Command → Bool) (n : ℕ) (cs : List Command) → list_all (λ c. nat_lt c.unit n) cs ≡ true → list_any (λ unit. list_any p (filter (λ (c : Command). c.unit == unit) cs)) (range_with_len 0 n) ≡ list_any p cs
-any_in_units p n cs inside =
-    any_same (λ unit. list_any p (filter (λ (c : Command). c.unit == unit) cs)) (λ unit. list_any (λ d. (d.unit == unit) && p d) cs) (range_with_len 0 n) (λ unit. any_filter p (λ (c : Command). c.unit == unit) cs)
-    ∙ any_of_units n p cs inside
+any_in_units p n cs inside = grind (arith, nat_tests, any_same, any_filter, any_of_units)
 
 -- ---- the marks by which commands leave
 

@@ -1,5 +1,5 @@
 -- How many of a list pass tests, one weaker than the other.
-use Rattle.std.proofs.Common.{◌≡◌, ℕ, ◌+◌, ◌≤◌, ◌==◌, ◌&&◌, ◌||◌, not, cond, Bool, true, false, List, [], ◌∷◌, filter, count_by, refl, ap, sym, ◌∙◌, arith, length, ◌<◌, get_or, set, suc, zero, Some, find, ◌++◌, None, Option, drop, replicate}
+use Rattle.std.proofs.Common.{◌≡◌, ℕ, ◌+◌, ◌≤◌, ◌==◌, ◌&&◌, not, cond, Bool, true, false, List, [], ◌∷◌, filter, count_by, refl, ap, sym, ◌∙◌, arith, length, ◌<◌, get_or, set, suc, zero, Some, find, ◌++◌, None, Option, drop, replicate}
 use Rattle.std.proofs.lemmas.Grind.{common_steps}
 use Rattle.std.proofs.lemmas.Bool.Decides.{nat_tests}
 use Rattle.std.proofs.lemmas.Bool.{false≢true}

@@ -1,11 +1,11 @@
 -- Items that receive a number without a request, and items that take held requests out.
-use Rattle.std.proofs.Common.{List, ◌∷◌, refl, [], false, ℕ, ◌≡◌, ◌==◌, ap, sym, ◌||◌, ◌∙◌, ◌++◌, None, cond, option_map, eq-eqb, Bool, map, Some, ◌+◌, ◌<◌, arith, suc, zero, ◌≤◌, Option, append_assoc}
+use Rattle.std.proofs.Common.{List, ◌∷◌, refl, [], false, ℕ, ◌≡◌, ◌==◌, ap, sym, ◌||◌, ◌∙◌, ◌++◌, None, cond, eq-eqb, Bool, map, Some, ◌+◌, ◌<◌, arith, suc, zero, ◌≤◌, Option, append_assoc}
 use Rattle.std.proofs.lemmas.Bool.Decides.{nat_tests}
 use Rattle.std.specs.List.{filter_map, list_any, cons_option, range_with_len}
 use Rattle.std.proofs.lemmas.List.{append-nil}
 use Rattle.std.proofs.lemmas.Grind.{flat_map-append}
 use Rattle.iscsi_history.proofs.DeedLemmas.{views, tests}
-use Rattle.iscsi_history.specs.rules.Trace.{Arrival, Executes, Mark, Trace, admits_at, delivers_number, empties_number, number_received, Voids, Empties, admitted, contains, first_of, held, is_delivered, is_emptied, is_received, shown, received, Command, Leaves, Enters, Sends, held_among, has}
+use Rattle.iscsi_history.specs.rules.Trace.{Arrival, Executes, Mark, Trace, admits_at, delivers_number, empties_number, number_received, Voids, Empties, admitted, contains, held, is_delivered, is_emptied, is_received, shown, received, Command, Leaves, Enters, Sends, held_among, has}
 use Rattle.iscsi_wire.specs.declared.reply.Reply.{Reply}
 use Rattle.iscsi_history.specs.promises.Executed.{delivers, request_at}
 use Rattle.iscsi_history.proofs.DeliveryLemmas.{IsQuiet}

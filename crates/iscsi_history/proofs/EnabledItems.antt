@@ -5,13 +5,13 @@ use Rattle.std.proofs.lemmas.List.{append-nil}
 use Rattle.std.proofs.lemmas.Bool.{cases_eq, false≢true}
 use Rattle.std.proofs.lemmas.Bool.Decides.{nat_tests}
 use Rattle.std.proofs.lemmas.List.Folds.{list_any-append}
-use Rattle.iscsi_history.specs.rules.Trace.{Command, Mark, Trace, was_free, live_in, Admits, ClosesConn, ClosesSession, Delivers, Empties, Enters, Executes, Ignores, Leaves, Sends, Voids, Waits, leaves_ticket, has, is_among, live}
+use Rattle.iscsi_history.specs.rules.Trace.{Command, Mark, Trace, was_free, live_in, leaves_ticket, has, is_among, live}
 use Rattle.iscsi_history.specs.rules.Settings.{Setting}
 use Rattle.iscsi_history.specs.rules.Run.{newly_enabled, effects_of_mark, effects_of_item}
 use Rattle.iscsi_history.specs.promises.Enabling.{is_leave, effects_so_far, is_enable, is_shown_enabled, is_enabled, EnabledSoFar}
 use Rattle.iscsi_history.proofs.NewlyLemmas.{flat_map-none, new_in, new_in-none, is_here, was_free-stays, Untouched, live-untouched, live_in-untouched, newly-untouched, any_or, is_new, newly_among, was_or_new}
 use Rattle.iscsi_history.proofs.MomentLemmas.{enables, enables_none, shown_so_far, item_enables, left_unlive}
-use Rattle.iscsi_history.proofs.BoolLemmas.{or_false, or_comm, and_both, or_second, and_false}
+use Rattle.iscsi_history.proofs.BoolLemmas.{or_false, and_both, or_second, and_false}
 use Rattle.iscsi_history.proofs.TraceLemmas.{weaker}
 use Rattle.iscsi_history.proofs.ListLemmas.{any_all}
 use Rattle.iscsi_history.proofs.CommandItems.{LeavesSome, live-left, none_any}

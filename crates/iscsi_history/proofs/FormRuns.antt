@@ -16,11 +16,11 @@ use Rattle.iscsi_history.specs.rules.Trace.{Arrival, Command, Mark, Admits, Exec
 use Rattle.iscsi_history.specs.rules.Execution.{exp_of, max_of, rejected, ignored, completion, reply_on}
 use Rattle.iscsi_history.specs.rules.Items.{execution, waiting_item, immediate_item, function_item, item_of, is_waiting, functions, functions_at, turn_at, at_number, agenda}
 use Rattle.iscsi_history.specs.rules.Management.{may_wait, refusal_of_function, MOST_WAITING, waiting_on}
-use Rattle.iscsi_history.specs.rules.Agenda.{with_turns, numbered, kind_of, arrival_as, arrival_open, arrival, arrival_of, command_of, items_of}
+use Rattle.iscsi_history.specs.rules.Agenda.{with_turns, numbered, kind_of, arrival_as, arrival, arrival_of, command_of, items_of}
 use Rattle.iscsi_history.specs.rules.Run.{after_event, after_events, trace_of}
 use Rattle.iscsi_history.specs.promises.Aborts.{is_set_abort, is_abort, is_complete}
 use Rattle.iscsi_history.specs.promises.Answers.{Answers}
-use Rattle.iscsi_history.proofs.BoolLemmas.{and_both, and_false, and_first, or_none}
+use Rattle.iscsi_history.proofs.BoolLemmas.{and_both, and_false, and_first}
 use Rattle.iscsi_history.proofs.ElementLemmas.{In, in-filter, first-in}
 use Rattle.iscsi_history.proofs.HeldLemmas.{held-number}
 use Rattle.iscsi_history.proofs.Missing.{exp_item}

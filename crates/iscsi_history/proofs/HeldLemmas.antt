@@ -1,8 +1,8 @@
 -- Which requests are held, and which are due.
 use Rattle.std.proofs.Common.{◌≡◌, ℕ, ◌==◌, ◌||◌, ◌⊎◌, ⊎_elim, cond, Bool, true, false, List, [], ◌∷◌, ◌++◌, Option, Some, None, option_map, refl, ap, ◌∙◌, eq-eqb, ◌&&◌, ◌<◌, ◌≤◌, ◌+◌, zero, suc, filter, arith, nat_lt, subst}
-use Rattle.std.specs.List.{list_any, filter_map, cons_option, range_with_len}
+use Rattle.std.specs.List.{filter_map, cons_option, range_with_len}
 use Rattle.std.proofs.lemmas.List.{append-nil}
-use Rattle.iscsi_history.specs.rules.Trace.{Arrival, Mark, Admits, Delivers, Trace, shown, first_of, is_received, is_delivered, is_emptied, held, admitted, admits_at, delivers_number, received, held_among}
+use Rattle.iscsi_history.specs.rules.Trace.{Arrival, Mark, Admits, Delivers, Trace, shown, first_of, is_received, is_delivered, is_emptied, held, admitted, admits_at, received, held_among}
 use Rattle.iscsi_history.specs.promises.Executed.{request_at}
 use Rattle.iscsi_history.proofs.TraceLemmas.{unadmitted}
 use Rattle.iscsi_history.proofs.DeliveryLemmas.{IsQuiet}

@@ -1,5 +1,5 @@
 -- What a log shows of each ticket is a life.
-use Rattle.std.proofs.Common.{◌≡◌, ℕ, ◌+◌, ◌<◌, ◌≤◌, ◌==◌, ◌&&◌, ◌||◌, ◌⊎◌, inl, inr, not, ⊎_elim, cond, Bool, true, false, List, [], ◌∷◌, ◌++◌, map, filter, length, count_by, Option, Some, None, refl, ap, sym, subst, ◌∙◌, arith, eq-eqb, length-append}
+use Rattle.std.proofs.Common.{◌≡◌, ℕ, ◌+◌, ◌<◌, ◌≤◌, ◌==◌, ◌&&◌, ◌||◌, ◌⊎◌, inl, inr, not, ⊎_elim, cond, Bool, true, false, List, [], ◌∷◌, ◌++◌, map, filter, length, count_by, Option, Some, None, refl, ap, sym, subst, ◌∙◌, arith, length-append}
 use Rattle.std.specs.List.{list_any, filter_map, flat_map, range_with_len}
 use Rattle.std.proofs.lemmas.Bool.{eqb-true, false_from_ne_true, false≢true}
 use Rattle.std.proofs.lemmas.Bool.Decides.{nat_tests}
@@ -9,7 +9,7 @@ use Rattle.std.proofs.lemmas.List.Sums.{sum_by-cons}
 use Rattle.iscsi_history.specs.declared.effect.Effect.{Effect}
 use Rattle.iscsi_history.specs.declared.event.Event.{Event}
 use Rattle.iscsi_history.specs.rules.Settings.{Setting}
-use Rattle.iscsi_history.specs.rules.Trace.{Command, Mark, Enters, Trace, has, enters, entered, leaves_ticket, live, is_among, was_free, is_free_at}
+use Rattle.iscsi_history.specs.rules.Trace.{Command, Mark, Enters, Trace, has, enters, entered, leaves_ticket, live, is_among, was_free}
 use Rattle.iscsi_history.specs.rules.Run.{effects_of_mark, newly_enabled, effects_of_item, trace_of, run_of}
 use Rattle.iscsi_history.specs.promises.Enabling.{effects_so_far, effects_in}
 use Rattle.iscsi_history.specs.promises.Lives.{ticket_entered, tickets_entered, life_of, is_life, StartsOnce}
@@ -86,9 +86,7 @@ module _ (o : Setting) (now : ℕ) (t : Trace) (next : ℕ) (x : HaveForms o nex
 
   -- nothing of it is live: nothing leaves, and nothing becomes enabled
   unlive_leaving : mine k (live t) ≡ [] → mine k (leaving_in form) ≡ []
-  unlive_leaving none =
-      let here : Bool = is_among k (leaving_in form) in
-      mine-none k (leaving_in form) (false_from_ne_true here (λ h. false≢true (sym (among-mine k (live t) none) ∙ leaving_live o now t form formed k (leaves_form k form ∙ h))))
+  unlive_leaving none = grind (arith, nat_tests, leaving_in, mine-none, false_from_ne_true, false≢true, among-mine, leaving_live, leaves_form)
 
   unlive_after : mine k (live t) ≡ [] → mine k (to_list (entering_in form)) ≡ [] → mine k (live (marks_of_form form ∷ t)) ≡ []
   unlive_after unlive none = live_unentered none ∙ ap (filter (λ c. not (list_any (leaves_ticket c.ticket) (marks_of_form form)))) unlive

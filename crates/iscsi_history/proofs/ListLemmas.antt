@@ -1,5 +1,5 @@
 -- Lists of connections and commands, and lists at large.
-use Rattle.std.proofs.Common.{◌≡◌, ℕ, suc, ◌+◌, ◌<◌, ◌≤◌, ◌==◌, ◌&&◌, ◌||◌, not, cond, Bool, true, false, List, [], ◌∷◌, ◌++◌, length, map, filter, find, count_by, Some, None, refl, ap, sym, ◌∙◌, arith, Option, is_some, All, zero, ◌-◌}
+use Rattle.std.proofs.Common.{◌≡◌, ℕ, suc, ◌+◌, ◌<◌, ◌≤◌, ◌==◌, ◌&&◌, ◌||◌, not, cond, Bool, true, false, List, [], ◌∷◌, ◌++◌, length, map, filter, find, count_by, Some, None, refl, ap, ◌∙◌, arith, Option, is_some, All, zero, ◌-◌}
 use Rattle.std.proofs.lemmas.Grind.{common_steps}
 use Rattle.std.specs.List.{list_any, list_all, flat_map, position, position_or_len, cons_option, range_with_len}
 use Rattle.std.proofs.lemmas.Bool.{false≢true}

@@ -1,5 +1,5 @@
 -- What the definitions mean, said once more in other words, holds of every trace.
-use Rattle.std.proofs.Common.{arith, ◌≡◌, ℕ, ◌==◌, ◌&&◌, ◌||◌, not, Bool, true, false, List, [], ◌∷◌, length, refl, ap, sym, ◌∙◌}
+use Rattle.std.proofs.Common.{arith, ◌≡◌, ℕ, ◌==◌, ◌&&◌, ◌||◌, not, Bool, true, false, List, [], ◌∷◌, length, ap, sym, ◌∙◌}
 use Rattle.std.proofs.lemmas.Bool.Decides.{nat_tests}
 use Rattle.std.specs.List.{list_any, filter_map}
 use Rattle.std.proofs.lemmas.Bool.{false≢true}
@@ -9,7 +9,6 @@ use Rattle.iscsi_history.specs.rules.Settings.{Setting}
 use Rattle.iscsi_history.specs.rules.Trace.{Command, Trace, has, enters, entered, leaves_ticket, live, is_among}
 use Rattle.iscsi_history.specs.rules.Run.{trace_of}
 use Rattle.iscsi_history.specs.promises.Meaning.{MeansWhatItSays}
-use Rattle.iscsi_history.proofs.ListLemmas.{any_filter}
 use Rattle.iscsi_history.proofs.BoolLemmas.{or_first, and_first}
 use Rattle.iscsi_history.proofs.MomentLemmas.{live_among}
 use Rattle.iscsi_history.proofs.Missing.{expected_low, expected_gone, expected_below}

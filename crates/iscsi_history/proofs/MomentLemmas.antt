@@ -1,14 +1,14 @@
 -- Moments: what the log shows of enabled commands, and the rule as a law.
-use Rattle.std.proofs.Common.{arith, ◌≡◌, ℕ, ◌+◌, ◌==◌, ◌||◌, ◌&&◌, not, cond, Bool, true, false, List, [], ◌∷◌, ◌++◌, map, filter, refl, ap, sym, ◌∙◌, ◌↔◌, append_assoc}
+use Rattle.std.proofs.Common.{arith, ◌≡◌, ℕ, ◌+◌, ◌==◌, ◌||◌, ◌&&◌, not, Bool, true, false, List, [], ◌∷◌, ◌++◌, map, refl, ap, sym, ◌∙◌, ◌↔◌, append_assoc}
 use Rattle.std.proofs.lemmas.Bool.Decides.{nat_tests}
 use Rattle.std.specs.List.{list_any, flat_map}
-use Rattle.std.proofs.lemmas.Bool.{false≢true, eqb-true}
+use Rattle.std.proofs.lemmas.Bool.{false≢true}
 use Rattle.std.proofs.lemmas.List.{append-nil}
 use Rattle.std.proofs.lemmas.List.Folds.{list_any-append}
 use Rattle.iscsi_history.specs.declared.effect.Effect.{Effect}
 use Rattle.iscsi_history.specs.declared.effect.Effect.TheVariants.{Enable}
 use Rattle.iscsi_history.specs.rules.Settings.{Setting}
-use Rattle.iscsi_history.specs.rules.Trace.{Command, Mark, Trace, has, entered, leaves_ticket, live, is_among, is_free_at, was_free, Admits, Delivers, Executes, Voids, Empties, Waits, Leaves, Enters, Sends, ClosesConn, ClosesSession, Ignores, after_items}
+use Rattle.iscsi_history.specs.rules.Trace.{Command, Mark, Trace, has, entered, leaves_ticket, live, is_among, is_free_at, was_free, after_items}
 use Rattle.iscsi_history.specs.rules.Run.{newly_enabled, after_event, after_events, effects_of_mark, effects_of_item, effects_of, entries_from}
 use Rattle.iscsi_history.proofs.BoolLemmas.{or_first, or_second, or_comm}
 use Rattle.iscsi_history.specs.declared.event.Event.{Event}

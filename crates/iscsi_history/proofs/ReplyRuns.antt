@@ -3,13 +3,13 @@ use Rattle.std.proofs.Common.{◌≡◌, ℕ, ◌+◌, ◌<◌, ◌≤◌, ◌==
 use Rattle.std.proofs.lemmas.Bool.Decides.{nat_tests}
 use Rattle.iscsi_wire.specs.declared.reply.Reply.{Reply}
 use Rattle.iscsi_history.specs.rules.Settings.{Setting}
-use Rattle.iscsi_history.specs.rules.Trace.{Arrival, Command, Mark, Trace, entered, live}
+use Rattle.iscsi_history.specs.rules.Trace.{Command, Mark, Trace, entered, live}
 use Rattle.iscsi_history.specs.promises.Replies.{replies_to}
 use Rattle.iscsi_history.proofs.CountLemmas.{one}
-use Rattle.iscsi_history.proofs.Forms.{Start, Deeds, Form, Executed, marks_of_form, IsDone, IsFormed, HasForm, is_arrival, HaveForms}
+use Rattle.iscsi_history.proofs.Forms.{Form, Executed, marks_of_form, IsFormed, HasForm, is_arrival, HaveForms}
 use Rattle.iscsi_history.proofs.DeedLemmas.{to_list}
 use Rattle.iscsi_history.proofs.TouchLemmas.{leaving_in, entering_in}
-use Rattle.iscsi_history.proofs.ReplyForms.{is_of, comes_of, answers_of, replies_form, entered_form, live_form}
+use Rattle.iscsi_history.proofs.ReplyForms.{comes_of, answers_of, replies_form, entered_form, live_form}
 use Rattle.iscsi_history.proofs.ReplyTurns.{executes_of, begins_of, awaited, awaited_form}
 
 -- ---- an item

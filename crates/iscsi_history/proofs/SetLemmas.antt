@@ -1,12 +1,12 @@
 -- A unit's set of commands: its tickets, and what has been shown of it.
-use Rattle.std.proofs.Common.{List, map, ℕ, [], ap, cond, false, refl, true, ◌∷◌, ◌≡◌, ◌==◌, None, Some, filter, find, not, sym, ◌∙◌, ◌<◌, arith, get_or, replicate, suc, zero, ◌+◌, Bool, count_by, ◌≤◌, ◌||◌, ◌&&◌, nat_lt, length, eq-eqb}
+use Rattle.std.proofs.Common.{List, map, ℕ, [], ap, false, refl, true, ◌∷◌, ◌≡◌, ◌==◌, None, Some, filter, find, not, sym, ◌∙◌, ◌<◌, arith, get_or, replicate, suc, zero, Bool, count_by, ◌≤◌, ◌||◌, ◌&&◌, nat_lt, length, eq-eqb}
 use Rattle.std.proofs.lemmas.Grind.{common_steps}
 use Rattle.std.proofs.lemmas.Bool.Decides.{nat_tests}
 use Rattle.std.specs.List.{list_any, list_all}
 use Rattle.std.proofs.lemmas.Bool.{eqb-true}
 use Rattle.std.proofs.lemmas.List.Sums.{sum_by-cons}
 use Rattle.iscsi_tasks.specs.declared.member.Member.{Member}
-use Rattle.iscsi_tasks.specs.Sets.{given_in, is_new, after_moment, looked_at, Members, left_by, tasks_in, with_ticket, opened as opened_set}
+use Rattle.iscsi_tasks.specs.Sets.{given_in, after_moment, looked_at, Members, left_by, tasks_in, with_ticket, opened as opened_set}
 use Rattle.iscsi_tasks.specs.declared.task.Task.{Task}
 use Rattle.iscsi_history.proofs.ListLemmas.{none_left}
 use Rattle.iscsi_history.proofs.ListLemmas.{map-map, filter-map, find-found}
