@@ -1,8 +1,7 @@
 -- Each item fits in where it stands.
 use Rattle.std.proofs.Common.{◌≡◌, ℕ, ◌<◌, ◌≤◌, ◌==◌, ◌&&◌, not, Bool, true, false, List, [], ◌∷◌, filter, Some, None, ap, sym, subst, ◌∙◌, arith}
 use Rattle.std.specs.List.{list_any, filter_map}
-use Rattle.std.proofs.lemmas.Bool.{false≢true, eqb-true, or_cases, false_from_ne_true}
-use Rattle.std.proofs.lemmas.Bool.Decides.{nat_tests}
+use Rattle.std.proofs.lemmas.Bool.{false≢true, eqb-true, false_from_ne_true}
 use Rattle.iscsi_wire.specs.declared.request.Request.{Request}
 use Rattle.iscsi_wire.specs.Fields.{function}
 use Rattle.iscsi_history.specs.rules.Settings.{Setting}
@@ -11,14 +10,14 @@ use Rattle.iscsi_history.specs.promises.Replies.{executed_in}
 use Rattle.iscsi_history.specs.promises.Aborts.{is_set_abort, completes, IsCompleted, is_in_unit_of, came_before, earlier, is_ticket_covered}
 use Rattle.iscsi_history.specs.promises.Meaning.{voids_number}
 use Rattle.iscsi_history.proofs.BeforeLemmas.{came_is_before}
-use Rattle.iscsi_history.proofs.BoolLemmas.{or_first, or_second, and_parts, and_both, and_false}
+use Rattle.iscsi_history.proofs.BoolLemmas.{or_first, and_parts, and_both}
 use Rattle.iscsi_history.proofs.ListLemmas.{any_filter}
 use Rattle.iscsi_history.proofs.TraceLemmas.{unadmitted, filter-same, filter-true}
 use Rattle.iscsi_history.proofs.AbortLemmas.{Fits}
 use Rattle.iscsi_history.proofs.Forms.{Start, AtTurn, start_mark, Deeds, marks_done, Form, Executed, marks_of_form, begun, is_completed_by, Sweeps, IsFormed}
 use Rattle.iscsi_history.proofs.FormItems.{live-begun}
 use Rattle.iscsi_history.proofs.FormRuns.{StandsAt, Stands, AnyArrival}
-use Rattle.iscsi_history.proofs.DeedLemmas.{begun_any, none_done}
+use Rattle.iscsi_history.proofs.DeedLemmas.{none_done}
 use Rattle.iscsi_history.proofs.TouchLemmas.{leaves_form, leaving_live}
 use Rattle.iscsi_history.proofs.TurnLemmas.{delivers_in, delivers_form}
 use Rattle.iscsi_history.proofs.FateLemmas.{Touch, touch_form}
@@ -45,9 +44,6 @@ touched_voided t n item touch now = grind (arith, unadmitted n t)
 any_weaker : {A : Type 0} (f g : A → Bool) (xs : List A) → ((x : A) → f x ≡ true → g x ≡ true) → list_any f xs ≡ true → list_any g xs ≡ true
 any_weaker f g [] h found = absurd (false≢true found)
 any_weaker f g (x ∷ xs) h found = grind (arith, any_weaker f g xs)
-
-not_one : (r : Request) → is_set_abort r ≡ true → (function r == 1) ≡ false
-not_one r set = grind arith
 
 module _ (o : Setting) (t : Trace) (start : Start) (a : Arrival) (d : Deeds) (s : Sweeps o (begun start a t) a d) where
   -- the earlier ones that didn't leave are among those that it takes out
@@ -83,7 +79,7 @@ module _ (o : Setting) (t : Trace) (start : Start) (a : Arrival) (d : Deeds) (s 
       (leaves_form k (Executed start a d) ∙ ap (is_among k) s.is ∙ ap (λ cs. is_among k (filter s.covers (filter (λ (c : Command). c.unit == s.unit) cs))) (live-begun start a t) ∙ h)
 
   swept : is_set_abort a.request ≡ true → (k : ℕ) → is_ticket_covered o a (marks_of_form (Executed start a d)) t k ≡ true → has (leaves_ticket k) (marks_of_form (Executed start a d) ∷ t) ≡ true
-  swept set k covered = grind (arith, nat_tests, marks_of_form, Executed, not_one, or_second, swept_leaves, early_swept, and_parts, whole_swept, or_cases)
+  swept set k covered = grind (arith, swept_leaves, early_swept, whole_swept)
 
 -- ---- an item of any form
 
@@ -95,7 +91,7 @@ module _ (o : Setting) (now p : ℕ) (t : Trace) where
   -- Function complete is sent where the deeds say so
   completed_by : (start : Start) (a : Arrival) (d : Deeds) → list_any (completes a.request) (marks_of_form (Executed start a d)) ≡ true → is_completed_by a d ≡ true
   completed_by start a d complete =
-      grind (arith, nat_tests, is_completed_by, false≢true, marks_of_form, Executed, begun_any, marks_done, none_done, and_false)
+      grind (arith, none_done)
 
   -- an abort of a whole set stands at its number or later, and what it covers leaves, if it didn't before
   abbrev Ends : Arrival → Form → Type 0

@@ -3,7 +3,6 @@ use Rattle.std.proofs.Common.{◌≡◌, ℕ, ◌<◌, ◌≤◌, ◌==◌, ◌&
 use Rattle.std.specs.List.{list_any, filter_map, range_with_len}
 use Rattle.std.specs.Prelude.{Contains}
 use Rattle.std.proofs.lemmas.Bool.{false≢true}
-use Rattle.std.proofs.lemmas.Bool.Decides.{nat_tests}
 use Rattle.std.proofs.lemmas.List.Folds.{list_any-append}
 use Rattle.iscsi_wire.specs.Fields.{function}
 use Rattle.iscsi_history.specs.declared.event.Event.{Event}
@@ -63,7 +62,7 @@ shut_held : (n : ℕ) (t : Trace) → Shut n t → held t n ≡ None
 shut_held n t s = grind arith
 
 shut_more : (o : Setting) (p n : ℕ) (t : Trace) (item : List Mark) → Fits o p t item → Shut n t → Shut n (item ∷ t)
-shut_more o p n t item fits s = grind (arith, nat_tests, or_second, received-item, or_first)
+shut_more o p n t item fits s = grind (arith, received-item)
 
 -- it stays so, and nothing is delivered there
 shut_later : (o : Setting) (p n : ℕ) (later t : Trace) → Fit o p (later ++ t) → Shut n t → Shut n (later ++ t) × (has (delivers_number n) later ≡ false)
@@ -128,7 +127,7 @@ module _ (o : Setting) (p next : ℕ) (later before : Trace) (item : List Mark) 
       by_test false is below =
           let reached : f.number ≤ here.place = here.fits.reaches f done (set_abort f item done is) in
           let test : nat_lt n f.number ≡ true = (and_parts (nat_lt n f.number) (not (is_delivered before n)) below).0 in
-          let lower : n < f.number = grind (arith, nat_tests) in
+          let lower : n < f.number = grind arith in
           here.none_below n (omega (arith, lower, reached))
 
   -- nothing is delivered at a covered number where a request was admitted, at any time
@@ -143,7 +142,7 @@ module _ (o : Setting) (p next : ℕ) (later before : Trace) (item : List Mark) 
       by_test false is below =
           let parts = and_parts (nat_lt n f.number) (not (is_delivered before n)) below in
           let test : nat_lt n f.number ≡ true = parts.0 in
-          let apart : (f.number == n) ≡ false = grind (arith, nat_tests) in
+          let apart : (f.number == n) ≡ false = grind arith in
           list_any-append (list_any (delivers_number n)) later (item ∷ before)
           ∙ ap (λ b. b || is_delivered (item ∷ before) n) (undelivered n covered)
           ∙ ap (λ b. b || is_delivered before n) (own_delivered o next later before item f y done.executes n apart)

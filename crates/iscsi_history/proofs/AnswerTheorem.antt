@@ -1,8 +1,6 @@
 -- A request that executed has at most one reply, and one whose command was taken out has none, in the trace of each list of events.
 use Rattle.std.proofs.Common.{◌≡◌, ℕ, ◌+◌, ◌<◌, ◌≤◌, ⊎_elim, cond, List, [], ◌∷◌, ◌++◌, length, count_by, Option, Some, None, refl, ap, sym, subst, ◌∙◌, arith, nat_lt, eq-eqb}
-use Rattle.std.proofs.lemmas.Bool.Decides.{nat_tests}
 use Rattle.std.specs.List.{filter_map}
-use Rattle.std.proofs.lemmas.Bool.{eqb-true}
 use Rattle.iscsi_wire.specs.declared.reply.Reply.{Reply}
 use Rattle.iscsi_wire.specs.declared.reply.Reply.TheVariants.{Scsi, Reject}
 use Rattle.iscsi_wire.specs.declared.request.Request.{Request}
@@ -16,13 +14,12 @@ use Rattle.iscsi_history.specs.rules.Agenda.{command_of}
 use Rattle.iscsi_history.specs.promises.Replies.{executed_in, answered_in, replies_to}
 use Rattle.iscsi_history.specs.rules.Run.{trace_of, run_of, after_event, effects_of, entries_from}
 use Rattle.iscsi_history.specs.promises.Answers.{Answers, AnswersOnce, AnswersOnceIn, CompletesWith, CompletesAll}
-use Rattle.iscsi_history.proofs.BoolLemmas.{and_parts}
 use Rattle.iscsi_history.proofs.ListLemmas.{first_itself}
 use Rattle.iscsi_history.proofs.ElementLemmas.{In, in-contains}
 use Rattle.iscsi_history.proofs.MomentLemmas.{log_effects}
 use Rattle.iscsi_history.proofs.CountLemmas.{one, count-one}
 use Rattle.iscsi_history.proofs.DeedLemmas.{views}
-use Rattle.iscsi_history.proofs.Forms.{Start, AtTurn, Deeds, if_some, start_mark, marks_done, Form, Executed, marks_of_form, IsDone, Each, IsFormed, HasForm, is_arrival, HaveForms}
+use Rattle.iscsi_history.proofs.Forms.{Start, AtTurn, Deeds, if_some, start_mark, marks_done, Form, Executed, marks_of_form, IsDone, IsFormed, HasForm, is_arrival, HaveForms}
 use Rattle.iscsi_history.proofs.FormRuns.{trace_has_forms}
 use Rattle.iscsi_history.proofs.ReplyForms.{comes_of, replies_seen}
 use Rattle.iscsi_history.proofs.ReplyTurns.{begins_of}
@@ -64,7 +61,7 @@ left_done a d = simp views
 -- its replies are to the request
 fitting_done : (o : Setting) (t : Trace) (start : Start) (a b : Arrival) (d : Deeds) → IsDone o t start a d → a ≡ b → (conn : ℕ) (reply : Reply) → In (Sends conn reply) (marks_done a d)
     → (conn ≡ connection_of b.request) × Answers b.request reply
-fitting_done o t start a b d x same conn reply h = grind (arith, nat_tests, sent_done, Each)
+fitting_done o t start a b d x same conn reply h = grind (arith, sent_done)
 
 fitting_form : (o : Setting) (now : ℕ) (t : Trace) (form : Form) → IsFormed o now t form → (a : Arrival) → executed_in (marks_of_form form) ≡ Some a → (conn : ℕ) (reply : Reply) → In (Sends conn reply) (marks_of_form form)
     → (conn ≡ connection_of a.request) × Answers a.request reply
@@ -136,7 +133,7 @@ answers_once o h = record {
 -- ---- the entries of completions
 
 completes_with : (o : Setting) (t : Trace) (ticket status : ℕ) → CompletesWith ticket status (effects_of o t (completion status (command_of t ticket)))
-completes_with o t ticket status = grind (arith, nat_tests, first_itself, eqb-true, and_parts)
+completes_with o t ticket status = grind (arith, first_itself)
 
 completes_all : (o : Setting) (event : ℕ) (t : Trace) (h : List Event) → CompletesAll h (entries_from o event t h)
 completes_all o event t [] = tt

@@ -7,7 +7,7 @@ use Rattle.std.proofs.lemmas.List.Folds.{list_any-append}
 use Rattle.std.proofs.lemmas.List.Sums.{sum_by-cons}
 use Rattle.iscsi_history.specs.rules.Trace.{Command, is_among, first_of, are_apart}
 use Rattle.iscsi_history.proofs.ListLemmas.{none_out}
-use Rattle.iscsi_history.proofs.BoolLemmas.{and_parts, and_both, or_none, not_true}
+use Rattle.iscsi_history.proofs.BoolLemmas.{and_parts, or_none, not_true}
 
 pub eq_sym : (a b : ℕ) → (a == b) ≡ (b == a)
 eq_sym a b = ⊎_elim (λ same. eq-eqb a b same ∙ sym (eq-eqb b a (sym same))) (λ apart. (let x : (a == b) ≡ false = grind (arith, nat_tests) in x) ∙ (let y : (b == a) ≡ false = grind (arith, nat_tests) in sym y)) (cases_eq a b)
@@ -17,7 +17,7 @@ unamong-push k cs c h apart = list_any-append (λ (d : Command). d.ticket == k) 
 
 pub apart-push : (cs : List Command) (c : Command) → are_apart cs ≡ true → is_among c.ticket cs ≡ false → are_apart (cs ++ c ∷ []) ≡ true
 apart-push [] c apart new = refl
-apart-push (d ∷ cs) c apart new = grind (arith, nat_tests, apart-push cs c, and_parts, or_none, and_both, unamong-push, not_true, eq_sym)
+apart-push (d ∷ cs) c apart new = grind (arith, apart-push cs c, unamong-push)
 
 pub unamong-filter : (p : Command → Bool) (k : ℕ) (cs : List Command) → is_among k cs ≡ false → is_among k (filter p cs) ≡ false
 unamong-filter p k [] h = refl
@@ -25,7 +25,7 @@ unamong-filter p k (c ∷ cs) h = grind (arith, unamong-filter p k cs)
 
 pub apart-filter : (p : Command → Bool) (cs : List Command) → are_apart cs ≡ true → are_apart (filter p cs) ≡ true
 apart-filter p [] h = refl
-apart-filter p (c ∷ cs) h = grind (arith, nat_tests, apart-filter p cs, and_parts, and_both, unamong-filter, not_true)
+apart-filter p (c ∷ cs) h = grind (arith, apart-filter p cs, unamong-filter)
 
 -- how many pass, without the command of a ticket
 pub count-without : (p : Command → Bool) (k : ℕ) (cs : List Command) (c : Command) → are_apart cs ≡ true → first_of (filter (λ d. d.ticket == k) cs) ≡ Some c

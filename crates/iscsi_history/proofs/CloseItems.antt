@@ -1,6 +1,5 @@
 -- Each item does and brings what is on open connections, and takes out what is going on on those that it closes.
 use Rattle.std.proofs.Common.{◌≡◌, ℕ, ◌+◌, ◌-◌, ◌<◌, ◌≤◌, ◌==◌, ◌||◌, inl, true, false, List, [], ◌∷◌, Option, Some, None, refl, ap, sym, subst, ◌∙◌, arith, eq-eqb}
-use Rattle.std.proofs.lemmas.Bool.Decides.{nat_tests}
 use Rattle.std.specs.List.{list_any, list_all, filter_map, range_with_len}
 use Rattle.std.proofs.lemmas.Bool.{false≢true, eqb-true}
 use Rattle.iscsi_wire.specs.Serial.{number_of_first}
@@ -11,17 +10,17 @@ use Rattle.iscsi_history.specs.rules.Trace.{Arrival, Command, Mark, Ignores, Tra
 use Rattle.iscsi_history.specs.rules.Execution.{exp_of, unfinished}
 use Rattle.iscsi_history.specs.rules.Logout.{is_open, live_of_units, all_held}
 use Rattle.iscsi_history.proofs.BoolLemmas.{or_first, or_second}
-use Rattle.iscsi_history.proofs.ElementLemmas.{In, in-cons, in-any, in-filter, filter-in, flat_map-in, range-in}
+use Rattle.iscsi_history.proofs.ElementLemmas.{In, in-any, in-filter, filter-in, flat_map-in, range-in}
 use Rattle.iscsi_history.proofs.HeldLemmas.{held-number, admitted_of_held}
 use Rattle.iscsi_history.proofs.Missing.{exp_item, expected_low}
-use Rattle.iscsi_history.proofs.Forms.{Start, Starts, AtTurn, AtArrival, AfterWaiting, start_mark, Deeds, marks_done, Form, Ignored, Rejected, Received, Postponed, Completed, Executed, marks_of_form, begun, EntersAs, is_closing, TakesOut, IsFormed}
+use Rattle.iscsi_history.proofs.Forms.{Start, Starts, AtTurn, AtArrival, AfterWaiting, start_mark, Deeds, marks_done, Form, Ignored, Rejected, Received, Postponed, Completed, Executed, marks_of_form, begun, is_closing, TakesOut, IsFormed}
 use Rattle.iscsi_history.proofs.FormItems.{live-begun}
 use Rattle.iscsi_history.proofs.FormRuns.{IsDue, StandsAt, Stands}
-use Rattle.iscsi_history.proofs.DeedLemmas.{each_is, begun_any, none_done, unended, unparted}
-use Rattle.iscsi_history.proofs.TouchLemmas.{EntersNext, entering_in, enters_form, entering_next, leaves_form}
+use Rattle.iscsi_history.proofs.DeedLemmas.{begun_any, none_done, unended, unparted}
+use Rattle.iscsi_history.proofs.TouchLemmas.{enters_form, leaves_form}
 use Rattle.iscsi_history.proofs.FateLemmas.{executed_at}
 use Rattle.iscsi_history.proofs.ReplyForms.{in_among}
-use Rattle.iscsi_history.proofs.CloseLemmas.{is_at, brings, ignores, closed_by, entered_brought, admitted_brought, Sound, Clear, open-item, open-unended, by_bool}
+use Rattle.iscsi_history.proofs.CloseLemmas.{is_at, brings, ignores, closed_by, entered_brought, admitted_brought, Sound, Clear, open-unended, by_bool}
 
 -- ---- items on one open connection
 
@@ -72,11 +71,7 @@ module _ (o : Setting) (t : Trace) (conn : ℕ) (item : List Mark) (here : is_op
 
 -- a command that enters has a unit of the session
 units_form : (o : Setting) (now : ℕ) (t : Trace) (form : Form) → IsFormed o now t form → (c : Command) → In c (filter_map enters (marks_of_form form)) → c.unit < o.units
-units_form o now t form x c h = grind (arith, nat_tests, each_is, EntersNext, entering_in, entering_next, in-cons, In, enters_form)
-
--- a number that is neither below ExpCmdSN nor above MaxCmdSN
-in_window : (e window unfinished n : ℕ) → 1 ≤ e → e ≤ n → n ≤ e + window - 1 - unfinished → n < e + window
-in_window e window unfinished n some low high = omega arith
+units_form o now t form x c h = grind (arith, enters_form)
 
 -- the arrivals that aren't passed over are on open connections
 abbrev pub OnOpen : Setting → Trace → Arrival → Type 0
@@ -84,7 +79,7 @@ OnOpen o t a = is_open o t (connection_of a.request) ≡ true
 
 -- what is received is in the window
 range_form : (o : Setting) (now p : ℕ) (t : Trace) (form : Form) → StandsAt (OnOpen o) o now p t form → (n : ℕ) (b : Arrival) → first_of (filter_map (admits_at n) (marks_of_form form)) ≡ Some b → (number_of_first o.first ≤ n) × (n < exp_of o t + o.window)
-range_form o now p t (Received a) at n b h = grind (arith, nat_tests, eqb-true, expected_low, in_window)
+range_form o now p t (Received a) at n b h = grind (arith, expected_low)
 range_form o now p t (Executed start a d) at n b h = absurd (let none : None ≡ Some b = sym (ap first_of (executed_at n start a d).admits) ∙ h in cc)
 range_form o now p t form at n b h = absurd cc
 
@@ -104,11 +99,11 @@ module _ (o : Setting) (now p : ℕ) (t : Trace) (start : Start) (a : Arrival) (
       by_start AfterWaiting waits here = c.waits a here.1
 
   only : Only (connection_of a.request) marks
-  only k apart = grind (arith, nat_tests, begun_any, is_at, marks_done, none_done, EntersAs, each_is)
+  only k apart = grind (arith, none_done)
 
   -- a connection that it doesn't close
   unclosed : (k : ℕ) → (d.ending ≡ true → ⊥) → ((conn : ℕ) → d.closing ≡ Some conn → (conn == k) ≡ false) → closed_by marks k ≡ false
-  unclosed k goes_on others = grind (arith, nat_tests, begun_any, marks_done, none_done)
+  unclosed k goes_on others = grind (arith, none_done)
 
   sound_staying : is_closing d ≡ false → Sound o t marks
   sound_staying stays =
@@ -118,7 +113,7 @@ module _ (o : Setting) (now p : ℕ) (t : Trace) (start : Start) (a : Arrival) (
   module _ (s : TakesOut o (begun start a t) d) where
     -- it takes out what there is of an open connection that it closes
     closes_these : (k : ℕ) → is_open o t k ≡ true → closed_by marks k ≡ true → s.of_these k ≡ true
-    closes_these k on closed = grind (arith, nat_tests, by_bool, false≢true, Start, begun, AtTurn, open-item, eqb-true, each_is, closed_by, unclosed)
+    closes_these k on closed = grind (arith, unclosed)
 
     live_leaves : (e : Command) → In e (live t) → closed_by marks (connection_of e.arrival.request) ≡ true → list_any (leaves_ticket e.ticket) marks ≡ true
     live_leaves e there closed =

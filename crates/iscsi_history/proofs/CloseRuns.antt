@@ -1,13 +1,11 @@
 -- In the trace of a list of events that come on the session's connections each item is sound.
 use Rattle.std.proofs.Common.{arith, ◌≡◌, ℕ, ◌+◌, true, List, [], ◌∷◌}
-use Rattle.std.proofs.lemmas.Bool.Decides.{nat_tests}
 use Rattle.std.specs.List.{list_all}
 use Rattle.iscsi_history.specs.declared.event.Event.{Event}
 use Rattle.iscsi_history.specs.rules.Settings.{Setting}
 use Rattle.iscsi_history.specs.rules.Trace.{Mark, Trace, after_items}
 use Rattle.iscsi_history.specs.rules.Agenda.{belongs, items_of}
 use Rattle.iscsi_history.specs.rules.Run.{after_event, after_events, trace_of}
-use Rattle.iscsi_history.proofs.BoolLemmas.{and_parts}
 use Rattle.iscsi_history.proofs.FormRuns.{Brings, Turns, TurnsOf, event_stands}
 use Rattle.iscsi_history.proofs.CloseLemmas.{Sound, Clear, clear-none, clear-item}
 use Rattle.iscsi_history.proofs.CloseItems.{OnOpen, item_sound}
@@ -38,7 +36,7 @@ event_sound o event t e known x = by_items (items_of o event t e) (event_stands 
 
 events_sound : (o : Setting) (event : ℕ) (t : Trace) (h : List Event) → list_all (belongs o) h ≡ true → Sounds o t → Sounds o (after_events o event t h)
 events_sound o event t [] known x = x
-events_sound o event t (e ∷ h) known x = grind (arith, nat_tests, events_sound o (event + 1) (after_event o event t e) h, and_parts, event_sound)
+events_sound o event t (e ∷ h) known x = grind (arith, events_sound o (event + 1) (after_event o event t e) h, event_sound)
 
 -- in the trace of a list of events each item is sound
 pub trace_sounds : (o : Setting) (h : List Event) → list_all (belongs o) h ≡ true → Sounds o (trace_of o h)

@@ -17,7 +17,7 @@ pub record ClosesNone (item : List Mark) : Type 0 where
   pub conns : (conn : ℕ) → list_any (closes_conn conn) item ≡ false
 
 pub closed-same : (conn : ℕ) (item : List Mark) (t : Trace) → ClosesNone item → is_closed conn (item ∷ t) ≡ is_closed conn t
-closed-same conn item t c = grind (arith, c.session, c.conns conn)
+closed-same conn item t c = grind (arith, c.conns conn)
 
 -- a mark, and those after it
 pub closes-more : (m : Mark) (ms : List Mark) → ClosesNone (m ∷ []) → ClosesNone ms → ClosesNone (m ∷ ms)

@@ -2,7 +2,6 @@
 use Rattle.std.proofs.Common.{List, ap, count_by, not, ◌∷◌, ◌≡◌, [], refl, ◌&&◌, ◌==◌, Bool, filter, length, ℕ, ◌++◌, ◌∙◌, ◌+◌, false, ◌||◌, cond, true, None, Some, eq-eqb, arith, nat_lt, map}
 use Rattle.std.specs.List.{list_any, filter_map, list_all, range_with_len, flat_map}
 use Rattle.std.proofs.lemmas.List.{append-nil}
-use Rattle.std.proofs.lemmas.Bool.{eqb-true}
 use Rattle.iscsi_wire.specs.Fields.{is_immediate, connection_of, itt}
 use Rattle.iscsi_wire.specs.declared.reply.Reply.TheVariants.{Scsi}
 use Rattle.iscsi_history.proofs.ListLemmas.{none_left}
@@ -12,11 +11,10 @@ use Rattle.iscsi_history.specs.rules.Execution.{unfinished, reply_on, sense_of_s
 use Rattle.iscsi_history.specs.rules.Settings.{Setting}
 use Rattle.iscsi_history.proofs.NewlyLemmas.{any_in_units as any_of_units, Untouched, live-untouched, both_all}
 use Rattle.iscsi_history.proofs.TraceLemmas.{live-leaves, weaker}
-use Rattle.iscsi_history.proofs.ListLemmas.{any_same, any_filter, filter-swap, none_passes}
-use Rattle.iscsi_history.proofs.BoolLemmas.{and_parts, or_false, not_true, and_true, alike, and_both, same_alike}
+use Rattle.iscsi_history.proofs.ListLemmas.{any_filter, filter-swap, none_passes}
+use Rattle.iscsi_history.proofs.BoolLemmas.{and_parts, not_true, and_true, alike, and_both, same_alike}
 use Rattle.iscsi_history.proofs.ApartLemmas.{unamong-filter, eq_sym}
 use Rattle.iscsi_history.proofs.DeliveryLemmas.{IsQuiet}
-use Rattle.std.proofs.lemmas.Bool.Decides.{nat_tests}
 use Rattle.iscsi_wire.specs.declared.reply.Reply.{Reply}
 use Rattle.iscsi_history.proofs.ClosingItems.{ClosesNone}
 use Rattle.iscsi_history.specs.declared.effect.Effect.TheVariants.{Leave, Send}
@@ -83,7 +81,7 @@ pub first_passing : (w : Command → Bool) (k : ℕ) (cs : List Command) (c : Co
     → (first_of (filter (λ d. d.ticket == k && w d) cs) ≡ cond (w c) (Some c) None) × (list_any (λ d. d.ticket == k && w d) (filter (λ d. d.unit == c.unit) cs) ≡ w c)
 first_passing w k [] c apart found = absurd cc
 first_passing w k (x ∷ cs) c apart found =
-    grind (arith, nat_tests, first_passing w k cs c, and_parts, eqb-true, not_true, eq-eqb, none_with, none_any, unamong-filter, or_false)
+    grind (arith, first_passing w k cs c, none_with, none_any, unamong-filter)
 
 pub none_passing : (w : Command → Bool) (k : ℕ) (cs : List Command) → first_of (filter (λ d. d.ticket == k) cs) ≡ None → first_of (filter (λ d. d.ticket == k && w d) cs) ≡ None
 none_passing w k [] none = refl
@@ -110,7 +108,7 @@ among_unit k (c ∷ cs) = ap (λ b. b || list_any (λ (d : Command). d.ticket ==
 
 -- some command passes just where one of some unit does
 pub any_in_units : (p : Command → Bool) (n : ℕ) (cs : List Command) → list_all (λ c. nat_lt c.unit n) cs ≡ true → list_any (λ unit. list_any p (filter (λ (c : Command). c.unit == unit) cs)) (range_with_len 0 n) ≡ list_any p cs
-any_in_units p n cs inside = grind (arith, nat_tests, any_same, any_filter, any_of_units)
+any_in_units p n cs inside = grind (arith, any_filter, any_of_units)
 
 -- ---- the marks by which commands leave
 
@@ -172,4 +170,4 @@ among_passing q (x ∷ cs) apart =
 -- no other command has the ticket of the first that passes
 pub ticket_alone : (q : Command → Bool) (cs : List Command) (c : Command) → are_apart cs ≡ true → first_of (filter q cs) ≡ Some c → (filter (λ d. d.ticket == c.ticket) cs ≡ c ∷ []) × (is_among c.ticket cs ≡ true)
 ticket_alone q [] c apart found = absurd cc
-ticket_alone q (x ∷ cs) c apart found = grind (arith, nat_tests, ticket_alone q cs c, none_left (λ e. e.ticket == x.ticket) cs)
+ticket_alone q (x ∷ cs) c apart found = grind (arith, ticket_alone q cs c, none_left (λ e. e.ticket == x.ticket) cs)

@@ -1,7 +1,6 @@
 -- How many of a list pass tests, one weaker than the other.
 use Rattle.std.proofs.Common.{◌≡◌, ℕ, ◌+◌, ◌≤◌, ◌==◌, ◌&&◌, not, cond, Bool, true, false, List, [], ◌∷◌, filter, count_by, refl, ap, sym, ◌∙◌, arith, length, ◌<◌, get_or, set, suc, zero, Some, find, ◌++◌, None, Option, drop, replicate}
 use Rattle.std.proofs.lemmas.Grind.{common_steps}
-use Rattle.std.proofs.lemmas.Bool.Decides.{nat_tests}
 use Rattle.std.proofs.lemmas.Bool.{false≢true}
 use Rattle.std.proofs.lemmas.List.Sums.{sum_by-cons, sum_by-append}
 use Rattle.iscsi_history.specs.rules.Trace.{Command, is_among}
@@ -18,7 +17,7 @@ count-cons p x xs = sum_by-cons (λ y. cond (p y) 1 0) x xs
 -- those of a part that pass
 pub count-filter : {A : Type 0} (p q : A → Bool) (xs : List A) → count_by p (filter q xs) ≡ count_by (λ x. q x && p x) xs
 count-filter p q [] = refl
-count-filter p q (x ∷ xs) = grind (arith, common_steps, nat_tests, count-filter p q xs, count-cons)
+count-filter p q (x ∷ xs) = grind (arith, common_steps, count-filter p q xs)
 
 one_weaker : (b c : Bool) → (b ≡ true → c ≡ true) → one b ≤ one c
 one_weaker b c h = grind arith
@@ -34,12 +33,12 @@ count-weaker p q (x ∷ xs) h = omega (arith, count-cons p x xs, count-cons q x 
 -- and one more, where it alone passes an element
 pub count-lost : {A : Type 0} (p q : A → Bool) (xs : List A) (x : A) → ((y : A) → p y ≡ true → q y ≡ true) → In x xs → p x ≡ false → q x ≡ true → count_by p xs + 1 ≤ count_by q xs
 count-lost p q [] x h there none some = absurd there
-count-lost p q (y ∷ xs) x h there none some = grind (arith, nat_tests, count-lost p q xs x, count-cons, one_same, count-weaker, one_weaker)
+count-lost p q (y ∷ xs) x h there none some = grind (arith, count-lost p q xs x, count-cons, count-weaker)
 
 -- an element that passes counts
 pub count-one : {A : Type 0} (p : A → Bool) (xs : List A) (x : A) → In x xs → p x ≡ true → 1 ≤ count_by p xs
 count-one p [] x there passes = absurd there
-count-one p (y ∷ xs) x there passes = grind (arith, nat_tests, count-one p xs x, count-cons, one_same)
+count-one p (y ∷ xs) x there passes = grind (arith, count-one p xs x, count-cons)
 
 split_one : (b c : Bool) → one (b && c) + one (not b && c) ≡ one c
 split_one b c = grind arith
@@ -55,7 +54,7 @@ count-split p q (x ∷ xs) =
 -- what is among some that are counted is counted
 pub among_counted : (k : ℕ) (cs : List Command) → is_among k cs ≡ true → 1 ≤ count_by (λ (c : Command). c.ticket == k) cs
 among_counted k [] h = absurd (false≢true h)
-among_counted k (c ∷ cs) h = grind (arith, common_steps, nat_tests, among_counted k cs, sum_by-cons)
+among_counted k (c ∷ cs) h = grind (arith, common_steps, among_counted k cs)
 
 pub counted_among : (k : ℕ) (cs : List Command) → 1 ≤ count_by (λ (c : Command). c.ticket == k) cs → is_among k cs ≡ true
 counted_among k [] h = absurd (omega arith)
@@ -78,7 +77,7 @@ at_most p (z ∷ ys) = grind (arith, at_most p ys)
 -- at least one command fewer
 pub fewer : {A : Type 0} (p : A → Bool) (xs : List A) (x : A) → find p xs ≡ Some x → length (filter (λ y. not (p y)) xs) + 1 ≤ length xs
 fewer p [] x h = absurd cc
-fewer p (y ∷ xs) x h = grind (arith, nat_tests, fewer p xs x, at_most)
+fewer p (y ∷ xs) x h = grind (arith, fewer p xs x, at_most)
 
 -- ---- places
 
@@ -95,11 +94,11 @@ count_replaced p (y ∷ ps) (suc k) x d lt = grind (arith, count_replaced p ps k
 -- at least the one that is found is left out
 pub fewer_left : {A : Type 0} (p q : A → Bool) (xs : List A) (x : A) → find p xs ≡ Some x → q x ≡ true → length (filter (λ y. not (q y)) xs) + 1 ≤ length xs
 fewer_left p q [] x found is = absurd cc
-fewer_left p q (y ∷ xs) x found is = grind (arith, nat_tests, fewer_left p q xs x, at_most)
+fewer_left p q (y ∷ xs) x found is = grind (arith, fewer_left p q xs x, at_most)
 
 pub none_counted : {A : Type 0} (p : Option A → Bool) (n : ℕ) → p None ≡ false → count_by p (replicate n None) ≡ 0
 none_counted p zero h = refl
-none_counted p (suc n) h = grind (arith, none_counted p n, count-cons)
+none_counted p (suc n) h = grind (arith, none_counted p n)
 
 pub count_places : {A : Type 0} (p : Option A → Bool) (q : ℕ → Bool) (ps : List (Option A)) (e : ℕ) → ((k : ℕ) → k < length ps → p (get_or ps k None) ≡ q (e + k)) → count_by p ps ≡ count_by q (range_with_len e (length ps))
 count_places p q [] e h = refl

@@ -50,10 +50,6 @@ module _ (f : Facts) (r : Request) where
   pub befits_function : Befits f r (function_deed f r)
   befits_function = grind (arith, nat_tests)
 
-  -- a refusal isn't Function complete
-  pub refused_otherwise : (x : Answer) → refusal f.level f.unit r ≡ Some x → x ≡ Respond 0 → ⊥
-  refused_otherwise x is = grind (arith, nat_tests)
-
   -- nor a Logout Response
   pub refused_plainly : (x : Answer) → refusal f.level f.unit r ≡ Some x → is_parting x ≡ false
   refused_plainly x is = grind (arith, nat_tests)

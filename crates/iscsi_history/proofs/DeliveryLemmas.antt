@@ -1,6 +1,5 @@
 -- Delivery: in each run, the requests delivered are those admitted below ExpCmdSN, in the order of their numbers.
 use Rattle.std.proofs.Common.{◌≡◌, ℕ, zero, suc, ◌+◌, ◌-◌, ◌<◌, ◌≤◌, false, List, [], ◌∷◌, ◌++◌, map, refl, ap, sym, ◌∙◌, arith, append_assoc}
-use Rattle.std.proofs.lemmas.Bool.Decides.{nat_tests}
 use Rattle.std.specs.List.{list_any, filter_map, flat_map, range_with_len}
 use Rattle.std.proofs.lemmas.List.{append-nil}
 use Rattle.std.proofs.lemmas.List.Elements.{filter_map-append}
@@ -36,7 +35,7 @@ item_delivers o t item =
 
 items_deliver : (o : Setting) (t : Trace) (items : List (List Mark)) → shown delivers (after_items items t) ≡ shown delivers t ++ flat_map delivered_by (effects_of o t items)
 items_deliver o t [] = sym (append-nil (shown delivers t))
-items_deliver o t (item ∷ items) = grind (arith, nat_tests, items_deliver o (item ∷ t) items, append_assoc, item_delivers, flat_map-append)
+items_deliver o t (item ∷ items) = grind (arith, items_deliver o (item ∷ t) items, append_assoc, item_delivers, flat_map-append)
 
 pub log_delivers : (o : Setting) (event : ℕ) (t : Trace) (h : List Event) → shown delivers (after_events o event t h) ≡ shown delivers t ++ delivered (entries_from o event t h)
 log_delivers o event t [] = sym (append-nil (shown delivers t))

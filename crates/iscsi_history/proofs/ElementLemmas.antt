@@ -1,6 +1,5 @@
 -- The elements of lists.
 use Rattle.std.proofs.Common.{◌≡◌, ℕ, zero, suc, ◌+◌, ◌<◌, ◌≤◌, ◌⊎◌, inl, inr, ⊎_elim, Bool, true, List, [], ◌∷◌, ◌++◌, filter, Option, Some, ap, sym, ◌∙◌, arith}
-use Rattle.std.proofs.lemmas.Bool.Decides.{nat_tests}
 use Rattle.std.specs.List.{list_any, flat_map, range_with_len, cons_option}
 use Rattle.std.specs.Prelude.{Contains}
 use Rattle.std.proofs.lemmas.Bool.{cases_eq}
@@ -34,7 +33,7 @@ append-in_second (z ∷ xs) ys x h = inr (append-in_second xs ys x h)
 
 pub flat_map-in : {A : Type 0} (f : ℕ → List A) (ns : List ℕ) (n : ℕ) (x : A) → In n ns → In x (f n) → In x (flat_map f ns)
 flat_map-in f [] n x there h = absurd there
-flat_map-in f (m ∷ ns) n x there h = grind (arith, nat_tests, flat_map-in f ns n x, append-in_first, append-in_second)
+flat_map-in f (m ∷ ns) n x there h = grind (arith, flat_map-in f ns n x, append-in_first, append-in_second)
 
 pub range-in : (a count n : ℕ) → a ≤ n → n < a + count → In n (range_with_len a count)
 range-in a zero n low high = absurd (omega arith)

@@ -1,6 +1,5 @@
 -- Items that receive a number without a request, and items that take held requests out.
-use Rattle.std.proofs.Common.{List, ◌∷◌, refl, [], false, ℕ, ◌≡◌, ◌==◌, ap, sym, ◌||◌, ◌∙◌, ◌++◌, None, cond, eq-eqb, Bool, map, Some, ◌+◌, ◌<◌, arith, suc, zero, ◌≤◌, Option, append_assoc}
-use Rattle.std.proofs.lemmas.Bool.Decides.{nat_tests}
+use Rattle.std.proofs.Common.{List, ◌∷◌, refl, [], false, ℕ, ◌≡◌, ◌==◌, ap, sym, ◌||◌, ◌∙◌, ◌++◌, None, cond, Bool, map, Some, ◌+◌, ◌<◌, arith, suc, zero, ◌≤◌, Option, append_assoc}
 use Rattle.std.specs.List.{filter_map, list_any, cons_option, range_with_len}
 use Rattle.std.proofs.lemmas.List.{append-nil}
 use Rattle.std.proofs.lemmas.Grind.{flat_map-append}
@@ -10,7 +9,7 @@ use Rattle.iscsi_wire.specs.declared.reply.Reply.{Reply}
 use Rattle.iscsi_history.specs.promises.Executed.{delivers, request_at}
 use Rattle.iscsi_history.proofs.DeliveryLemmas.{IsQuiet}
 use Rattle.iscsi_history.proofs.ListLemmas.{none_first, range-parts}
-use Rattle.iscsi_history.proofs.BoolLemmas.{or_false, or_second}
+use Rattle.iscsi_history.proofs.BoolLemmas.{or_false}
 use Rattle.iscsi_history.proofs.TraceLemmas.{received-item}
 
 -- ---- quiet items
@@ -95,16 +94,16 @@ module _ (item : List Mark) (t : Trace) (n : ℕ) (v : EmptiesOne item n) where
   emptied-empties k = ap (λ b. b || is_emptied t k) (v.empties k)
 
   pub held-empties : (k : ℕ) → held (item ∷ t) k ≡ cond (is_delivered t k || ((n == k) || is_emptied t k)) None (admitted t k)
-  held-empties k = grind (arith, v.delivers_no k, emptied-empties k, admitted-empties k)
+  held-empties k = grind (arith, v.delivers_no k, admitted-empties k)
 
   pub held-other : (k : ℕ) → (n == k) ≡ false → held (item ∷ t) k ≡ held t k
   held-other k apart = held-empties k ∙ ap (λ b. cond (is_delivered t k || (b || is_emptied t k)) None (admitted t k)) apart
 
   pub held-gone : held (item ∷ t) n ≡ None
-  held-gone = grind (arith, held-empties n, or_second (is_delivered t n) ((n == n) || is_emptied t n) (ap (λ b. b || is_emptied t n) (eq-eqb n n refl)))
+  held-gone = grind (arith, held-empties n)
 
   pub request_at-empties : (k : ℕ) → (n == k) ≡ false → request_at (item ∷ t) k ≡ request_at t k
-  request_at-empties k apart = grind (arith, emptied-empties k, apart, admitted-empties k)
+  request_at-empties k apart = grind (arith, admitted-empties k)
 
 -- ---- requests are taken out together
 
@@ -152,10 +151,7 @@ pub record SameNumbers (t t' : Trace) : Type 0 where
 
 module _ (m : Mark) (ms : List Mark) (t : Trace) where
   pub shown-joined : {A : Type 0} (view : Mark → Option A) → shown view ((m ∷ ms) ∷ t) ≡ shown view (ms ∷ (m ∷ []) ∷ t)
-  shown-joined {A} view = grind (arith, nat_tests, append-nil, append_assoc)
-
-  pub has-joined : (test : Mark → Bool) → has test ((m ∷ ms) ∷ t) ≡ has test (ms ∷ (m ∷ []) ∷ t)
-  has-joined test = grind arith
+  shown-joined {A} view = grind (arith, append_assoc)
 
   pub joined-same : SameNumbers (ms ∷ (m ∷ []) ∷ t) ((m ∷ ms) ∷ t)
-  joined-same = grind (arith, nat_tests, shown-joined, has-joined)
+  joined-same = grind (arith, shown-joined)

@@ -1,9 +1,7 @@
 -- What is enabled and live after an item, and the commands that were shown as enabled.
-use Rattle.std.proofs.Common.{Bool, List, false, refl, true, ◌||◌, ◌∷◌, ◌≡◌, ◌+◌, ◌++◌, ◌<◌, ◌==◌, [], ap, arith, suc, zero, ℕ, ◌∙◌, ◌≤◌, ◌&&◌, not, eq-eqb, filter, sym, nat_lt}
+use Rattle.std.proofs.Common.{Bool, List, false, refl, true, ◌||◌, ◌∷◌, ◌≡◌, ◌+◌, ◌++◌, ◌<◌, ◌==◌, [], ap, arith, suc, zero, ℕ, ◌∙◌, ◌≤◌, ◌&&◌, not, filter, sym, nat_lt}
 use Rattle.std.specs.List.{flat_map, range_with_len, list_any, list_all}
 use Rattle.std.proofs.lemmas.List.{append-nil}
-use Rattle.std.proofs.lemmas.Bool.{cases_eq, false≢true}
-use Rattle.std.proofs.lemmas.Bool.Decides.{nat_tests}
 use Rattle.std.proofs.lemmas.List.Folds.{list_any-append}
 use Rattle.iscsi_history.specs.rules.Trace.{Command, Mark, Trace, was_free, live_in, leaves_ticket, has, is_among, live}
 use Rattle.iscsi_history.specs.rules.Settings.{Setting}
@@ -11,7 +9,7 @@ use Rattle.iscsi_history.specs.rules.Run.{newly_enabled, effects_of_mark, effect
 use Rattle.iscsi_history.specs.promises.Enabling.{is_leave, effects_so_far, is_enable, is_shown_enabled, is_enabled, EnabledSoFar}
 use Rattle.iscsi_history.proofs.NewlyLemmas.{flat_map-none, new_in, new_in-none, is_here, was_free-stays, Untouched, live-untouched, live_in-untouched, newly-untouched, any_or, is_new, newly_among, was_or_new}
 use Rattle.iscsi_history.proofs.MomentLemmas.{enables, enables_none, shown_so_far, item_enables, left_unlive}
-use Rattle.iscsi_history.proofs.BoolLemmas.{or_false, and_both, or_second, and_false}
+use Rattle.iscsi_history.proofs.BoolLemmas.{or_false, or_second, and_false}
 use Rattle.iscsi_history.proofs.TraceLemmas.{weaker}
 use Rattle.iscsi_history.proofs.ListLemmas.{any_all}
 use Rattle.iscsi_history.proofs.CommandItems.{LeavesSome, live-left, none_any}
@@ -21,7 +19,7 @@ was_before c item t = grind arith
 
 flat_map-one : {A : Type 0} (f : ℕ → List A) (from n k : ℕ) → from ≤ k → k < from + n → ((j : ℕ) → (j == k) ≡ false → f j ≡ []) → flat_map f (range_with_len from n) ≡ f k
 flat_map-one f from zero k low high none = absurd (omega arith)
-flat_map-one f from (suc n) k low high none = grind (arith, nat_tests, flat_map-one f (from + 1) n k, flat_map-none, append-nil, cases_eq)
+flat_map-one f from (suc n) k low high none = grind (arith, flat_map-one f (from + 1) n k, flat_map-none, append-nil)
 
 -- one that touches a single unit enables commands of that one
 pub newly-one : (o : Setting) (item : List Mark) (t : Trace) (unit : ℕ) → unit < o.units → ((other : ℕ) → (other == unit) ≡ false → live_in other (item ∷ t) ≡ live_in other t) → newly_enabled o t item ≡ new_in t item unit
@@ -55,7 +53,7 @@ shown-before o t k = ap (λ b. enabled_once o t k && not b) (left_so_far o t k)
 -- each is among those of its unit
 all_in_unit : (cs : List Command) → list_all (λ (c : Command). is_here c.unit (filter (λ (d : Command). d.unit == c.unit) cs) c) cs ≡ true
 all_in_unit [] = refl
-all_in_unit (x ∷ cs) = grind (arith, nat_tests, all_in_unit cs, and_both, is_here, eq-eqb, weaker, or_second, false≢true)
+all_in_unit (x ∷ cs) = grind (arith, all_in_unit cs, weaker)
 
 -- ---- an item that nothing enters or leaves by
 

@@ -1,6 +1,5 @@
 -- What has become of a number: a received one has one fate, and any other none.
 use Rattle.std.proofs.Common.{arith, ◌≡◌, ℕ, ◌==◌, ◌||◌, cond, Bool, true, false, List, [], ◌∷◌, ◌++◌, count_by, Option, Some, None, refl, ap, sym, subst, ◌∙◌}
-use Rattle.std.proofs.lemmas.Bool.Decides.{nat_tests}
 use Rattle.std.specs.List.{list_any, filter_map, cons_option}
 use Rattle.std.proofs.lemmas.Bool.{false≢true, eqb-true}
 use Rattle.iscsi_history.specs.rules.Settings.{Setting}
@@ -66,7 +65,7 @@ held-kept t n item unemptied undelivered none = grind arith
 -- an item joins its facts to those of before
 joined : (t : Trace) (n : ℕ) (item : List Mark) (r v e d r' v' e' d' : Bool) (as' : List Arrival) (h x : Option Arrival) → NumberIs t n r v e d h → ItemAt n item r' v' e' d' as' → held (item ∷ t) n ≡ x
     → NumberIs (item ∷ t) n (r || r') (v' || v) (e' || e) (d' || d) x
-joined t n item r v e d r' v' e' d' as' h x s i holds = grind (arith, nat_tests, received-item)
+joined t n item r v e d r' v' e' d' as' h x s i holds = grind (arith, received-item)
 
 -- a number whose request is gone stays as it is
 stays : (t : Trace) (n : ℕ) (item : List Mark) (v e d : Bool) → NumberIs t n true v e d None → Touch t n item → NumberIs (item ∷ t) n true v e d None

@@ -1,6 +1,5 @@
 -- Items one after the other: their effects, the agenda in two halves, and ExpCmdSN, which doesn't go back.
 use Rattle.std.proofs.Common.{◌++◌, List, [], ap, append_assoc, refl, sym, ◌∙◌, ◌∷◌, ◌≡◌, length, ◌+◌, suc, zero, ℕ, ◌-◌, ◌<◌, arith, inl, inr, true, ◌≤◌, ⊎_elim, ◌⊎◌}
-use Rattle.std.proofs.lemmas.Bool.Decides.{nat_tests}
 use Rattle.std.specs.List.{list_all}
 use Rattle.std.proofs.lemmas.List.{append-nil}
 use Rattle.std.proofs.lemmas.List.Folds.{list_any-append}
@@ -15,7 +14,7 @@ use Rattle.iscsi_history.specs.promises.Flow.{HasOneMore, FlowsThrough, Flows}
 use Rattle.iscsi_history.specs.declared.event.Event.{Event}
 use Rattle.iscsi_history.specs.rules.Agenda.{belongs}
 use Rattle.iscsi_history.proofs.TraceLemmas.{after_items-append}
-use Rattle.iscsi_history.proofs.BoolLemmas.{or_first, and_both}
+use Rattle.iscsi_history.proofs.BoolLemmas.{and_both}
 use Rattle.iscsi_history.proofs.Missing.{expected_below, expected_gone, expected_low}
 
 -- ---- lists of items
@@ -35,7 +34,7 @@ turns o n zero t = []
 turns o n (suc more) t = let now = turn_at o n t in now ++ agenda o (n + 1) more (after_items now t)
 
 pub agenda-halves : (o : Setting) (n m : ℕ) (t : Trace) → agenda o n m t ≡ functions_at o n t ++ turns o n m (after_items (functions_at o n t) t)
-agenda-halves o n m t = grind (arith, nat_tests, append-nil, append_assoc, after_items-append)
+agenda-halves o n m t = grind (arith, append-nil, append_assoc, after_items-append)
 
 pub turns-more : (o : Setting) (e f : ℕ) (t : Trace) → e < f → turns o e (f - e) t ≡ turn_at o e t ++ agenda o (e + 1) (f - (e + 1)) (after_items (turn_at o e t) t)
 turns-more o e f t past = ap (λ n. turns o e n t) (let z : f - e ≡ suc (f - (e + 1)) = omega arith in z)
@@ -43,7 +42,7 @@ turns-more o e f t past = ap (λ n. turns o e n t) (let z : f - e ≡ suc (f - (
 -- ---- ExpCmdSN doesn't go back
 
 still_received : (ns ns' : List ℕ) (n : ℕ) → HasOneMore ns ns' → contains ns n ≡ true → contains ns' n ≡ true
-still_received ns ns' n more there = grind (arith, nat_tests, list_any-append, or_first)
+still_received ns ns' n more there = grind (arith, list_any-append)
 
 pub exp_stays : (o : Setting) (t t' : Trace) → HasOneMore (received t) (received t') → exp_of o t ≤ exp_of o t'
 exp_stays o t t' more =
@@ -74,7 +73,7 @@ split_last (x ∷ h) e [] after event is = inr (h, cc)
 split_last (x ∷ h) e (b ∷ before) after event is = grind (arith, split_last h e before after event)
 
 pub FlowsThrough-push : (o : Setting) (h : List Event) (e : Event) → FlowsThrough o h → Flows o (trace_of o h) (trace_of o (h ++ e ∷ [])) → FlowsThrough o (h ++ e ∷ [])
-FlowsThrough-push o h e all now = grind (arith, nat_tests, split_last)
+FlowsThrough-push o h e all now = grind (arith, split_last)
 
 -- so do the events with it
 pub belong_more : (o : Setting) (h : List Event) (e : Event) → list_all (belongs o) h ≡ true → belongs o e ≡ true → list_all (belongs o) (h ++ e ∷ []) ≡ true

@@ -28,19 +28,19 @@ use Rattle.iscsi_history.proofs.CountLemmas.{one, count-cons, count-filter}
 use Rattle.iscsi_history.proofs.ElementLemmas.{In, in-filter, first-in}
 use Rattle.iscsi_history.proofs.TraceLemmas.{live-quiet}
 use Rattle.iscsi_history.proofs.HeldLemmas.{held-number}
-use Rattle.iscsi_history.proofs.DeedTable.{named_below, Befits, unset, befits_function, befits_deed, refused_otherwise, through_function}
+use Rattle.iscsi_history.proofs.DeedTable.{named_below, Befits, unset, befits_function, befits_deed, through_function}
 use Rattle.iscsi_history.proofs.Forms.{Start, Deeds, idle, marks_done, begun, Each, is_closing, is_completed_by, Sweeps, IsDone}
 
 -- ---- the mark by which a request executes changes nothing else
 
 pub live-begun : (start : Start) (a : Arrival) (t : Trace) → live (begun start a t) ≡ live t
-live-begun start a t = grind (arith, nat_tests, live-quiet)
+live-begun start a t = grind (arith, live-quiet)
 
 entered-begun : (start : Start) (a : Arrival) (t : Trace) → entered (begun start a t) ≡ entered t
-entered-begun start a t = grind (arith, nat_tests, append-nil)
+entered-begun start a t = grind (arith, append-nil)
 
 received-begun : (start : Start) (a : Arrival) (t : Trace) → received (begun start a t) ≡ received t
-received-begun start a t = grind (arith, nat_tests, append-nil)
+received-begun start a t = grind (arith, append-nil)
 
 -- ---- what is counted of a part
 
@@ -50,7 +50,7 @@ first_counted p (x ∷ cs) c h = grind (arith, count-cons)
 
 -- those of a unit, and those of the units after it
 one_of_units : (n u : ℕ) (b : Bool) → one ((n == u) && b) + one (nat_le (u + 1) n && b) ≡ one (nat_le u n && b)
-one_of_units n u b = grind (arith, nat_tests)
+one_of_units n u b = grind arith
 
 of_units : (p : Command → Bool) (u : ℕ) (cs : List Command)
     → count_by p (filter (λ c. c.unit == u) cs) + count_by p (filter (λ c. nat_le (u + 1) c.unit) cs) ≡ count_by p (filter (λ c. nat_le u c.unit) cs)
@@ -63,7 +63,7 @@ of_units p u cs = omega (arith, count-filter p (λ c. c.unit == u) cs, count-fil
 -- the commands of units are no more than all
 units_counted : (p : Command → Bool) (cs : List Command) (u n : ℕ) → count_by p (flat_map (λ v. filter (λ c. c.unit == v) cs) (range_with_len u n)) ≤ count_by p (filter (λ c. nat_le u c.unit) cs)
 units_counted p cs u zero = omega arith
-units_counted p cs u (suc n) = grind (arith, nat_tests, units_counted p cs (u + 1) n, sum_by-append, of_units)
+units_counted p cs u (suc n) = grind (arith, units_counted p cs (u + 1) n, sum_by-append, of_units)
 
 -- ---- what is held
 
@@ -166,7 +166,7 @@ module _ (o : Setting) (t : Trace) (start : Start) (a : Arrival) where
 
   leave_done : (cs : List Command) → ((p : Command → Bool) → count_by p cs ≤ count_by p (live t')) → IsDone o t start a (record idle { leaving = cs; reply = Some (Task (itt a.request) 0) })
   unfolding t'
-  leave_done cs few = grind (arith, nat_tests, live-begun, false≢true)
+  leave_done cs few = grind (arith, live-begun)
 
   empty_done : (b : Arrival) → held t' b.number ≡ Some b → IsDone o t start a (record idle { emptied = b ∷ []; reply = Some (Task (itt a.request) 0) })
   unfolding t'
@@ -183,7 +183,7 @@ module _ (o : Setting) (t : Trace) (start : Start) (a : Arrival) where
   -- a number is voided, if it wasn't received before
   void_done : (n : ℕ) → is_received t' n ≡ false → is_immediate a.request ≡ true → (function a.request == 1) ≡ true → IsDone o t start a (record idle { void = Some n; reply = Some (Task (itt a.request) 0) })
   unfolding t'
-  void_done n new immediate one = grind (arith, nat_tests, received-begun, false≢true)
+  void_done n new immediate one = grind (arith, received-begun)
 
   -- ---- Logout
 
@@ -323,7 +323,7 @@ module _ (o : Setting) (t : Trace) (start : Start) (a : Arrival) where
     where
       -- a function that is completed isn't refused
       unrefused : (x : DoesDeed (deed_of (facts_of o t' a) a.request)) → is_abort a.request ≡ true → is_completed_by a x.does.deeds ≡ true → (y : Option Answer) → refusal o.level (unit_named o.units a.request) a.request ≡ y → refusal_of_function o a.request ≡ None
-      unrefused x aborts h y is = grind (arith, nat_tests, and_first, t', refused_otherwise)
+      unrefused x aborts h y is = grind (arith, nat_tests)
 
   pub does_after : Does o t start a (marks_after o (begun start a t) a)
   does_after = any_does.does

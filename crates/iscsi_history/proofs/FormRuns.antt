@@ -1,7 +1,6 @@
 -- In the trace of a list of events each item has a form, and stands where it is due: the one walk over the agenda.
 use Rattle.std.proofs.Common.{◌≡◌, ℕ, zero, suc, ◌+◌, ◌-◌, ◌<◌, ◌≤◌, ◌==◌, ◌&&◌, ◌||◌, inl, inr, not, cond, Bool, true, false, List, [], ◌∷◌, ◌++◌, filter, length, Option, Some, None, refl, ap, sym, subst, ◌∙◌, arith, nat_lt, nat_le}
 use Rattle.std.proofs.lemmas.Bool.{eqb-true, false≢true, cond_both}
-use Rattle.std.proofs.lemmas.Bool.Decides.{nat_tests}
 use Rattle.iscsi_wire.specs.Fields.{connection_of, function, header_of, is_immediate, opcode, itt, request_of}
 use Rattle.iscsi_wire.specs.declared.reply.Reply.{Reply}
 use Rattle.iscsi_wire.specs.declared.reply.Reply.TheVariants.{Task, Reject}
@@ -132,7 +131,7 @@ module _ (Q : Trace → Arrival → Type 0) (o : Setting) (now : ℕ) where
       turns_stand t (Admits a ∷ []) (record { has = record { form = Received a; is = refl; formed = (here, new) }; at = (q, in_window inside) })))
     where
       in_window : (nat_lt a.number (exp_of o t) || nat_lt (max_of o t) a.number) ≡ false → (exp_of o t ≤ a.number) × (a.number ≤ max_of o t)
-      in_window inside = grind (arith, nat_tests)
+      in_window inside = grind arith
 
   -- a request that executes as it arrives
   starts_at_once : (t : Trace) (a : Arrival) → a.event ≡ now → Q t a → (is_abort a.request ≡ true → is_set_abort a.request ≡ true → is_completed_by a (any_does o t AtArrival a).does.deeds ≡ true → a.number ≤ exp_of o t) → Stands (exp_of o t) t (execution o t (Executes a) a)
@@ -148,7 +147,7 @@ module _ (Q : Trace → Arrival → Type 0) (o : Setting) (now : ℕ) where
       by_tests : (b c : Bool) → nat_lt (exp_of o t) a.number ≡ c → (d : Bool)
           → Stands (exp_of o t) t (cond b (Executes a ∷ reply_on a (Task (itt a.request) 255)) (cond (not c) (execution o t (Executes a) a) (cond d (Executes a ∷ reply_on a (Reject 6 (header_of a.request))) (Waits a ∷ []))))
       by_tests true c is d = refused_stands t a (Task (itt a.request) 255) here q refl (and_false (itt a.request == itt a.request))
-      by_tests false false is d = starts_at_once t a here q (λ aborts set done. let by : a.number ≤ exp_of o t = grind (arith, nat_tests) in by)
+      by_tests false false is d = starts_at_once t a here q (λ aborts set done. let by : a.number ≤ exp_of o t = grind arith in by)
       by_tests false true is true = refused_stands t a (Reject 6 (header_of a.request)) here q refl refl
       by_tests false true is false = record { has = record { form = Postponed a; is = refl; formed = here }; at = q }
 
@@ -218,11 +217,11 @@ pub event_going : (o : Setting) (now : ℕ) (t : Trace) (e : Event) → HaveForm
 event_going o now t e x = by_items (items_of o now t e) (event_stands AnyArrival o now t e (any_brought o now t e))
   where
     by_items : (items : List (List Mark)) → TurnsOf AnyArrival o now t items → HaveForms o (now + 1) (after_items items t)
-    by_items items s = grind (arith, nat_tests, turns_going, HaveForms-more, is_arrival, HaveForms, HaveForms-on)
+    by_items items s = grind (arith, turns_going, HaveForms-on)
 
 events_have_forms : (o : Setting) (now : ℕ) (t : Trace) (h : List Event) → HaveForms o now t → HaveForms o (now + length h) (after_events o now t h)
 events_have_forms o now t [] x = HaveForms-on o now (now + 0) t (omega arith) x
-events_have_forms o now t (e ∷ h) x = grind (arith, nat_tests, events_have_forms o (now + 1) (after_event o now t e) h, HaveForms-on, event_going)
+events_have_forms o now t (e ∷ h) x = grind (arith, events_have_forms o (now + 1) (after_event o now t e) h, event_going)
 
 -- each item of the trace of these events has a form
 pub trace_has_forms : (o : Setting) (h : List Event) → HaveForms o (length h) (trace_of o h)

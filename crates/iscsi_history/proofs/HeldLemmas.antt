@@ -1,5 +1,5 @@
 -- Which requests are held, and which are due.
-use Rattle.std.proofs.Common.{◌≡◌, ℕ, ◌==◌, ◌||◌, ◌⊎◌, ⊎_elim, cond, Bool, true, false, List, [], ◌∷◌, ◌++◌, Option, Some, None, option_map, refl, ap, ◌∙◌, eq-eqb, ◌&&◌, ◌<◌, ◌≤◌, ◌+◌, zero, suc, filter, arith, nat_lt, subst}
+use Rattle.std.proofs.Common.{◌≡◌, ℕ, ◌==◌, ◌||◌, ◌⊎◌, ⊎_elim, cond, Bool, true, false, List, [], ◌∷◌, ◌++◌, Option, Some, None, option_map, refl, ap, ◌∙◌, ◌&&◌, ◌<◌, ◌≤◌, ◌+◌, zero, suc, filter, arith, nat_lt, subst}
 use Rattle.std.specs.List.{filter_map, cons_option, range_with_len}
 use Rattle.std.proofs.lemmas.List.{append-nil}
 use Rattle.iscsi_history.specs.rules.Trace.{Arrival, Mark, Admits, Delivers, Trace, shown, first_of, is_received, is_delivered, is_emptied, held, admitted, admits_at, received, held_among}
@@ -7,13 +7,12 @@ use Rattle.iscsi_history.specs.promises.Executed.{request_at}
 use Rattle.iscsi_history.proofs.TraceLemmas.{unadmitted}
 use Rattle.iscsi_history.proofs.DeliveryLemmas.{IsQuiet}
 use Rattle.std.proofs.lemmas.List.Folds.{list_any-append}
-use Rattle.iscsi_history.proofs.BoolLemmas.{or_false, and_first}
+use Rattle.iscsi_history.proofs.BoolLemmas.{or_false}
 use Rattle.iscsi_wire.specs.declared.request.Request.{Request}
 use Rattle.iscsi_history.specs.rules.Settings.{Setting}
 use Rattle.iscsi_history.proofs.ListLemmas.{first_itself}
 use Rattle.iscsi_history.specs.rules.Management.{held_command, is_to}
 use Rattle.iscsi_wire.specs.Fields.{itt, opcode}
-use Rattle.std.proofs.lemmas.Bool.Decides.{nat_tests}
 use Rattle.iscsi_history.specs.rules.Execution.{exp_of}
 
 -- ---- who was admitted at a number
@@ -60,18 +59,18 @@ pub held-admits : (t : Trace) (a : Arrival) (n : ℕ) → (a.number == n) ≡ fa
 held-admits t a n apart = ap (λ x. cond (is_delivered t n || is_emptied t n) None x) (admitted-admits t a n apart)
 
 pub held-here : (t : Trace) (a : Arrival) → is_received t a.number ≡ false → is_delivered t a.number ≡ false → is_emptied t a.number ≡ false → held ((Admits a ∷ []) ∷ t) a.number ≡ Some a
-held-here t a new undelivered unemptied = grind (arith, nat_tests, unadmitted, eq-eqb)
+held-here t a new undelivered unemptied = grind (arith, unadmitted)
 
 -- a request's turn: others are held as before
 pub held-turned : (t : Trace) (a : Arrival) (ms : List Mark) (n : ℕ) → IsQuiet ms → (a.number == n) ≡ false → held ((Delivers a ∷ ms) ∷ t) n ≡ held t n
-held-turned t a ms n q apart = grind (arith, apart, q.delivers_no n, q.empties_no n, q.admits n, append-nil (shown (admits_at n) t))
+held-turned t a ms n q apart = grind (arith, q.delivers_no n, q.empties_no n, q.admits n)
 
 -- the request itself isn't held any more
 pub held-delivered : (t : Trace) (a : Arrival) (ms : List Mark) (n : ℕ) → a.number ≡ n → held ((Delivers a ∷ ms) ∷ t) n ≡ None
 held-delivered t a ms n here = grind arith
 
 pub request_at-turned : (t : Trace) (a : Arrival) (ms : List Mark) (n : ℕ) → IsQuiet ms → request_at ((Delivers a ∷ ms) ∷ t) n ≡ request_at t n
-request_at-turned t a ms n q = grind (arith, q.empties_no n, q.admits n, append-nil (shown (admits_at n) t))
+request_at-turned t a ms n q = grind (arith, q.empties_no n, q.admits n)
 
 -- who is admitted after an admission
 pub admitted-cases : (t : Trace) (a : Arrival) (n : ℕ) (b : Arrival) → admitted ((Admits a ∷ []) ∷ t) n ≡ Some b → (admitted t n ≡ Some b) ⊎ (a ≡ b)
@@ -80,11 +79,11 @@ admitted-cases t a n b h = grind arith
 -- ---- what is held was received
 
 pub held_received : (t : Trace) (n : ℕ) (h : Arrival) → held t n ≡ Some h → is_received t n ≡ true
-held_received t n h is = grind (arith, nat_tests, unadmitted, admitted_of_held)
+held_received t n h is = grind (arith, unadmitted)
 
 -- what isn't received isn't held
 pub unreceived_unheld : (t : Trace) (n : ℕ) → is_received t n ≡ false → held t n ≡ None
-unreceived_unheld t n gone = grind (arith, nat_tests, unadmitted)
+unreceived_unheld t n gone = grind (arith, unadmitted)
 
 -- ---- an admission, and an item without one
 
@@ -114,7 +113,7 @@ module _ (o : Setting) (t : Trace) (tag unit below : ℕ) where
   -- none from the number below on
   pub none_below : (count e : ℕ) → below ≤ e → filter (is_sought o tag unit below) (held_among t (range_with_len e count)) ≡ []
   none_below zero e past = refl
-  none_below (suc count) e past = grind (arith, nat_tests, none_below count (e + 1), held-number t e)
+  none_below (suc count) e past = grind (arith, none_below count (e + 1), held-number t e)
 
   -- the one that is found is held, at a number of the range
   pub found_held : (count e : ℕ) (h : Arrival) → first_of (filter (is_sought o tag unit below) (held_among t (range_with_len e count))) ≡ Some h
@@ -139,7 +138,7 @@ module _ (o : Setting) (t : Trace) (tag unit below : ℕ) where
 
 -- it is below the function's number
 pub held_command-below : (o : Setting) (t : Trace) (tag unit below : ℕ) (h : Arrival) → held_command o t tag unit below ≡ Some h → h.number < below
-held_command-below o t tag unit below h found = grind (arith, nat_tests, first_itself, and_first)
+held_command-below o t tag unit below h found = grind (arith, first_itself)
 
 -- and is held at a place of the window
 pub held_command-held : (o : Setting) (t : Trace) (tag unit below : ℕ) (h : Arrival) → held_command o t tag unit below ≡ Some h → (held t h.number ≡ Some h) × ((exp_of o t ≤ h.number) × (h.number < exp_of o t + o.window))

@@ -3,10 +3,8 @@ use Rattle.std.proofs.Common.{◌≡◌, ℕ, zero, suc, ◌+◌, ◌<◌, ◌�
 use Rattle.std.proofs.lemmas.Grind.{common_steps}
 use Rattle.std.specs.List.{list_any, filter_map, flat_map, range_with_len}
 use Rattle.std.proofs.lemmas.Bool.{cases_eq}
-use Rattle.std.proofs.lemmas.Bool.Decides.{nat_tests}
 use Rattle.std.proofs.lemmas.List.{append-nil, map-append}
 use Rattle.std.proofs.lemmas.List.Elements.{filter-append}
-use Rattle.std.proofs.lemmas.List.Sums.{sum_by-cons}
 use Rattle.iscsi_history.proofs.ListLemmas.{none_left}
 use Rattle.iscsi_history.specs.rules.Settings.{Setting}
 use Rattle.iscsi_history.specs.rules.Trace.{Command, Mark, Trace, enters, entered, live, is_among, was_free}
@@ -29,11 +27,11 @@ among-mine k (c ∷ cs) h = grind (arith, among-mine k cs)
 
 pub mine-none_counted : (k : ℕ) (cs : List Command) → count_by (λ c. c.ticket == k) cs ≤ 0 → mine k cs ≡ []
 mine-none_counted k [] h = refl
-mine-none_counted k (c ∷ cs) h = grind (arith, common_steps, nat_tests, mine-none_counted k cs, sum_by-cons, mine)
+mine-none_counted k (c ∷ cs) h = grind (arith, common_steps, mine-none_counted k cs)
 
 pub count-mine : (p : Command → Bool) (k : ℕ) (cs : List Command) → count_by (λ c. c.ticket == k && p c) cs ≡ count_by p (mine k cs)
 count-mine p k [] = refl
-count-mine p k (c ∷ cs) = grind (arith, common_steps, nat_tests, count-mine p k cs, sum_by-cons, mine)
+count-mine p k (c ∷ cs) = grind (arith, common_steps, count-mine p k cs)
 
 -- ---- tickets are 1, 2, 3, ..
 
@@ -47,7 +45,7 @@ tickets_count o (item ∷ t) next x =
   where
     one_more : (y : Option Command) → filter_map enters item ≡ to_list y → Each (EntersNext o t x.1.1.0.form) y → map (λ (c : Command). c.ticket) (entered t) ≡ range_with_len 1 (length (entered t))
         → map (λ (c : Command). c.ticket) (entered t ++ filter_map enters item) ≡ range_with_len 1 (length (entered t ++ filter_map enters item))
-    one_more None is e before = grind (arith, nat_tests, append-nil)
+    one_more None is e before = grind (arith, append-nil)
     one_more (Some c) is e before =
         ap (λ cs. map (λ (d : Command). d.ticket) (entered t ++ cs)) is
         ∙ map-append (λ (d : Command). d.ticket) (entered t) (c ∷ [])
@@ -60,14 +58,14 @@ tickets_count o (item ∷ t) next x =
 -- a ticket that is yet to come is nobody's
 beyond_range : (a n k : ℕ) → a + n ≤ k → list_any (λ j. j == k) (range_with_len a n) ≡ false
 beyond_range a zero k h = refl
-beyond_range a (suc n) k h = ap (λ b. b || list_any (λ j. j == k) (range_with_len (a + 1) n)) (let z : (a == k) ≡ false = grind (arith, nat_tests) in z) ∙ beyond_range (a + 1) n k (omega arith)
+beyond_range a (suc n) k h = ap (λ b. b || list_any (λ j. j == k) (range_with_len (a + 1) n)) (let z : (a == k) ≡ false = grind arith in z) ∙ beyond_range (a + 1) n k (omega arith)
 
 among_tickets : (k : ℕ) (cs : List Command) → is_among k cs ≡ list_any (λ j. j == k) (map (λ (c : Command). c.ticket) cs)
 among_tickets k [] = refl
 among_tickets k (c ∷ cs) = ap (λ b. (c.ticket == k) || b) (among_tickets k cs)
 
 pub beyond_entered : (o : Setting) (t : Trace) (next : ℕ) → HaveForms o next t → (k : ℕ) → length (entered t) < k → is_among k (entered t) ≡ false
-beyond_entered o t next x k h = grind (arith, nat_tests, among_tickets, tickets_count, beyond_range)
+beyond_entered o t next x k h = grind (arith, among_tickets, tickets_count, beyond_range)
 
 -- ---- what an item enables
 
@@ -80,11 +78,11 @@ abbrev newly_in : List Mark → Trace → List Command → ℕ → List Command
 newly_in item t cs unit = filter (λ c. not (was_free c t)) (filter (λ c. was_free c (item ∷ t)) (filter (λ c. c.unit == unit) cs))
 
 mine-newly_in : (item : List Mark) (t : Trace) (cs : List Command) (k unit : ℕ) → mine k (newly_in item t cs unit) ≡ newly_in item t (mine k cs) unit
-mine-newly_in item t cs k unit = grind (arith, nat_tests, filter-swap)
+mine-newly_in item t cs k unit = grind (arith, filter-swap)
 
 mine-units : (item : List Mark) (t : Trace) (cs : List Command) (k : ℕ) (units : List ℕ) → mine k (flat_map (newly_in item t cs) units) ≡ flat_map (newly_in item t (mine k cs)) units
 mine-units item t cs k [] = refl
-mine-units item t cs k (unit ∷ units) = grind (arith, nat_tests, mine-units item t cs k units, filter-append, mine, mine-newly_in)
+mine-units item t cs k (unit ∷ units) = grind (arith, mine-units item t cs k units, filter-append, mine-newly_in)
 
 -- where no command is there, none becomes enabled
 no_units : (item : List Mark) (t : Trace) (units : List ℕ) → flat_map (newly_in item t []) units ≡ []
@@ -107,18 +105,18 @@ one_unit_of item t c a (suc n) low high =
     ∙ ap (λ ds. cond (becomes_free item t c) (c ∷ []) [] ++ ds) (none_after (a + 1) n (omega (arith, same)))
     ∙ append-nil (cond (becomes_free item t c) (c ∷ []) []))
     (λ apart.
-    ap (λ ds. ds ++ flat_map (newly_in item t (c ∷ [])) (range_with_len (a + 1) n)) (other_unit item t c a (let z : (c.unit == a) ≡ false = grind (arith, nat_tests) in z))
+    ap (λ ds. ds ++ flat_map (newly_in item t (c ∷ [])) (range_with_len (a + 1) n)) (other_unit item t c a (let z : (c.unit == a) ≡ false = grind arith in z))
     ∙ one_unit_of item t c (a + 1) n (omega (arith, apart)) (omega arith))
     (cases_eq c.unit a)
   where
     none_after : (b m : ℕ) → c.unit < b → flat_map (newly_in item t (c ∷ [])) (range_with_len b m) ≡ []
     none_after b zero low = refl
-    none_after b (suc m) low = ap (λ ds. ds ++ flat_map (newly_in item t (c ∷ [])) (range_with_len (b + 1) m)) (other_unit item t c b (let z : (c.unit == b) ≡ false = grind (arith, nat_tests) in z)) ∙ none_after (b + 1) m (omega arith)
+    none_after b (suc m) low = ap (λ ds. ds ++ flat_map (newly_in item t (c ∷ [])) (range_with_len (b + 1) m)) (other_unit item t c b (let z : (c.unit == b) ≡ false = grind arith in z)) ∙ none_after (b + 1) m (omega arith)
 
 -- what becomes enabled of a ticket: nothing where it isn't live
 pub newly_none : (o : Setting) (t : Trace) (item : List Mark) (k : ℕ) → mine k (live (item ∷ t)) ≡ [] → mine k (newly_enabled o t item) ≡ []
-newly_none o t item k none = grind (arith, mine-units item t (live (item ∷ t)) k (range_with_len 0 o.units), none, no_units item t (range_with_len 0 o.units))
+newly_none o t item k none = grind (arith, mine-units item t (live (item ∷ t)) k (range_with_len 0 o.units), no_units item t (range_with_len 0 o.units))
 
 pub newly_one : (o : Setting) (t : Trace) (item : List Mark) (k : ℕ) (c : Command) → mine k (live (item ∷ t)) ≡ c ∷ [] → c.unit < o.units → mine k (newly_enabled o t item) ≡ cond (becomes_free item t c) (c ∷ []) []
 newly_one o t item k c one below =
-    grind (arith, mine-units item t (live (item ∷ t)) k (range_with_len 0 o.units), one, one_unit_of item t c 0 o.units (omega arith) (omega arith))
+    grind (arith, mine-units item t (live (item ∷ t)) k (range_with_len 0 o.units), one_unit_of item t c 0 o.units (omega arith) (omega arith))

@@ -1,8 +1,7 @@
 -- What a log shows of each ticket is a life.
 use Rattle.std.proofs.Common.{◌≡◌, ℕ, ◌+◌, ◌<◌, ◌≤◌, ◌==◌, ◌&&◌, ◌||◌, ◌⊎◌, inl, inr, not, ⊎_elim, cond, Bool, true, false, List, [], ◌∷◌, ◌++◌, map, filter, length, count_by, Option, Some, None, refl, ap, sym, subst, ◌∙◌, arith, length-append}
 use Rattle.std.specs.List.{list_any, filter_map, flat_map, range_with_len}
-use Rattle.std.proofs.lemmas.Bool.{eqb-true, false_from_ne_true, false≢true}
-use Rattle.std.proofs.lemmas.Bool.Decides.{nat_tests}
+use Rattle.std.proofs.lemmas.Bool.{eqb-true}
 use Rattle.std.proofs.lemmas.List.{append-nil, length-map, map-append}
 use Rattle.std.proofs.lemmas.List.Elements.{filter-append, filter_map-append}
 use Rattle.std.proofs.lemmas.List.Sums.{sum_by-cons}
@@ -63,7 +62,7 @@ data State (o : Setting) (t : Trace) (k : ℕ) : Type 0 where
 -- what of the ticket is live after the item
 live_more : (item : List Mark) (t : Trace) (k : ℕ)
     → mine k (live (item ∷ t)) ≡ filter (λ c. not (list_any (leaves_ticket c.ticket) item)) (mine k (live t)) ++ filter (λ c. not (has (leaves_ticket c.ticket) (item ∷ t))) (mine k (filter_map enters item))
-live_more item t k = grind (arith, nat_tests, mine, live-item, filter-append, filter-swap)
+live_more item t k = grind (arith, live-item, filter-append, filter-swap)
 
 -- the command of a ticket has it
 mine-ticket : (k : ℕ) (cs : List Command) (c : Command) → mine k cs ≡ c ∷ [] → (c.ticket == k) ≡ true
@@ -73,27 +72,27 @@ module _ (o : Setting) (now : ℕ) (t : Trace) (next : ℕ) (x : HaveForms o nex
   -- what the item shows of the ticket
   shown_more : life_of k (effects_so_far o (marks_of_form form ∷ t))
       ≡ life_of k (effects_so_far o t) ++ ((map leave_effect (mine k (leaving_in form)) ++ map enter_effect (mine k (to_list (entering_in form)))) ++ map enable_effect (mine k (newly_enabled o t (marks_of_form form))))
-  shown_more = grind (arith, nat_tests, filter-append, marks_of_form, life_item)
+  shown_more = grind (arith, filter-append, life_item)
 
   -- ---- it doesn't enter in the item
 
   live_unentered : mine k (to_list (entering_in form)) ≡ [] → mine k (live (marks_of_form form ∷ t)) ≡ filter (λ c. not (list_any (leaves_ticket c.ticket) (marks_of_form form))) (mine k (live t))
-  live_unentered none = grind (arith, nat_tests, live_more, marks_of_form, mine, enters_form, append-nil)
+  live_unentered none = grind (arith, live_more, enters_form, append-nil)
 
   shown_unentered : mine k (to_list (entering_in form)) ≡ [] → life_of k (effects_so_far o (marks_of_form form ∷ t))
       ≡ life_of k (effects_so_far o t) ++ (map leave_effect (mine k (leaving_in form)) ++ map enable_effect (mine k (newly_enabled o t (marks_of_form form))))
-  shown_unentered none = grind (arith, nat_tests, shown_more, leave_effect, mine, leaving_in, enter_effect, enable_effect, marks_of_form, append-nil)
+  shown_unentered none = grind (arith, shown_more, append-nil)
 
   -- nothing of it is live: nothing leaves, and nothing becomes enabled
   unlive_leaving : mine k (live t) ≡ [] → mine k (leaving_in form) ≡ []
-  unlive_leaving none = grind (arith, nat_tests, leaving_in, mine-none, false_from_ne_true, false≢true, among-mine, leaving_live, leaves_form)
+  unlive_leaving none = grind (arith, mine-none, among-mine, leaving_live, leaves_form)
 
   unlive_after : mine k (live t) ≡ [] → mine k (to_list (entering_in form)) ≡ [] → mine k (live (marks_of_form form ∷ t)) ≡ []
   unlive_after unlive none = live_unentered none ∙ ap (filter (λ c. not (list_any (leaves_ticket c.ticket) (marks_of_form form)))) unlive
 
   unlive_shown : mine k (live t) ≡ [] → mine k (to_list (entering_in form)) ≡ [] → life_of k (effects_so_far o (marks_of_form form ∷ t)) ≡ life_of k (effects_so_far o t)
   unlive_shown unlive none =
-      grind (arith, nat_tests, shown_unentered, leave_effect, enable_effect, mine, marks_of_form, unlive_leaving, newly_none, unlive_after, append-nil)
+      grind (arith, shown_unentered, unlive_leaving, newly_none, unlive_after, append-nil)
 
   -- ---- a command that is live
 
@@ -105,7 +104,7 @@ module _ (o : Setting) (now : ℕ) (t : Trace) (next : ℕ) (x : HaveForms o nex
     command = g.command;
     live_one = still;
     below = g.below;
-    shown = grind (arith, shown_unentered none, unleft, g.shown, newly_one o t (marks_of_form form) k g.command still g.below);
+    shown = grind (arith, shown_unentered none, newly_one o t (marks_of_form form) k g.command still g.below);
   }
     where
       same : (g.command.ticket == k) ≡ true
@@ -115,7 +114,7 @@ module _ (o : Setting) (now : ℕ) (t : Trace) (next : ℕ) (x : HaveForms o nex
       here = ap (λ n. list_any (leaves_ticket n) (marks_of_form form)) (eqb-true g.command.ticket k same) ∙ leaves_form k form ∙ among-mine k (leaving_in form) unleft
 
       still : mine k (live (marks_of_form form ∷ t)) ≡ g.command ∷ []
-      still = grind (arith, live_unentered none, g.live_one, here)
+      still = grind (arith, live_unentered none, here)
 
   -- it leaves, alone and from its own unit
   record LeavesAlone (c : Command) : Type 0 where
@@ -137,14 +136,14 @@ module _ (o : Setting) (now : ℕ) (t : Trace) (next : ℕ) (x : HaveForms o nex
           let all : count_by (λ c. true) (d ∷ e ∷ es) ≡ 1 + count_by (λ c. true) (e ∷ es) = sum_by-cons (λ c. 1) d (e ∷ es) in
           let rest : count_by (λ c. true) (e ∷ es) ≡ 1 + count_by (λ c. true) es = sum_by-cons (λ c. 1) e es in
           let z : ⊥ = omega (arith, all, rest, few (λ c. true), ap (count_by (λ c. true)) is) in z)
-      by_rest [] is = grind (arith, nat_tests, few (λ c. not (c.unit == g.command.unit)), sum_by-cons)
+      by_rest [] is = grind (arith, few (λ c. not (c.unit == g.command.unit)))
 
   going_leaves : (g : IsGoing o t k) → mine k (to_list (entering_in form)) ≡ [] → LeavesAlone g.command → length (entered t) ≤ length (entered (marks_of_form form ∷ t)) → IsGone o (marks_of_form form ∷ t) k
   going_leaves g none l more = record {
     some = g.some;
     past = omega (arith, g.past, more);
     unlive = over;
-    shown = grind (arith, shown_unentered none, l.only, newly_none o t (marks_of_form form) k over, g.shown, by_test (was_free g.command t));
+    shown = grind (arith, shown_unentered none, newly_none o t (marks_of_form form) k over);
   }
     where
       leaves : list_any (leaves_ticket g.command.ticket) (marks_of_form form) ≡ true
@@ -153,13 +152,10 @@ module _ (o : Setting) (now : ℕ) (t : Trace) (next : ℕ) (x : HaveForms o nex
           ∙ leaves_form k form ∙ among (is_among k (leaving_in form)) refl
         where
           among : (b : Bool) → is_among k (leaving_in form) ≡ b → is_among k (leaving_in form) ≡ true
-          among b h = grind (arith, nat_tests, mine, leaving_in, mine-none)
+          among b h = grind (arith, mine-none)
 
       over : mine k (live (marks_of_form form ∷ t)) ≡ []
-      over = grind (arith, live_unentered none, g.live_one, leaves)
-
-      by_test : (b : Bool) → is_life (going_on g.command b ++ leave_effect l.leaver ∷ []) ≡ true
-      by_test b = grind arith
+      over = grind (arith, live_unentered none, leaves)
 
   -- ---- a command that enters
 
@@ -170,14 +166,11 @@ module _ (o : Setting) (now : ℕ) (t : Trace) (next : ℕ) (x : HaveForms o nex
     command = c;
     live_one = there;
     below = e.below;
-    shown = grind (arith, shown_more, s.shown, e.stays, is, one, newly_one o t (marks_of_form form) k c there e.below, unfree);
+    shown = grind (arith, shown_more, newly_one o t (marks_of_form form) k c there e.below, unfree);
   }
     where
       number : c.ticket ≡ k
       number = eqb-true c.ticket k same
-
-      one : mine k (c ∷ []) ≡ c ∷ []
-      one = ap (λ b. cond b (c ∷ []) []) same
 
       entered_is : filter_map enters (marks_of_form form) ≡ c ∷ []
       entered_is = enters_form form ∙ ap (λ y. to_list y) is
@@ -186,10 +179,10 @@ module _ (o : Setting) (now : ℕ) (t : Trace) (next : ℕ) (x : HaveForms o nex
       long = ap (λ cs. length (entered t ++ cs)) entered_is ∙ length-append (entered t) (c ∷ [])
 
       unleft : has (leaves_ticket c.ticket) (marks_of_form form ∷ t) ≡ false
-      unleft = grind (arith, leaves_form c.ticket form, e.stays, number, s.unleft)
+      unleft = grind (arith, leaves_form c.ticket form)
 
       there : mine k (live (marks_of_form form ∷ t)) ≡ c ∷ []
-      there = grind (arith, live_more (marks_of_form form) t k, s.unlive, entered_is, one, unleft)
+      there = grind (arith, live_more (marks_of_form form) t k, entered_is, unleft)
 
       unfree : was_free c t ≡ false
       unfree = never_free c t (beyond_entered o t next x c.ticket (omega (arith, e.next)))
@@ -215,7 +208,7 @@ module _ (o : Setting) (now : ℕ) (t : Trace) (next : ℕ) (x : HaveForms o nex
               by_leaving : (cs : List Command) → mine k (leaving_in form) ≡ cs → State o (marks_of_form form ∷ t) k
               by_leaving [] h = Going (going_stays g none h (omega (arith, long, more)))
               by_leaving (d ∷ ds) h = Gone (going_leaves g none (leaves_alone g d ds h) (omega (arith, long, more)))
-          by_state (Gone q) = grind (arith, nat_tests, unlive_after, unlive_shown)
+          by_state (Gone q) = grind (arith, unlive_after, unlive_shown)
 
       by_entering : (y : Option Command) → entering_in form ≡ y → Each (EntersNext o t form) y → State o (marks_of_form form ∷ t) k
       by_entering None is e =
@@ -233,7 +226,7 @@ module _ (o : Setting) (now : ℕ) (t : Trace) (next : ℕ) (x : HaveForms o nex
           by_ticket true same (Gone q) = absurd (let number : c.ticket ≡ k = eqb-true c.ticket k same in let z : ⊥ = omega (arith, q.past, e.next, number) in z)
           by_ticket false apart q =
               not_entered (ap (λ z. mine k (to_list z)) is ∙ ap (λ b. cond b (c ∷ []) []) apart) (length (entered t) + 1) long (omega arith)
-              (λ h. ⊎_elim (λ zeroth. inl zeroth) (λ later. inr (let z : length (entered t) + 1 < k = grind (arith, nat_tests, e.next) in z)) h)
+              (λ h. ⊎_elim (λ zeroth. inl zeroth) (λ later. inr (let z : length (entered t) + 1 < k = grind arith in z)) h)
 
 state_more : (o : Setting) (k : ℕ) (t : Trace) (next : ℕ) → HaveForms o next t → State o t k
 state_more o k [] next x = grind arith

@@ -3,7 +3,6 @@ use Rattle.std.proofs.Common.{◌≡◌, ℕ, suc, ◌+◌, ◌<◌, ◌≤◌, 
 use Rattle.std.proofs.lemmas.Grind.{common_steps}
 use Rattle.std.specs.List.{list_any, list_all, flat_map, position, position_or_len, cons_option, range_with_len}
 use Rattle.std.proofs.lemmas.Bool.{false≢true}
-use Rattle.std.proofs.lemmas.Bool.Decides.{nat_tests}
 use Rattle.std.specs.Prelude.{IsSome}
 use Rattle.std.proofs.lemmas.List.Folds.{list_any-append}
 use Rattle.std.proofs.lemmas.List.Sums.{sum_by-cons, sum_by-append}
@@ -43,12 +42,12 @@ count_by-map p f [] = refl
 count_by-map p f (x ∷ xs) = grind (arith, sum_by-cons (λ y. cond (p y) 1 0) (f x) (map f xs), count_by-map p f xs, sum_by-cons (λ y. cond (p (f y)) 1 0) x xs)
 
 pub count_by-push : {A : Type 0} (p : A → Bool) (xs : List A) (x : A) → count_by p (xs ++ x ∷ []) ≡ count_by p xs + cond (p x) 1 0
-count_by-push p xs x = grind (arith, nat_tests, sum_by-append, sum_by-cons)
+count_by-push p xs x = grind (arith, sum_by-append)
 
 -- fewer are counted of fewer
 pub fewer_counted : {A : Type 0} (p q : A → Bool) (xs : List A) → count_by p (filter q xs) ≤ count_by p xs
 fewer_counted p q [] = omega arith
-fewer_counted p q (x ∷ xs) = grind (arith, common_steps, nat_tests, fewer_counted p q xs, sum_by-cons)
+fewer_counted p q (x ∷ xs) = grind (arith, common_steps, fewer_counted p q xs)
 
 pub filter-shorter : {A : Type 0} (p : A → Bool) (xs : List A) → length (filter p xs) ≤ length xs
 filter-shorter p [] = omega arith
@@ -59,15 +58,12 @@ first_place : {A : Type 0} (p : A → Bool) (xs : List A) → list_any p xs ≡ 
 first_place p [] h = absurd (false≢true h)
 first_place p (x ∷ xs) h = grind (arith, first_place p xs)
 
-some_by : {A : Type 0} (b : Bool) (x : A) → b ≡ true → IsSome (cond b (Some x) None)
-some_by b x h = grind arith
-
 pub IsSome-position : {A : Type 0} (p : A → Bool) (xs : List A) → list_any p xs ≡ true → IsSome (position p xs)
-IsSome-position p xs h = grind (arith, nat_tests, first_place, some_by)
+IsSome-position p xs h = grind (arith, first_place)
 
 -- the connections with these CIDs are the known ones
 pub is_known-cids : (cid : ℕ) (xs ys : List (ℕ × ℕ)) → map (λ (c : ℕ × ℕ). c.0) xs ≡ map (λ (c : ℕ × ℕ). c.0) ys → is_known cid xs ≡ is_known cid ys
-is_known-cids cid xs ys h = grind (arith, list_any-map (λ k. k == cid) (λ (c : ℕ × ℕ). c.0) xs, h, list_any-map (λ k. k == cid) (λ (c : ℕ × ℕ). c.0) ys)
+is_known-cids cid xs ys h = grind (arith, list_any-map (λ k. k == cid) (λ (c : ℕ × ℕ). c.0) xs, list_any-map (λ k. k == cid) (λ (c : ℕ × ℕ). c.0) ys)
 
 -- ---- live commands
 
@@ -177,7 +173,3 @@ any_in_range f g from (suc n) same = grind (arith, any_in_range f g (from + 1) n
 pub flat_map_in_range : {A : Type 0} (f g : ℕ → List A) (from n : ℕ) → ((j : ℕ) → from ≤ j → j < from + n → f j ≡ g j) → flat_map f (range_with_len from n) ≡ flat_map g (range_with_len from n)
 flat_map_in_range f g from zero same = refl
 flat_map_in_range f g from (suc n) same = grind (arith, flat_map_in_range f g (from + 1) n)
-
-pub any_at : (f : ℕ → Bool) (from n j : ℕ) → from ≤ j → j < from + n → f j ≡ true → list_any f (range_with_len from n) ≡ true
-any_at f from zero j low high passes = absurd (omega arith)
-any_at f from (suc n) j low high passes = grind (arith, any_at f (from + 1) n j)

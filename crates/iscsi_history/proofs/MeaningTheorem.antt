@@ -1,6 +1,5 @@
 -- What the definitions mean, said once more in other words, holds of every trace.
 use Rattle.std.proofs.Common.{arith, ◌≡◌, ℕ, ◌==◌, ◌&&◌, ◌||◌, not, Bool, true, false, List, [], ◌∷◌, length, ap, sym, ◌∙◌}
-use Rattle.std.proofs.lemmas.Bool.Decides.{nat_tests}
 use Rattle.std.specs.List.{list_any, filter_map}
 use Rattle.std.proofs.lemmas.Bool.{false≢true}
 use Rattle.std.proofs.lemmas.List.Folds.{list_any-append}
@@ -9,7 +8,7 @@ use Rattle.iscsi_history.specs.rules.Settings.{Setting}
 use Rattle.iscsi_history.specs.rules.Trace.{Command, Trace, has, enters, entered, leaves_ticket, live, is_among}
 use Rattle.iscsi_history.specs.rules.Run.{trace_of}
 use Rattle.iscsi_history.specs.promises.Meaning.{MeansWhatItSays}
-use Rattle.iscsi_history.proofs.BoolLemmas.{or_first, and_first}
+use Rattle.iscsi_history.proofs.BoolLemmas.{or_first}
 use Rattle.iscsi_history.proofs.MomentLemmas.{live_among}
 use Rattle.iscsi_history.proofs.Missing.{expected_low, expected_gone, expected_below}
 use Rattle.iscsi_history.proofs.Forms.{HasForm, HaveForms}
@@ -29,7 +28,7 @@ left_entered o k (item ∷ t) next x h =
     (by_item (list_any (leaves_ticket k) item) (λ here. leaving_live o x.0 t f.form f.formed k (sym (ap (list_any (leaves_ticket k)) f.is) ∙ here)) (left_entered o k t _ x.1.1.1) h)
   where
     by_item : (v : Bool) → (v ≡ true → is_among k (live t) ≡ true) → (has (leaves_ticket k) t ≡ true → is_among k (entered t) ≡ true) → (v || has (leaves_ticket k) t) ≡ true → is_among k (entered t) ≡ true
-    by_item v lives before h = grind (arith, nat_tests, and_first, live_among)
+    by_item v lives before h = grind (arith, live_among)
 
 entered_parted : (a l : Bool) → (l ≡ true → a ≡ true) → a ≡ ((a && not l) || l)
 entered_parted a l h = grind arith

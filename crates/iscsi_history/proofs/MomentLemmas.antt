@@ -1,6 +1,5 @@
 -- Moments: what the log shows of enabled commands, and the rule as a law.
 use Rattle.std.proofs.Common.{arith, ◌≡◌, ℕ, ◌+◌, ◌==◌, ◌||◌, ◌&&◌, not, Bool, true, false, List, [], ◌∷◌, ◌++◌, map, refl, ap, sym, ◌∙◌, ◌↔◌, append_assoc}
-use Rattle.std.proofs.lemmas.Bool.Decides.{nat_tests}
 use Rattle.std.specs.List.{list_any, flat_map}
 use Rattle.std.proofs.lemmas.Bool.{false≢true}
 use Rattle.std.proofs.lemmas.List.{append-nil}
@@ -10,7 +9,7 @@ use Rattle.iscsi_history.specs.declared.effect.Effect.TheVariants.{Enable}
 use Rattle.iscsi_history.specs.rules.Settings.{Setting}
 use Rattle.iscsi_history.specs.rules.Trace.{Command, Mark, Trace, has, entered, leaves_ticket, live, is_among, is_free_at, was_free, after_items}
 use Rattle.iscsi_history.specs.rules.Run.{newly_enabled, after_event, after_events, effects_of_mark, effects_of_item, effects_of, entries_from}
-use Rattle.iscsi_history.proofs.BoolLemmas.{or_first, or_second, or_comm}
+use Rattle.iscsi_history.proofs.BoolLemmas.{or_first, or_second}
 use Rattle.iscsi_history.specs.declared.event.Event.{Event}
 use Rattle.iscsi_history.specs.promises.Enabling.{effects_so_far, is_enable, FreeMoment, effects_in}
 use Rattle.iscsi_history.proofs.ListLemmas.{list_any-map, any_filter}
@@ -40,7 +39,7 @@ module _ (o : Setting) (p : Effect → Bool) (q : Mark → Bool) (none : (ticket
 
   pub shown_so_far : (t : Trace) → list_any p (effects_so_far o t) ≡ has q t
   shown_so_far [] = refl
-  shown_so_far (item ∷ t) = grind (arith, nat_tests, shown_so_far t, list_any-append, shown_item, or_comm)
+  shown_so_far (item ∷ t) = grind (arith, shown_so_far t, list_any-append, shown_item)
 
 pub item_enables : (o : Setting) (t : Trace) (item : List Mark) (k : ℕ) → list_any (is_enable k) (effects_of_item o t item) ≡ is_among k (newly_enabled o t item)
 item_enables o t item k = grind (arith, list_any-append, enabled_marks item, list_any-map (is_enable k) (λ (c : Command). Enable c.ticket c.unit) (newly_enabled o t item))
@@ -53,15 +52,9 @@ item_enables o t item k = grind (arith, list_any-append, enabled_marks item, lis
 pub live_among : (k : ℕ) (t : Trace) → is_among k (live t) ≡ (is_among k (entered t) && not (has (leaves_ticket k) t))
 live_among k t = any_filter (λ (c : Command). c.ticket == k) (λ (c : Command). not (has (leaves_ticket c.ticket) t)) (entered t) ∙ by_ticket (entered t)
   where
-    same : (c : Command) → (v : Bool) → (c.ticket == k) ≡ v → (not (has (leaves_ticket c.ticket) t) && v) ≡ (v && not (has (leaves_ticket k) t))
-    same c v is = grind arith
-
-    apart_or : (a b c : Bool) → ((a && c) || (b && c)) ≡ ((a || b) && c)
-    apart_or a b c = grind arith
-
     by_ticket : (cs : List Command) → list_any (λ c. not (has (leaves_ticket c.ticket) t) && (c.ticket == k)) cs ≡ (is_among k cs && not (has (leaves_ticket k) t))
     by_ticket [] = refl
-    by_ticket (c ∷ cs) = grind (arith, same c (c.ticket == k) refl, by_ticket cs, apart_or (c.ticket == k) (is_among k cs) (not (has (leaves_ticket k) t)))
+    by_ticket (c ∷ cs) = grind (arith, by_ticket cs)
 
 -- nothing that left is live
 pub left_unlive : (t : Trace) (k : ℕ) → has (leaves_ticket k) t ≡ true → is_among k (live t) ≡ false
@@ -75,7 +68,7 @@ items_effects o t (item ∷ items) = items_effects o (item ∷ t) items ∙ appe
 
 pub log_effects : (o : Setting) (event : ℕ) (t : Trace) (h : List Event) → effects_so_far o (after_events o event t h) ≡ effects_so_far o t ++ effects_in (entries_from o event t h)
 log_effects o event t [] = sym (append-nil (effects_so_far o t))
-log_effects o event t (e ∷ h) = grind (arith, nat_tests, log_effects o (event + 1) (after_event o event t e) h, items_effects, append_assoc)
+log_effects o event t (e ∷ h) = grind (arith, log_effects o (event + 1) (after_event o event t e) h, items_effects, append_assoc)
 
 -- ---- the rule
 

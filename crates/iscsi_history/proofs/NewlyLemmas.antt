@@ -1,8 +1,6 @@
 -- Which commands an item enables.
 use Rattle.std.proofs.Common.{◌≡◌, ℕ, zero, suc, ◌+◌, ◌<◌, ◌≤◌, ◌==◌, ◌&&◌, ◌||◌, not, cond, Bool, true, false, List, [], ◌∷◌, ◌++◌, filter, refl, ap, sym, ◌∙◌, arith, nat_lt}
 use Rattle.std.specs.List.{list_any, list_all, filter_map, flat_map, range_with_len}
-use Rattle.std.proofs.lemmas.Bool.{eqb-true}
-use Rattle.std.proofs.lemmas.Bool.Decides.{nat_tests}
 use Rattle.std.proofs.lemmas.List.{append-nil, map-append}
 use Rattle.std.proofs.lemmas.List.Elements.{filter-append}
 use Rattle.std.proofs.lemmas.List.Folds.{list_any-append}
@@ -10,7 +8,7 @@ use Rattle.iscsi_tasks.specs.Sets.{Queued, bars, is_free}
 use Rattle.iscsi_history.specs.rules.Settings.{Setting}
 use Rattle.iscsi_history.specs.rules.Trace.{Command, Mark, Trace, enters, entered, leaves_ticket, live, live_in, is_among, was_free, enabled_in}
 use Rattle.iscsi_history.specs.rules.Run.{newly_enabled}
-use Rattle.iscsi_history.proofs.BoolLemmas.{and_parts, and_both, or_none, not_true, and_false, and_comm, and_true}
+use Rattle.iscsi_history.proofs.BoolLemmas.{and_parts, or_none, not_true, and_false, and_comm, and_true}
 use Rattle.iscsi_history.proofs.ApartLemmas.{unamong-filter}
 use Rattle.iscsi_history.proofs.TraceLemmas.{all_among, live-quiet}
 use Rattle.iscsi_history.proofs.ListLemmas.{all_of_filter, any_filter, any_flat_map, any_same}
@@ -45,7 +43,7 @@ all_here unit t = both_all (λ c. c.unit == unit) (λ c. is_among c.ticket (live
 -- a command that never entered was never free
 pub never_free : (c : Command) (t : Trace) → is_among c.ticket (entered t) ≡ false → was_free c t ≡ false
 never_free c [] gone = refl
-never_free c (item ∷ t) gone = grind (arith, nat_tests, never_free c t, or_none, list_any-append, unamong-filter)
+never_free c (item ∷ t) gone = grind (arith, never_free c t, list_any-append, unamong-filter)
 
 -- who is free among more is free among fewer
 free_among_fewer : (q : Queued) (xs ys : List Queued) → is_free q (xs ++ ys) ≡ true → is_free q xs ≡ true
@@ -53,7 +51,7 @@ free_among_fewer q xs ys h = ap not (or_none (list_any (bars q) xs) (list_any (b
 
 -- nothing changes for a command of a unit that others enter, or that nothing enters or leaves
 pub was_free-stays : (item : List Mark) (t : Trace) (unit : ℕ) (more : List Command) (c : Command) → live_in unit (item ∷ t) ≡ live_in unit t ++ more → is_here unit (live_in unit t) c ≡ true → was_free c (item ∷ t) ≡ was_free c t
-was_free-stays item t unit more c now here = grind (arith, nat_tests, and_parts, eqb-true, free_among_fewer, map-append, and_both, free_now)
+was_free-stays item t unit more c now here = grind (arith, free_among_fewer, map-append, free_now)
 
 -- the commands of a unit that an item enables
 abbrev pub new_in : Trace → List Mark → ℕ → List Command
@@ -131,7 +129,7 @@ any_in_units n g (x ∷ cs) all =
     ∙ ap (λ b. g x || b) (any_in_units n g cs parts.1)
   where
     below : (u : ℕ) → nat_lt u n ≡ true → u < 0 + n
-    below u test = let lt : u < n = grind (arith, nat_tests) in omega (arith, lt)
+    below u test = let lt : u < n = grind arith in omega (arith, lt)
 
     either : (b : Bool) (us : List ℕ) → list_any (λ u. x.unit == u) us ≡ true → list_any (λ u. (x.unit == u) && b) us ≡ b
     either true us h = any_same (λ u. (x.unit == u) && true) (λ u. x.unit == u) us (λ u. and_true (x.unit == u)) ∙ h

@@ -35,10 +35,6 @@ position_lt x y f = grind arith
 pub position_eq : (x y f : ℕ) → int_eq (pos x -ℤ pos f) (pos y -ℤ pos f) ≡ (x == y)
 position_eq x y f = grind arith
 
--- a later ticket is another
-pub later_apart : (k t : ℕ) → nat_lt k t ≡ true → (t == k) ≡ false
-later_apart k t test = let lt : k < t = grind (arith, nat_tests) in let no : (t == k) ≡ false = grind (arith, nat_tests) in no
-
 pub none_above : (k : ℕ) (ts : List ℕ) → list_all (λ u. nat_lt k u) ts ≡ true → list_any (λ t. t == k) ts ≡ false
 none_above k [] h = refl
 none_above k (t ∷ ts) h = grind (arith, none_above k ts)

@@ -2,7 +2,6 @@
 use Rattle.std.proofs.Common.{◌≡◌, ℕ, ◌≤◌, ◌||◌, cond, Bool, true, false, List, [], ◌∷◌, ◌++◌, map, count_by, Option, Some, None, refl, ap, sym, subst, ◌∙◌, arith, nat_le}
 use Rattle.std.proofs.lemmas.Grind.{common_steps}
 use Rattle.std.specs.List.{list_any, list_all, flat_map}
-use Rattle.std.proofs.lemmas.Bool.Decides.{nat_tests}
 use Rattle.std.proofs.lemmas.List.Sums.{sum_by-cons}
 use Rattle.iscsi_wire.specs.declared.reply.Reply.{Reply}
 use Rattle.iscsi_wire.specs.Fields.{connection_of}
@@ -37,14 +36,14 @@ weaker_from j k [] low from = refl
 weaker_from j k (e ∷ es) low from = grind (arith, weaker_from j k es)
 
 rises-on : (j k : ℕ) (es : List Effect) → j ≤ k → Rises k es → Rises j es
-rises-on j k es low r = grind (arith, nat_tests, weaker_from)
+rises-on j k es low r = grind (arith, weaker_from)
 
 rises-none : (k : ℕ) → Rises k []
 rises-none k = record { sorted = refl; from = refl; unignored = refl; replies = (let z : 0 ≤ cond (nat_le k 5) 1 0 = omega arith in z); requests = (let z : 0 ≤ cond (nat_le k 0) 1 0 = omega arith in z) }
 
 -- an effect that may come several times
 rises-again : (k : ℕ) (e : Effect) (es : List Effect) → rank e ≡ k → is_ignored e ≡ false → is_reply e ≡ false → is_request e ≡ false → Rises k es → Rises k (e ∷ es)
-rises-again k e es here heard silent later r = grind (arith, nat_tests, le_first, and_both, sum_by-cons)
+rises-again k e es here heard silent later r = grind (arith, le_first)
 
 -- the effects of a part of the marks, and what follows
 module _ (o : Setting) (t : Trace) where
@@ -78,7 +77,7 @@ rises_enables (c ∷ cs) = rises-again 8 (Enable c.ticket c.unit) _ refl refl re
 
 -- a reply, and after it no other
 rises_reply : (conn sn : ℕ) (reply : Reply) (es : List Effect) → Rises 6 es → Rises 5 (Send conn sn reply ∷ es)
-rises_reply conn sn reply es r = grind (arith, common_steps, nat_tests, le_first, and_both, weaker_from, sum_by-cons)
+rises_reply conn sn reply es r = grind (arith, common_steps, le_first, weaker_from)
 
 -- a request, and after it no other
 rises_request : (e : Effect) (es : List Effect) → rank e ≡ 0 → is_ignored e ≡ false → is_reply e ≡ false → Rises 1 es → Rises 0 (e ∷ es)
@@ -95,7 +94,7 @@ rises_request e es here heard silent r = record {
 
     all_from : (xs : List Effect) → list_all (λ x. nat_le 0 (rank x)) xs ≡ true
     all_from [] = refl
-    all_from (x ∷ xs) = and_both (nat_le 0 (rank x)) (list_all (λ y. nat_le 0 (rank y)) xs) (let z : nat_le 0 (rank x) ≡ true = grind (arith, nat_tests) in z) (all_from xs)
+    all_from (x ∷ xs) = and_both (nat_le 0 (rank x)) (list_all (λ y. nat_le 0 (rank y)) xs) (let z : nat_le 0 (rank x) ≡ true = grind arith in z) (all_from xs)
 
 rises_reply_of : (o : Setting) (t : Trace) (conn : ℕ) (x : Option Reply) (ms : List Mark) (rest : List Effect) → Rises 6 (flat_map (effects_of_mark o t) ms ++ rest) → Rises 5 (flat_map (effects_of_mark o t) (if_some (Sends conn) x ++ ms) ++ rest)
 rises_reply_of o t conn None ms rest r = rises-on 5 6 _ (omega arith) r
@@ -112,7 +111,7 @@ rises_done o t a d rest r =
     (rises_reply_of o t (connection_of a.request) d.reply _ rest (rises_closes o t d.closing _ rest (rises_end o t d.ending rest r))))))))
 
 form_in_order : (o : Setting) (t : Trace) (form : Form) → IsInOrder (effects_of_item o t (marks_of_form form))
-form_in_order o t (Ignored why) = grind (arith, nat_tests, newly-untouched)
+form_in_order o t (Ignored why) = grind (arith, newly-untouched)
 form_in_order o t (Rejected a) = in_order 5 _ (rises_reply _ _ _ _ (rises-on 6 8 _ (omega arith) (rises_enables (newly_enabled o t (marks_of_form (Rejected a))))))
 form_in_order o t (Received a) = in_order 8 _ (rises_enables (newly_enabled o t (marks_of_form (Received a))))
 form_in_order o t (Postponed a) = in_order 0 _ (rises_request (Wait a.request) _ refl refl refl (rises-on 1 8 _ (omega arith) (rises_enables (newly_enabled o t (marks_of_form (Postponed a))))))

@@ -3,8 +3,6 @@ use Rattle.std.proofs.Common.{◌≡◌, ℕ, ◌+◌, ◌≤◌, ◌||◌, cond
 use Rattle.std.proofs.lemmas.Grind.{common_steps}
 use Rattle.std.specs.List.{list_any, list_all}
 use Rattle.std.proofs.lemmas.Bool.{false≢true}
-use Rattle.std.proofs.lemmas.Bool.Decides.{nat_tests}
-use Rattle.std.proofs.lemmas.List.Sums.{sum_by-cons}
 use Rattle.iscsi_history.specs.declared.effect.Effect.{Effect}
 use Rattle.iscsi_history.specs.declared.event.Event.{Event}
 use Rattle.iscsi_history.specs.rules.Settings.{Setting}
@@ -33,10 +31,7 @@ none_below n (e ∷ es) h =
   where
     more : (xs : List Effect) → list_all (λ x. nat_le (rank e) (rank x)) xs ≡ true → nat_le n (rank e) ≡ true → list_all (λ x. nat_le n (rank x)) xs ≡ true
     more [] h low = refl
-    more (x ∷ xs) h low = grind (arith, nat_tests, more xs)
-
-unasked_rank : (e : Effect) → is_request e ≡ false → nat_le 1 (rank e) ≡ true
-unasked_rank e h = grind arith
+    more (x ∷ xs) h low = grind (arith, more xs)
 
 none_asked : (n : ℕ) (es : List Effect) → 1 ≤ n → list_all (λ e. nat_le n (rank e)) es ≡ true → Unasked es
 none_asked n [] low h = refl
@@ -44,11 +39,11 @@ none_asked n (e ∷ es) low h = grind (arith, none_asked n es)
 
 none_counted : (es : List Effect) → count_by is_request es ≤ 0 → Unasked es
 none_counted [] h = refl
-none_counted (e ∷ es) h = grind (arith, common_steps, nat_tests, none_counted es, sum_by-cons)
+none_counted (e ∷ es) h = grind (arith, common_steps, none_counted es)
 
 -- after the first effect of an item there is no request
 unasked_later : (e : Effect) (es : List Effect) → IsInOrder (e ∷ es) → Unasked es
-unasked_later e es x = grind (arith, common_steps, nat_tests, sum_by-cons, none_counted, none_asked, unasked_rank, none_below)
+unasked_later e es x = grind (arith, common_steps, none_counted, none_asked, none_below)
 
 -- effects that begin with a request, or none
 record IsFresh (es : List Effect) : Type 0 where
@@ -103,7 +98,7 @@ module _ (o : Setting) (now : ℕ) where
   event_in_order t e = by_items (items_of o now t e) (event_stands AnyArrival o now t e (any_brought o now t e))
     where
       by_items : (items : List (List Mark)) → TurnsOf AnyArrival o now t items → AreInOrder (in_parts (effects_of o t items))
-      by_items items s = grind (arith, nat_tests, item_first, turns_in_order)
+      by_items items s = grind (arith, item_first, turns_in_order)
 
 -- ---- the entries of a log
 
@@ -113,7 +108,7 @@ both_in_order (x ∷ xs) ys h k = (h.0, both_in_order xs ys h.1 k)
 
 entries_in_order : (o : Setting) (now : ℕ) (t : Trace) (h : List Event) → KeepsOrder (entries_from o now t h)
 entries_in_order o now t [] = tt
-entries_in_order o now t (e ∷ h) = grind (arith, nat_tests, entries_in_order o (now + 1) (after_event o now t e) h, both_in_order, event_in_order)
+entries_in_order o now t (e ∷ h) = grind (arith, entries_in_order o (now + 1) (after_event o now t e) h, both_in_order, event_in_order)
 
 -- the log of every list of events keeps the order
 pub keeps_order : (o : Setting) (h : List Event) → KeepsOrder (run_of o h)

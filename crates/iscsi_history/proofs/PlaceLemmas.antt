@@ -1,6 +1,5 @@
 -- Places of a list: what is read and written there, and the first one that passes a test.
 use Rattle.std.proofs.Common.{Bool, List, [], refl, set, suc, true, zero, ℕ, ◌∷◌, ◌≡◌, ◌&&◌, ◌++◌, None, Option, Some, ap, drop, get_or, sym, ◌∙◌, ◌<◌, arith, length, ◌≤◌, take, replicate, cond, false, option_map, position, find}
-use Rattle.std.proofs.lemmas.Bool.Decides.{nat_tests}
 use Rattle.std.specs.List.{list_all}
 use Rattle.std.proofs.lemmas.List.Folds.{list_all-append}
 use Rattle.std.proofs.lemmas.List.{append-nil}
@@ -15,7 +14,7 @@ all_set p (y ∷ ps) (suc k) x all now = let h = and_parts (p y) (list_all p ps)
 
 pub all_shift : {A : Type 0} (p : Option A → Bool) (x : A) (ps : List (Option A)) → p None ≡ true → get_or ps 0 None ≡ Some x → list_all p ps ≡ true → (p (Some x) ≡ true) × (list_all p (drop 1 ps ++ None ∷ []) ≡ true)
 all_shift p x [] none found all = absurd cc
-all_shift p x (y ∷ ps) none found all = grind (arith, nat_tests, and_parts, list_all-append)
+all_shift p x (y ∷ ps) none found all = grind (arith, list_all-append)
 
 pub some_within : {A : Type 0} (ps : List (Option A)) (k : ℕ) (x : A) → get_or ps k None ≡ Some x → k < length ps
 some_within [] k x h = absurd cc
@@ -43,7 +42,7 @@ padded (x ∷ xs) zero = refl
 padded (x ∷ xs) (suc k) = padded xs k
 
 pub passed_at : (xs : List ℕ) (k : ℕ) → get_or (passed_on xs) k 0 ≡ get_or xs (suc k) 0
-passed_at xs k = grind (arith, nat_tests, padded)
+passed_at xs k = grind (arith, padded)
 
 -- ---- the first ones
 
@@ -63,7 +62,7 @@ take_length (x ∷ xs) = ap (λ ys. x ∷ ys) (take_length xs)
 
 -- what is written back where as many come back
 pub written : {A : Type 0} (n : ℕ) (new old : List A) → length new ≡ length old → n ≡ length old → take n (new ++ drop (length new) old) ≡ new
-written n new old same len = grind (arith, nat_tests, drop_length, append-nil, take_length)
+written n new old same len = grind (arith, drop_length, append-nil, take_length)
 
 -- ---- the same everywhere
 

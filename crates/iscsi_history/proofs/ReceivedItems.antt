@@ -1,8 +1,6 @@
 -- Which numbers an event and its items receive: none, or one.
 use Rattle.std.proofs.Common.{arith, Bool, List, ℕ, [], ◌∷◌, ◌≡◌, ◌⊎◌, ◌++◌, refl, ◌&&◌, cond, false, inl, true, ap, None, Some, ◌==◌, ◌∙◌, sym, subst, ◌||◌}
-use Rattle.std.proofs.lemmas.Bool.Decides.{nat_tests}
 use Rattle.std.specs.List.{filter_map, list_all}
-use Rattle.std.proofs.lemmas.Bool.{false≢true}
 use Rattle.std.proofs.lemmas.List.{append-nil}
 use Rattle.iscsi_wire.specs.Fields.{is_immediate, function, opcode}
 use Rattle.iscsi_wire.specs.declared.request.Request.{Request}
@@ -16,7 +14,7 @@ use Rattle.iscsi_history.specs.declared.kind.Kind.TheVariants.{PassedOver, Unkno
 use Rattle.iscsi_history.specs.rules.Agenda.{arrival_as, arrival_open, kind_of, arrival_of, numbered}
 use Rattle.iscsi_history.specs.declared.effect.Why.{Why}
 use Rattle.iscsi_history.proofs.BoolLemmas.{and_false, and_parts}
-use Rattle.iscsi_history.proofs.Forms.{Start, AtTurn, AtArrival, AfterWaiting, start_mark, Deeds, if_some, marks_done, Form, marks_of_form, Each}
+use Rattle.iscsi_history.proofs.Forms.{Start, AtTurn, AtArrival, AfterWaiting, start_mark, Deeds, if_some, marks_done, Form, marks_of_form}
 use Rattle.iscsi_history.proofs.FormItems.{Does, does_function, does_after}
 use Rattle.iscsi_history.proofs.FormRuns.{AnyArrival, immediate_stands}
 use Rattle.iscsi_history.proofs.DeedLemmas.{views}
@@ -43,10 +41,10 @@ executed_receives start a d = by_start start
 
 -- none, where it is no immediate ABORT TASK
 receives_none : (o : Setting) (t : Trace) (start : Start) (a : Arrival) (ms : List Mark) → Does o t start a ms → (is_immediate a.request && (function a.request == 1)) ≡ false → received_by (start_mark start a ∷ ms) ≡ []
-receives_none o t start a ms d other = grind (arith, nat_tests, start_mark, executed_receives, Each, if_some, false≢true)
+receives_none o t start a ms d other = grind (arith, executed_receives)
 
 one_received : (form : Form) → AtMostOne (received_by (marks_of_form form))
-one_received form = grind (arith, nat_tests, executed_receives, if_some)
+one_received form = grind (arith, executed_receives)
 
 -- a function that waits is no ABORT TASK
 pub no_abort_task : (r : Request) → may_wait r ≡ true → (function r == 1) ≡ false

@@ -1,6 +1,5 @@
 -- What an item of each form does to the requests of an event: which wait for their turn, execute, are live and are answered.
 use Rattle.std.proofs.Common.{◌≡◌, ℕ, ◌+◌, ◌≤◌, ◌==◌, ◌&&◌, not, inl, inr, cond, Bool, true, List, [], ◌∷◌, filter, length, count_by, Option, None, refl, ap, sym, ◌∙◌, arith, eq-eqb, length-append}
-use Rattle.std.proofs.lemmas.Bool.Decides.{nat_tests}
 use Rattle.std.specs.List.{list_any, filter_map}
 use Rattle.std.proofs.lemmas.List.Sums.{sum_by-append}
 use Rattle.iscsi_wire.specs.Fields.{connection_of}
@@ -11,7 +10,7 @@ use Rattle.iscsi_history.proofs.ListLemmas.{fewer_counted}
 use Rattle.iscsi_history.proofs.CountLemmas.{one, count-cons, count-filter, count-weaker, count-split}
 use Rattle.iscsi_history.proofs.ElementLemmas.{In, in-any}
 use Rattle.iscsi_history.proofs.TraceLemmas.{live-item}
-use Rattle.iscsi_history.proofs.Forms.{AtTurn, Deeds, if_some, marks_done, Form, Completed, Executed, marks_of_form, IsFormed}
+use Rattle.iscsi_history.proofs.Forms.{Deeds, if_some, marks_done, Form, Completed, Executed, marks_of_form, IsFormed}
 use Rattle.iscsi_history.proofs.DeedLemmas.{to_list, views}
 use Rattle.iscsi_history.proofs.TouchLemmas.{leaving_in, entering_in, enters_form, leaves_form, leaving_few}
 
@@ -43,12 +42,12 @@ answers_of v (Executed start a d) = cond (is_of v a) (length (to_list d.reply)) 
 answers_of v _ = 0
 
 pub replies_form : (v : ℕ) (form : Form) (t : Trace) → length (replies_to v (marks_of_form form ∷ t)) ≡ length (replies_to v t) + answers_of v form
-replies_form v form t = grind (arith, nat_tests, length-append, marks_of_form, Form, Completed, one, Executed, AtTurn, marks_done, to_list, replied_done)
+replies_form v form t = grind (arith, length-append, replied_done)
 
 -- ---- commands
 
 pub entered_form : (p : Command → Bool) (form : Form) (t : Trace) → count_by p (entered (marks_of_form form ∷ t)) ≡ count_by p (entered t) + count_by p (to_list (entering_in form))
-entered_form p form t = grind (arith, nat_tests, sum_by-append, one, marks_of_form, enters_form)
+entered_form p form t = grind (arith, sum_by-append, enters_form)
 
 pub in_among : (cs : List Command) (c : Command) → In c cs → is_among c.ticket cs ≡ true
 in_among cs c h = in-any (λ (d : Command). d.ticket == c.ticket) cs c h (eq-eqb c.ticket c.ticket refl)

@@ -1,6 +1,5 @@
 -- In the trace of a list of events a request didn't execute so far, or is a live command, or has its reply: no two of these, and each once.
 use Rattle.std.proofs.Common.{◌≡◌, ℕ, ◌+◌, ◌<◌, ◌≤◌, ◌==◌, cond, Bool, List, [], ◌∷◌, ◌++◌, length, count_by, refl, sym, subst, arith, nat_lt}
-use Rattle.std.proofs.lemmas.Bool.Decides.{nat_tests}
 use Rattle.iscsi_wire.specs.declared.reply.Reply.{Reply}
 use Rattle.iscsi_history.specs.rules.Settings.{Setting}
 use Rattle.iscsi_history.specs.rules.Trace.{Command, Mark, Trace, entered, live}
@@ -62,7 +61,7 @@ one_most b = grind arith
 
 -- at least one is below
 pub is_below : (v place : ℕ) → 1 ≤ one (nat_lt v place) → v < place
-is_below v place h = grind (arith, nat_tests)
+is_below v place h = grind arith
 
 -- the events before now, and this one
 pub begun_by : (now v next : ℕ) (b : Bool) → now < next → one (nat_lt v (cond b now (now + 1))) + cond b (one (now == v)) 0 ≤ one (nat_lt v next)

@@ -1,10 +1,8 @@
 -- The requests that didn't execute so far: those that were admitted and not delivered, and the functions that wait.
 use Rattle.std.proofs.Common.{◌≡◌, ℕ, ◌+◌, ◌≤◌, ◌==◌, ◌&&◌, ◌||◌, not, ⊎_elim, cond, Bool, true, false, List, [], ◌∷◌, ◌++◌, filter, count_by, Option, Some, None, refl, ap, sym, ◌∙◌, arith, eq-eqb}
-use Rattle.std.proofs.lemmas.Bool.Decides.{nat_tests}
 use Rattle.std.specs.List.{list_any, filter_map}
 use Rattle.std.proofs.lemmas.Bool.{false≢true, eqb-true}
 use Rattle.std.proofs.lemmas.List.{append-nil}
-use Rattle.std.proofs.lemmas.List.Elements.{filter-append}
 use Rattle.std.proofs.lemmas.List.Sums.{sum_by-append}
 use Rattle.iscsi_wire.specs.Fields.{connection_of}
 use Rattle.iscsi_history.specs.rules.Settings.{Setting}
@@ -58,7 +56,7 @@ owed_before item t a h = not_either (list_any (delivers_number a.number) item) (
 
 -- an item adds no more than what it admits
 owed_item : (p : Arrival → Bool) (item : List Mark) (t : Trace) → count_by p (owed (item ∷ t)) ≤ count_by p (owed t) + count_by p (filter_map admits_request item)
-owed_item p item t = grind (arith, nat_tests, filter-append, sum_by-append, one, fewer_counted, count-filter, count-weaker, and_parts, and_both, owed_before)
+owed_item p item t = grind (arith, sum_by-append, count-filter, count-weaker)
 
 owed_passing : (p : Arrival → Bool) (a : Arrival) (ms : List Mark) (t : Trace) → filter_map admits_request ms ≡ [] → held t a.number ≡ Some a → p a ≡ true
     → count_by p (owed ((Delivers a ∷ ms) ∷ t)) + 1 ≤ count_by p (owed t)
@@ -100,7 +98,7 @@ shrinks_done a d =
 
 any_count : (p : Arrival → Bool) (ws : List Arrival) → list_any p ws ≡ true → 1 ≤ count_by p ws
 any_count p [] h = absurd (false≢true h)
-any_count p (w ∷ ws) h = grind (arith, nat_tests, any_count p ws, one, count-cons)
+any_count p (w ∷ ws) h = grind (arith, any_count p ws, count-cons)
 
 -- a function that has waited waits no more
 waited : (v : ℕ) (a : Arrival) (ws : List Arrival) → list_any (λ b. b.event == a.event) ws ≡ true → count_by (is_of v) (filter (λ b. not (b.event == a.event)) ws) + one (is_of v a) ≤ count_by (is_of v) ws
@@ -134,8 +132,8 @@ admits_done a d = simp views
 
 -- one that executes was awaited, or its event begins
 pub awaited_form : (o : Setting) (now v : ℕ) (t : Trace) (form : Form) → IsFormed o now t form → awaited v (marks_of_form form ∷ t) + executes_of v form ≤ awaited v t + begins_of now v form
-awaited_form o now v t (Received a) x = grind (arith, nat_tests, owed_item, is_of, count-cons, one)
-awaited_form o now v t (Postponed a) x = grind (arith, nat_tests, owed_item, is_of, count_by-push, one)
+awaited_form o now v t (Received a) x = grind (arith, owed_item)
+awaited_form o now v t (Postponed a) x = grind (arith, owed_item, count_by-push)
 awaited_form o now v t (Executed AtTurn a d) x = omega (arith, owed_turn (is_of v) a (marks_done a d) t (admits_done a d) x.0, shrinks_done a d (is_of v) (waiting t))
 awaited_form o now v t (Executed AtArrival a d) x =
     let ws : List Arrival = filter (λ b. not (b.event == a.event)) (waiting t) in

@@ -1,18 +1,14 @@
 -- A unit's set of commands: its tickets, and what has been shown of it.
 use Rattle.std.proofs.Common.{List, map, ℕ, [], ap, false, refl, true, ◌∷◌, ◌≡◌, ◌==◌, None, Some, filter, find, not, sym, ◌∙◌, ◌<◌, arith, get_or, replicate, suc, zero, Bool, count_by, ◌≤◌, ◌||◌, ◌&&◌, nat_lt, length, eq-eqb}
 use Rattle.std.proofs.lemmas.Grind.{common_steps}
-use Rattle.std.proofs.lemmas.Bool.Decides.{nat_tests}
 use Rattle.std.specs.List.{list_any, list_all}
-use Rattle.std.proofs.lemmas.Bool.{eqb-true}
-use Rattle.std.proofs.lemmas.List.Sums.{sum_by-cons}
 use Rattle.iscsi_tasks.specs.declared.member.Member.{Member}
 use Rattle.iscsi_tasks.specs.Sets.{given_in, after_moment, looked_at, Members, left_by, tasks_in, with_ticket, opened as opened_set}
 use Rattle.iscsi_tasks.specs.declared.task.Task.{Task}
 use Rattle.iscsi_history.proofs.ListLemmas.{none_left}
 use Rattle.iscsi_history.proofs.ListLemmas.{map-map, filter-map, find-found}
 use Rattle.iscsi_history.proofs.BoolLemmas.{or_false, and_parts, and_false}
-use Rattle.iscsi_history.proofs.ApartLemmas.{eq_sym}
-use Rattle.iscsi_history.proofs.NumberLemmas.{later_apart, none_above}
+use Rattle.iscsi_history.proofs.NumberLemmas.{none_above}
 
 abbrev pub tickets : List Member → List ℕ
 tickets ms = map (λ m. m.task.ticket) ms
@@ -32,7 +28,7 @@ none_with k (m ∷ ms) h = grind (arith, none_with k ms)
 
 -- a command that leaves takes its ticket with it
 pub tickets-left : (s : Members) (k : ℕ) → tickets (left_by s (with_ticket k (tasks_in s))).list ≡ filter (λ t. not (t == k)) (tickets s.list)
-tickets-left s k = grind (arith, nat_tests, none_with, eqb-true, find-found, tickets-moment, filter-map)
+tickets-left s k = grind (arith, none_with, find-found, tickets-moment, filter-map)
 
 pub set_opened : (n u depth : ℕ) → u < n → get_or (replicate n (opened_set depth)) u (opened_set 0) ≡ opened_set depth
 set_opened zero u depth lt = absurd (omega arith)
@@ -43,7 +39,7 @@ set_opened (suc n) (suc u) depth lt = set_opened n u depth (omega arith)
 
 pub ungiven_given : (ms : List Member) → count_by (λ m. not m.given) (given_in ms) ≤ count_by (λ m. not m.given) ms
 ungiven_given [] = omega arith
-ungiven_given (m ∷ ms) = grind (arith, common_steps, nat_tests, ungiven_given ms, sum_by-cons)
+ungiven_given (m ∷ ms) = grind (arith, common_steps, ungiven_given ms)
 
 -- ---- nothing is left to leave
 
@@ -82,7 +78,7 @@ gone_each covers (x ∷ ms) zero d up lt =
     let parts = and_parts (list_all (λ u. nat_lt x.task.ticket u) (tickets ms)) (rising (tickets ms)) up in
     ap (λ b. (b && covers x.task) || list_any (λ m. m.task.ticket == x.task.ticket && covers m.task) ms) (eq-eqb x.task.ticket x.task.ticket refl)
     ∙ ap (λ b. covers x.task || b) (none_covered covers x.task.ticket ms (none_above x.task.ticket (tickets ms) parts.0)) ∙ or_false (covers x.task)
-gone_each covers (x ∷ ms) (suc k) d up lt = grind (arith, nat_tests, gone_each covers ms k d, and_parts, eq_sym, later_apart, all_at)
+gone_each covers (x ∷ ms) (suc k) d up lt = grind (arith, gone_each covers ms k d, all_at)
 
 -- ---- the one with a ticket
 

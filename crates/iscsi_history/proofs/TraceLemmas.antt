@@ -1,12 +1,10 @@
 -- What one item more changes of what follows from a trace.
-use Rattle.std.proofs.Common.{arith, ◌≡◌, ℕ, ◌==◌, ◌||◌, not, cond, Bool, true, false, List, [], ◌∷◌, ◌++◌, filter, refl, ap, ◌∙◌, eq-eqb}
-use Rattle.std.proofs.lemmas.Bool.Decides.{nat_tests}
+use Rattle.std.proofs.Common.{arith, ◌≡◌, ℕ, ◌==◌, ◌||◌, not, cond, Bool, true, false, List, [], ◌∷◌, ◌++◌, filter, refl, ap, ◌∙◌}
 use Rattle.std.specs.List.{list_any, list_all, filter_map}
 use Rattle.std.proofs.lemmas.List.{append-nil}
 use Rattle.std.proofs.lemmas.List.Elements.{filter-append}
 use Rattle.std.proofs.lemmas.List.Folds.{list_any-append}
 use Rattle.iscsi_history.specs.rules.Trace.{Command, Mark, Trace, after_items, has, shown, enters, entered, leaves_ticket, live, is_among, received, is_received, contains, number_received, admits_at}
-use Rattle.iscsi_history.proofs.BoolLemmas.{and_both, or_none, or_second}
 
 -- ---- filters
 
@@ -51,7 +49,7 @@ live-enters item t c one quiet unleft =
 
 -- the commands with these tickets leave
 pub live-leaves : (item : List Mark) (t : Trace) (out : ℕ → Bool) → filter_map enters item ≡ [] → ((k : ℕ) → list_any (leaves_ticket k) item ≡ out k) → live (item ∷ t) ≡ filter (λ c. not (out c.ticket)) (live t)
-live-leaves item t out none some = grind (arith, nat_tests, live-item, append-nil, filter-same)
+live-leaves item t out none some = grind (arith, live-item, append-nil)
 
 -- ---- enabled commands
 
@@ -61,7 +59,7 @@ weaker p q (x ∷ xs) h all = grind (arith, weaker p q xs)
 
 pub all_among : (xs : List Command) → list_all (λ c. is_among c.ticket xs) xs ≡ true
 all_among [] = refl
-all_among (x ∷ xs) = grind (arith, nat_tests, all_among xs, and_both, eq-eqb, weaker, or_second)
+all_among (x ∷ xs) = grind (arith, all_among xs, weaker)
 
 -- ---- received numbers and admitted requests
 
@@ -75,7 +73,7 @@ unadmitted_item n (mark ∷ marks) h = grind (arith, unadmitted_item n marks)
 -- nothing is admitted at a number that isn't received
 pub unadmitted : (n : ℕ) (t : Trace) → is_received t n ≡ false → shown (admits_at n) t ≡ []
 unadmitted n [] h = refl
-unadmitted n (item ∷ t) h = grind (arith, nat_tests, unadmitted n t, or_none, received-item, unadmitted_item, append-nil)
+unadmitted n (item ∷ t) h = grind (arith, unadmitted n t, received-item, unadmitted_item)
 
 -- ---- some items more
 
