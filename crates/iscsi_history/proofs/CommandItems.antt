@@ -121,7 +121,8 @@ enters_only cs ms = simp views
 -- ---- commands leave, and a function is answered
 
 pub quiet-leaving : (cs : List Command) (a : Arrival) (reply : Reply) → IsQuiet (map Leaves cs ++ reply_on a reply)
-quiet-leaving cs a reply = record { receives = simp views; admits = λ n. simp views; delivers_none = simp views; delivers_no = λ n. simp tests; empties_no = λ n. simp tests }
+quiet-leaving cs a reply =
+    record { receives = simp views; admits = λ n. simp views; delivers_none = simp views; delivers_no = λ n. simp tests; empties_no = λ n. simp tests }
 
 pub leaving-enters : (cs : List Command) (a : Arrival) (reply : Reply) → filter_map enters (map Leaves cs ++ reply_on a reply) ≡ []
 leaving-enters cs a reply = simp views

@@ -54,11 +54,21 @@ one_of_units n u b = grind arith
 
 of_units : (p : Command → Bool) (u : ℕ) (cs : List Command)
     → count_by p (filter (λ c. c.unit == u) cs) + count_by p (filter (λ c. nat_le (u + 1) c.unit) cs) ≡ count_by p (filter (λ c. nat_le u c.unit) cs)
-of_units p u cs = omega (arith, count-filter p (λ c. c.unit == u) cs, count-filter p (λ c. nat_le (u + 1) c.unit) cs, count-filter p (λ c. nat_le u c.unit) cs, counts cs)
+of_units p u cs =
+    omega (arith, count-filter p (λ c. c.unit == u) cs, count-filter p (λ c. nat_le (u + 1) c.unit) cs, count-filter p (λ c. nat_le u c.unit) cs, counts cs)
   where
-    counts : (cs : List Command) → count_by (λ c. (c.unit == u) && p c) cs + count_by (λ c. nat_le (u + 1) c.unit && p c) cs ≡ count_by (λ c. nat_le u c.unit && p c) cs
+    counts : (cs : List Command)
+        → count_by (λ c. (c.unit == u) && p c) cs + count_by (λ c. nat_le (u + 1) c.unit && p c) cs ≡ count_by (λ c. nat_le u c.unit && p c) cs
     counts [] = refl
-    counts (c ∷ cs) = omega (arith, counts cs, one_of_units c.unit u (p c), count-cons (λ c. (c.unit == u) && p c) c cs, count-cons (λ c. nat_le (u + 1) c.unit && p c) c cs, count-cons (λ c. nat_le u c.unit && p c) c cs)
+    counts (c ∷ cs) =
+        omega (
+          arith,
+          counts cs,
+          one_of_units c.unit u (p c),
+          count-cons (λ c. (c.unit == u) && p c) c cs,
+          count-cons (λ c. nat_le (u + 1) c.unit && p c) c cs,
+          count-cons (λ c. nat_le u c.unit && p c) c cs,
+        )
 
 -- the commands of units are no more than all
 units_counted : (p : Command → Bool) (cs : List Command) (u n : ℕ) → count_by p (flat_map (λ v. filter (λ c. c.unit == v) cs) (range_with_len u n)) ≤ count_by p (filter (λ c. nat_le u c.unit) cs)
@@ -206,21 +216,30 @@ module _ (o : Setting) (t : Trace) (start : Start) (a : Arrival) where
   }
 
   -- it is done well, where it isn't an answer alone
-  does_well : (d : Deed) (ms : List Mark) (does : Does o t start a ms) → (closes d ≡ false → is_closing does.deeds ≡ false) → (is_set_abort a.request ≡ true → is_completed_by a does.deeds ≡ true → Sweeps o (begun start a t) a does.deeds)
+  does_well : (d : Deed) (ms : List Mark) (does : Does o t start a ms) → (closes d ≡ false → is_closing does.deeds ≡ false)
+      → (is_set_abort a.request ≡ true → is_completed_by a does.deeds ≡ true → Sweeps o (begun start a t) a does.deeds)
       → is_refused d ≡ false → DoesWell o t start a d ms
-  does_well d ms does stays sweeps not_refused = record { does = does; stays = stays; sweeps = sweeps; accepted = λ x is. absurd (false≢true (sym not_refused ∙ ap is_refused is)) }
+  does_well d ms does stays sweeps not_refused =
+      record { does = does; stays = stays; sweeps = sweeps; accepted = λ x is. absurd (false≢true (sym not_refused ∙ ap is_refused is)) }
 
   -- it closes something, or a command enters, or nothing happens: no function is completed by that
-  does_other : (d : Deed) (ms : List Mark) (does : Does o t start a ms) → (closes d ≡ false → is_closing does.deeds ≡ false) → is_completed_by a does.deeds ≡ false → is_refused d ≡ false → DoesWell o t start a d ms
+  does_other : (d : Deed) (ms : List Mark) (does : Does o t start a ms) → (closes d ≡ false → is_closing does.deeds ≡ false)
+      → is_completed_by a does.deeds ≡ false → is_refused d ≡ false → DoesWell o t start a d ms
   does_other d ms does stays none not_refused = does_well d ms does stays (λ set h. absurd (false≢true (sym none ∙ h))) not_refused
 
   does_end : DoesWell o t start a CloseSession (end_session o t' a)
   unfolding t' does_part
-  does_end = subst (DoesWell o t start a CloseSession) (simp append_assoc) (does_other CloseSession _ (does_part (λ conn. true) None true tt (λ ends conn here. refl)) (λ h. absurd (false≢true (sym h))) refl refl)
+  does_end =
+      subst (DoesWell o t start a CloseSession) (simp append_assoc)
+      (does_other CloseSession _ (does_part (λ conn. true) None true tt (λ ends conn here. refl)) (λ h. absurd (false≢true (sym h))) refl refl)
 
   does_close : (closing : ℕ) → DoesWell o t start a (CloseConn closing) (close_conn o t' a closing)
   unfolding t' does_part
-  does_close closing = subst (DoesWell o t start a (CloseConn closing)) (simp append_assoc) (does_other (CloseConn closing) _ (does_part (λ conn. conn == closing) (Some closing) (is_last_open o t' closing) (eq-eqb closing closing refl) last) (λ h. absurd (false≢true (sym h))) refl refl)
+  does_close closing =
+      subst (DoesWell o t start a (CloseConn closing)) (simp append_assoc)
+      (does_other (CloseConn closing) _
+      (does_part (λ conn. conn == closing) (Some closing) (is_last_open o t' closing) (eq-eqb closing closing refl) last)
+      (λ h. absurd (false≢true (sym h))) refl refl)
     where
       last : is_last_open o t' closing ≡ true → (conn : ℕ) → is_open o t' conn ≡ true → (conn == closing) ≡ true
       last ends conn here =
@@ -241,7 +260,9 @@ module _ (o : Setting) (t : Trace) (start : Start) (a : Arrival) where
 
   -- a function that is no abort of a whole set takes this out, or nothing
   does_single : (d : Deed) (ds : Deeds) → IsDone o t start a ds → is_closing ds ≡ false → (function a.request == 1) ≡ true → is_refused d ≡ false → DoesWell o t start a d (marks_done a ds)
-  does_single d ds done stays one not_refused = does_well d _ (record { deeds = ds; is = refl; done = done }) (λ h. stays) (λ set h. absurd (false≢true (sym (unset a.request 1 one refl) ∙ set))) not_refused
+  does_single d ds done stays one not_refused =
+      does_well d _ (record { deeds = ds; is = refl; done = done }) (λ h. stays)
+      (λ set h. absurd (false≢true (sym (unset a.request 1 one refl) ∙ set))) not_refused
 
   does_void : Befits (facts_of o t' a) a.request Void → DoesDeed Void
   unfolding t'
@@ -277,7 +298,8 @@ module _ (o : Setting) (t : Trace) (start : Start) (a : Arrival) where
   unfolding t'
   does_all d not_refused unit named covers early whole =
       let cs : List Command = filter covers (live_in unit t') in
-      let few : (p : Command → Bool) → count_by p cs ≤ count_by p (live t') = λ p. omega (arith, fewer_counted p covers (live_in unit t'), fewer_counted p (λ (c : Command). c.unit == unit) (live t')) in
+      let few : (p : Command → Bool) → count_by p cs ≤ count_by p (live t') =
+      λ p. omega (arith, fewer_counted p covers (live_in unit t'), fewer_counted p (λ (c : Command). c.unit == unit) (live t')) in
       does_well d _ (record { deeds = record idle { leaving = cs; reply = Some (Task (itt a.request) 0) }; is = refl; done = leave_done cs few }) (λ h. refl)
       (λ set h. record { unit = unit; named = named; covers = covers; early = early; whole = whole; is = refl }) not_refused
 

@@ -162,12 +162,15 @@ module _ (Q : Trace → Arrival → Type 0) (o : Setting) (now : ℕ) where
           absurd (false≢true (sym may ∙ and_both (opcode a.request == 0x02) (may_wait a.request) (and_first (opcode a.request == 0x02) (function a.request == 1 || is_set_abort a.request) aborts) (and_both (is_immediate a.request) (is_set_abort a.request) at_once set))))
 
   arrival_stands : (t : Trace) (a : Arrival) → a.event ≡ now → (is_closed (connection_of a.request) t ≡ false → Q t a) → TurnsOf t (arrival o t a)
-  arrival_stands t a here comes = cond_both (is_closed (connection_of a.request) t) _ _ (TurnsOf t) (λ is. ignored_stands t Closed) (λ is. by_kind (comes is) (kind_of a.request))
+  arrival_stands t a here comes =
+      cond_both (is_closed (connection_of a.request) t) _ _ (TurnsOf t) (λ is. ignored_stands t Closed) (λ is. by_kind (comes is) (kind_of a.request))
     where
       by_kind : Q t a → (k : Kind) → TurnsOf t (arrival_as o t a k)
       by_kind q PassedOver = ignored_stands t Data
       by_kind q Unknown = alone t (rejected a) (record { has = record { form = Rejected a; is = refl; formed = tt }; at = q })
-      by_kind q ExecutesKind = cond_both (is_immediate a.request) _ _ (TurnsOf t) (λ is. turns_stand t (immediate_item o t a) (immediate_stands t a here q is)) (λ is. numbered_stands t a here q)
+      by_kind q ExecutesKind =
+          cond_both (is_immediate a.request) _ _ (TurnsOf t)
+          (λ is. turns_stand t (immediate_item o t a) (immediate_stands t a here q is)) (λ is. numbered_stands t a here q)
 
   completion_stands : (t : Trace) (ticket status : ℕ) → TurnsOf t (completion status (command_of t ticket))
   completion_stands t ticket status = by_command (command_of t ticket) refl

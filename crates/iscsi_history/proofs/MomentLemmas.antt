@@ -42,7 +42,8 @@ module _ (o : Setting) (p : Effect → Bool) (q : Mark → Bool) (none : (ticket
   shown_so_far (item ∷ t) = grind (arith, shown_so_far t, list_any-append, shown_item)
 
 pub item_enables : (o : Setting) (t : Trace) (item : List Mark) (k : ℕ) → list_any (is_enable k) (effects_of_item o t item) ≡ is_among k (newly_enabled o t item)
-item_enables o t item k = grind (arith, list_any-append, enabled_marks item, list_any-map (is_enable k) (λ (c : Command). Enable c.ticket c.unit) (newly_enabled o t item))
+item_enables o t item k =
+    grind (arith, list_any-append, enabled_marks item, list_any-map (is_enable k) (λ (c : Command). Enable c.ticket c.unit) (newly_enabled o t item))
   where
     enabled_marks : (ms : List Mark) → list_any (is_enable k) (flat_map (effects_of_mark o t) ms) ≡ false
     enabled_marks [] = refl
