@@ -1,28 +1,26 @@
 -- Each item fits in where it stands.
-use Rattle.std.proofs.Common.{◌≡◌, ℕ, ◌<◌, ◌≤◌, ◌==◌, ◌&&◌, ◌||◌, ⊎_elim, not, cond, Bool, true, false, List, [], ◌∷◌, ◌++◌, filter, Some, None, refl, ap, sym, subst, ◌∙◌, arith}
+use Rattle.std.proofs.Common.{◌≡◌, ℕ, ◌<◌, ◌≤◌, ◌==◌, ◌&&◌, not, Bool, true, false, List, [], ◌∷◌, filter, Some, None, ap, sym, subst, ◌∙◌, arith}
 use Rattle.std.specs.List.{list_any, filter_map}
-use Rattle.std.proofs.lemmas.Bool.{false≢true, eqb-true, or_cases}
-use Rattle.std.proofs.lemmas.Bool.Decides.{nat_tests}
+use Rattle.std.proofs.lemmas.Bool.{false≢true, eqb-true, false_from_ne_true}
 use Rattle.iscsi_wire.specs.declared.request.Request.{Request}
-use Rattle.iscsi_wire.specs.Fields.{connection_of, function, itt}
+use Rattle.iscsi_wire.specs.Fields.{function}
 use Rattle.iscsi_history.specs.rules.Settings.{Setting}
 use Rattle.iscsi_history.specs.rules.Trace.{Arrival, Command, Mark, Trace, has, shown, entered, is_received, admits_at, delivers_number, held, leaves_ticket, live, live_in, is_among}
 use Rattle.iscsi_history.specs.promises.Replies.{executed_in}
-use Rattle.iscsi_history.specs.promises.Aborts.{is_set_abort, is_complete, completes, IsCompleted, is_in_unit_of, came_before, earlier, is_ticket_covered}
+use Rattle.iscsi_history.specs.promises.Aborts.{is_set_abort, completes, IsCompleted, is_in_unit_of, came_before, earlier, is_ticket_covered}
 use Rattle.iscsi_history.specs.promises.Meaning.{voids_number}
 use Rattle.iscsi_history.proofs.BeforeLemmas.{came_is_before}
-use Rattle.iscsi_history.proofs.BoolLemmas.{or_first, or_second, and_parts, and_both, and_false}
+use Rattle.iscsi_history.proofs.BoolLemmas.{or_first, and_parts, and_both}
 use Rattle.iscsi_history.proofs.ListLemmas.{any_filter}
 use Rattle.iscsi_history.proofs.TraceLemmas.{unadmitted, filter-same, filter-true}
 use Rattle.iscsi_history.proofs.AbortLemmas.{Fits}
-use Rattle.iscsi_history.proofs.Forms.{Start, AtTurn, AtArrival, AfterWaiting, start_mark, Deeds, marks_done, Form, Ignored, Rejected, Received, Postponed, Completed, Executed, marks_of_form, begun, is_completed_by, Sweeps, IsFormed}
+use Rattle.iscsi_history.proofs.Forms.{Start, AtTurn, start_mark, Deeds, marks_done, Form, Executed, marks_of_form, begun, is_completed_by, Sweeps, IsFormed}
 use Rattle.iscsi_history.proofs.FormItems.{live-begun}
-use Rattle.iscsi_history.proofs.DeedTable.{unset}
 use Rattle.iscsi_history.proofs.FormRuns.{StandsAt, Stands, AnyArrival}
-use Rattle.iscsi_history.proofs.DeedLemmas.{begun_any, none_done}
+use Rattle.iscsi_history.proofs.DeedLemmas.{none_done}
 use Rattle.iscsi_history.proofs.TouchLemmas.{leaves_form, leaving_live}
 use Rattle.iscsi_history.proofs.TurnLemmas.{delivers_in, delivers_form}
-use Rattle.iscsi_history.proofs.FateLemmas.{Touch, NotTouched, AdmitsNow, VoidsNow, EmptiesNow, DeliversNow, touch_form}
+use Rattle.iscsi_history.proofs.FateLemmas.{Touch, touch_form}
 
 -- ---- what an item does to a number
 
@@ -31,42 +29,21 @@ no_arrival b h = absurd cc
 
 -- what isn't held isn't delivered
 touched_unheld : (t : Trace) (n : ℕ) (item : List Mark) → Touch t n item → held t n ≡ None → list_any (delivers_number n) item ≡ false
-touched_unheld t n item (NotTouched i) gone = i.delivered
-touched_unheld t n item (AdmitsNow a new i) gone = i.delivered
-touched_unheld t n item (VoidsNow new i) gone = i.delivered
-touched_unheld t n item (EmptiesNow b there i) gone = i.delivered
-touched_unheld t n item (DeliversNow b there i) gone = no_arrival b (sym gone ∙ there)
+touched_unheld t n item touch gone = grind arith
 
 -- a received number admits nothing
 touched_received : (t : Trace) (n : ℕ) (item : List Mark) → Touch t n item → is_received t n ≡ true → filter_map (admits_at n) item ≡ []
-touched_received t n item (NotTouched i) there = i.admits
-touched_received t n item (AdmitsNow a new i) there = absurd (false≢true (sym new ∙ there))
-touched_received t n item (VoidsNow new i) there = i.admits
-touched_received t n item (EmptiesNow b held i) there = i.admits
-touched_received t n item (DeliversNow b held i) there = i.admits
+touched_received t n item touch there = grind arith
 
 -- a number that is voided never admitted a request
 touched_voided : (t : Trace) (n : ℕ) (item : List Mark) → Touch t n item → list_any (voids_number n) item ≡ true → shown (admits_at n) (item ∷ t) ≡ []
-touched_voided t n item (NotTouched i) now = absurd (false≢true (sym i.voided ∙ now))
-touched_voided t n item (AdmitsNow a new i) now = absurd (false≢true (sym i.voided ∙ now))
-touched_voided t n item (VoidsNow new i) now = ap (λ as'. as' ++ filter_map (admits_at n) item) (unadmitted n t new) ∙ i.admits
-touched_voided t n item (EmptiesNow b there i) now = absurd (false≢true (sym i.voided ∙ now))
-touched_voided t n item (DeliversNow b there i) now = absurd (false≢true (sym i.voided ∙ now))
+touched_voided t n item touch now = grind (arith, unadmitted n t)
 
 -- ---- what an abort of a whole set covers, leaves
 
 any_weaker : {A : Type 0} (f g : A → Bool) (xs : List A) → ((x : A) → f x ≡ true → g x ≡ true) → list_any f xs ≡ true → list_any g xs ≡ true
 any_weaker f g [] h found = absurd (false≢true found)
-any_weaker f g (x ∷ xs) h found =
-    ⊎_elim (λ here. or_first (g x) (list_any g xs) (h x here))
-    (λ later. or_second (g x) (list_any g xs) (any_weaker f g xs h later))
-    (or_cases (f x) (list_any f xs) found)
-
-not_one : (r : Request) → is_set_abort r ≡ true → (function r == 1) ≡ false
-not_one r set = elim (function r == 1) as (λ b. (function r == 1) ≡ b → b ≡ false) [
-  | true ↦ λ is. absurd (false≢true (sym (unset r 1 is refl) ∙ set))
-  | false ↦ λ is. refl
-] refl
+any_weaker f g (x ∷ xs) h found = grind (arith, any_weaker f g xs)
 
 module _ (o : Setting) (t : Trace) (start : Start) (a : Arrival) (d : Deeds) (s : Sweeps o (begun start a t) a d) where
   -- the earlier ones that didn't leave are among those that it takes out
@@ -102,68 +79,40 @@ module _ (o : Setting) (t : Trace) (start : Start) (a : Arrival) (d : Deeds) (s 
       (leaves_form k (Executed start a d) ∙ ap (is_among k) s.is ∙ ap (λ cs. is_among k (filter s.covers (filter (λ (c : Command). c.unit == s.unit) cs))) (live-begun start a t) ∙ h)
 
   swept : is_set_abort a.request ≡ true → (k : ℕ) → is_ticket_covered o a (marks_of_form (Executed start a d)) t k ≡ true → has (leaves_ticket k) (marks_of_form (Executed start a d) ∷ t) ≡ true
-  swept set k covered =
-      let item : List Mark = marks_of_form (Executed start a d) in
-      let which : (is_among k (earlier o a t) || (function a.request == 5 && is_among k (filter (is_in_unit_of o a) (live t)))) ≡ true =
-      sym (ap (λ c. cond c (list_any (leaves_ticket k) item) (is_among k (earlier o a t) || (function a.request == 5 && is_among k (filter (is_in_unit_of o a) (live t))))) (not_one a.request set)) ∙ covered in
-      ⊎_elim
-      (λ early. elim (has (leaves_ticket k) t) as (λ c. has (leaves_ticket k) t ≡ c → (list_any (leaves_ticket k) item || c) ≡ true) [
-        | true ↦ λ left. or_second (list_any (leaves_ticket k) item) true refl
-        | false ↦ λ unleft. sym (ap (λ c. list_any (leaves_ticket k) item || c) unleft) ∙ swept_leaves k (early_swept k unleft early)
-      ] refl)
-      (λ whole. let parts = and_parts (function a.request == 5) (is_among k (filter (is_in_unit_of o a) (live t))) whole in swept_leaves k (whole_swept k parts.0 parts.1))
-      (or_cases (is_among k (earlier o a t)) (function a.request == 5 && is_among k (filter (is_in_unit_of o a) (live t))) which)
+  swept set k covered = grind (arith, swept_leaves, early_swept, whole_swept)
 
 -- ---- an item of any form
 
 module _ (o : Setting) (now p : ℕ) (t : Trace) where
   -- nothing is delivered below the item's place
   delivers_here : (form : Form) → StandsAt AnyArrival o now p t form → (n : ℕ) → n < p → delivers_in n form ≡ false
-  delivers_here (Ignored why) x n lt = refl
-  delivers_here (Rejected a) x n lt = refl
-  delivers_here (Received a) x n lt = refl
-  delivers_here (Postponed a) x n lt = refl
-  delivers_here (Completed c status) x n lt = refl
-  delivers_here (Executed AtTurn a d) x n lt = let number : a.number ≡ p = x.0 in let no : (a.number == n) ≡ false = grind (arith, nat_tests) in no
-  delivers_here (Executed AtArrival a d) x n lt = refl
-  delivers_here (Executed AfterWaiting a d) x n lt = refl
+  delivers_here form x n lt = grind arith
 
   -- Function complete is sent where the deeds say so
   completed_by : (start : Start) (a : Arrival) (d : Deeds) → list_any (completes a.request) (marks_of_form (Executed start a d)) ≡ true → is_completed_by a d ≡ true
-  completed_by start a d complete = elim (is_completed_by a d) as (λ b. is_completed_by a d ≡ b → b ≡ true) [ true ↦ λ is. refl | false ↦ λ is. absurd (false≢true (sym (none is) ∙ complete)) ] refl
-    where
-      none : is_completed_by a d ≡ false → list_any (completes a.request) (marks_of_form (Executed start a d)) ≡ false
-      none incomplete =
-          begun_any (completes a.request) start a (marks_done a d) refl refl
-          ∙ none_done a d (completes a.request) (λ n is. refl) (λ c there. refl) (λ b there. refl) (λ c is. refl)
-          (λ reply is. ap (λ b. (connection_of a.request == connection_of a.request) && b) (sym (ap (λ x. elim x [ Some r ↦ is_complete (itt a.request) r | None ↦ false ]) is) ∙ incomplete) ∙ and_false (connection_of a.request == connection_of a.request))
-          (λ conn is. refl) (λ is. refl)
+  completed_by start a d complete =
+      grind (arith, none_done)
 
   -- an abort of a whole set stands at its number or later, and what it covers leaves, if it didn't before
   abbrev Ends : Arrival → Form → Type 0
   Ends f form = (f.number ≤ p) × ((k : ℕ) → is_ticket_covered o f (marks_of_form form) t k ≡ true → has (leaves_ticket k) (marks_of_form form ∷ t) ≡ true)
 
   ends_form : (form : Form) → StandsAt AnyArrival o now p t form → (f : Arrival) → IsCompleted f (marks_of_form form) → is_set_abort f.request ≡ true → Ends f form
-  ends_form (Ignored why) x f done set = no_arrival f done.executes
-  ends_form (Rejected a) x f done set = no_arrival f done.executes
-  ends_form (Received a) x f done set = no_arrival f done.executes
-  ends_form (Postponed a) x f done set = no_arrival f done.executes
-  ends_form (Completed c status) x f done set = no_arrival f done.executes
   ends_form (Executed start a d) x f done set = subst (λ (b : Arrival). IsCompleted b (marks_of_form (Executed start a d)) → is_set_abort b.request ≡ true → Ends b (Executed start a d)) (by_start start done.executes) own done set
     where
       by_start : (s : Start) → executed_in (start_mark s a ∷ marks_done a d) ≡ Some f → a ≡ f
       by_start AtTurn is = cc
-      by_start AtArrival is = cc
-      by_start AfterWaiting is = cc
+      by_start s is = cc
 
       own : IsCompleted a (marks_of_form (Executed start a d)) → is_set_abort a.request ≡ true → Ends a (Executed start a d)
       own done set = let r = x.1 done.aborts set (completed_by start a d done.complete) in (r.0, swept o t start a d r.1 set)
+  ends_form form x f done set = no_arrival f done.executes
 
   form_fits : (form : Form) → IsFormed o now t form → StandsAt AnyArrival o now p t form → Fits o p t (marks_of_form form)
   form_fits form x at =
       let item : List Mark = marks_of_form form in
       record {
-        leaves = λ k gone. elim (list_any (leaves_ticket k) item) as (λ b. list_any (leaves_ticket k) item ≡ b → b ≡ false) [ true ↦ λ is. absurd (false≢true (sym gone ∙ leaving_live o now t form x k is)) | false ↦ λ is. refl ] refl;
+        leaves = λ k gone. false_from_ne_true (list_any (leaves_ticket k) item) (λ is. false≢true (sym gone ∙ leaving_live o now t form x k is));
         delivers_held = λ n none. touched_unheld t n item (touch_form o now t n form x) none;
         delivers_on = λ n lt. delivers_form n form ∙ delivers_here form at n lt;
         admits = λ n there. touched_received t n item (touch_form o now t n form x) there;

@@ -1,19 +1,18 @@
 -- What a completed abort covers is over, in the trace of each list of events.
-use Rattle.std.proofs.Common.{◌≡◌, ℕ, ◌<◌, ◌≤◌, ◌==◌, ◌&&◌, ◌||◌, ◌⊎◌, inl, inr, ⊎_elim, not, cond, Bool, true, false, List, [], ◌∷◌, ◌++◌, length, filter, Option, Some, None, refl, ap, sym, subst, ◌∙◌, arith, nat_lt, append_assoc}
+use Rattle.std.proofs.Common.{◌≡◌, ℕ, ◌<◌, ◌≤◌, ◌==◌, ◌&&◌, ◌||◌, ◌⊎◌, inl, inr, ⊎_elim, not, cond, Bool, true, false, List, [], ◌∷◌, ◌++◌, length, filter, Some, None, refl, ap, sym, subst, ◌∙◌, arith, nat_lt, append_assoc}
 use Rattle.std.specs.List.{list_any, filter_map, range_with_len}
 use Rattle.std.specs.Prelude.{Contains}
-use Rattle.std.proofs.lemmas.Bool.{false≢true, or_cases}
-use Rattle.std.proofs.lemmas.Bool.Decides.{nat_tests}
+use Rattle.std.proofs.lemmas.Bool.{false≢true}
 use Rattle.std.proofs.lemmas.List.Folds.{list_any-append}
-use Rattle.iscsi_wire.specs.Fields.{opcode, function}
+use Rattle.iscsi_wire.specs.Fields.{function}
 use Rattle.iscsi_history.specs.declared.event.Event.{Event}
 use Rattle.iscsi_history.specs.rules.Settings.{Setting}
-use Rattle.iscsi_history.specs.rules.Trace.{Arrival, Command, Mark, Admits, Delivers, Executes, Voids, Empties, Waits, Leaves, Enters, Sends, ClosesConn, ClosesSession, Ignores, Trace, first_of, has, shown, number_received, contains, is_received, admits_at, admitted, delivers_number, is_delivered, empties_number, is_emptied, held, entered, leaves_ticket, live, live_in, is_among, was_free, enabled_in}
+use Rattle.iscsi_history.specs.rules.Trace.{Arrival, Command, Mark, Admits, Voids, Empties, Trace, first_of, has, shown, number_received, contains, is_received, admits_at, admitted, delivers_number, is_delivered, empties_number, is_emptied, held, entered, leaves_ticket, live, live_in, is_among, was_free, enabled_in}
 use Rattle.iscsi_history.specs.rules.Execution.{exp_of}
 use Rattle.iscsi_history.specs.rules.Run.{trace_of, effects_of_item, run_of}
 use Rattle.iscsi_history.specs.promises.Enabling.{is_enable}
 use Rattle.iscsi_history.specs.promises.Replies.{executed_in, replies_to}
-use Rattle.iscsi_history.specs.promises.Aborts.{is_set_abort, IsCompleted, is_in_unit_of, earlier, is_ticket_covered, takes_out, is_number_covered, IsOver, AbortsHold, AbortsHoldIn}
+use Rattle.iscsi_history.specs.promises.Aborts.{is_set_abort, IsCompleted, is_ticket_covered, takes_out, is_number_covered, IsOver, AbortsHold, AbortsHoldIn}
 use Rattle.iscsi_history.proofs.BoolLemmas.{or_first, or_second, and_parts, not_true}
 use Rattle.iscsi_history.proofs.ElementLemmas.{in-contains}
 use Rattle.iscsi_history.proofs.ApartLemmas.{unamong-filter}
@@ -36,19 +35,13 @@ has_since test (item ∷ later) t h = or_second (list_any test item) (has test (
 
 -- an abort that isn't ABORT TASK is one of a whole set
 set_abort : (f : Arrival) (item : List Mark) → IsCompleted f item → (function f.request == 1) ≡ false → is_set_abort f.request ≡ true
-set_abort f item done apart =
-    sym (ap (λ b. b || is_set_abort f.request) apart) ∙ (and_parts (opcode f.request == 0x02) (function f.request == 1 || is_set_abort f.request) done.aborts).1
+set_abort f item done apart = grind arith
 
 -- ---- tickets
 
 -- a covered command has left by the end of the abort's item
 covered_left : (o : Setting) (p : ℕ) (f : Arrival) (item : List Mark) (before : Trace) → Fits o p before item → IsCompleted f item → (k : ℕ) → is_ticket_covered o f item before k ≡ true → has (leaves_ticket k) (item ∷ before) ≡ true
-covered_left o p f item before fits done k covered =
-    let swept : Bool = is_among k (earlier o f before) || (function f.request == 5 && is_among k (filter (is_in_unit_of o f) (live before))) in
-    elim (function f.request == 1) as (λ b. (function f.request == 1) ≡ b → cond b (list_any (leaves_ticket k) item) swept ≡ true → has (leaves_ticket k) (item ∷ before) ≡ true) [
-      | true ↦ λ one left. or_first (list_any (leaves_ticket k) item) (has (leaves_ticket k) before) left
-      | false ↦ λ apart others. fits.sweeps f done (set_abort f item done apart) k covered
-    ] refl covered
+covered_left o p f item before fits done k covered = grind arith
 
 -- what isn't live isn't enabled
 unlive_unenabled : (o : Setting) (t : Trace) (item : List Mark) (k : ℕ) → is_among k (live (item ∷ t)) ≡ false → list_any (is_enable k) (effects_of_item o t item) ≡ false
@@ -65,26 +58,11 @@ unlive_unenabled o t item k gone =
 abbrev Shut : ℕ → Trace → Type 0
 Shut n t = (is_emptied t n ≡ true) ⊎ ((is_received t n ≡ true) × (shown (admits_at n) t ≡ []))
 
-none_either : (b : Bool) → (let x : Option Arrival = cond b None None in x) ≡ None
-none_either true = refl
-none_either false = refl
-
 shut_held : (n : ℕ) (t : Trace) → Shut n t → held t n ≡ None
-shut_held n t s =
-    ⊎_elim
-    (λ emptied. ap (λ b. cond (is_delivered t n || b) None (admitted t n)) emptied ∙ ap (λ b. cond b None (admitted t n)) (or_second (is_delivered t n) true refl))
-    (λ void. ap (λ xs. cond (is_delivered t n || is_emptied t n) None (first_of xs)) void.1 ∙ none_either (is_delivered t n || is_emptied t n))
-    s
+shut_held n t s = grind arith
 
 shut_more : (o : Setting) (p n : ℕ) (t : Trace) (item : List Mark) → Fits o p t item → Shut n t → Shut n (item ∷ t)
-shut_more o p n t item fits s =
-    ⊎_elim
-    (λ emptied. inl (or_second (list_any (empties_number n) item) (is_emptied t n) emptied))
-    (λ void. inr (
-      received-item item t n ∙ or_first (is_received t n) (contains (filter_map number_received item) n) void.0,
-      ap (λ xs. xs ++ filter_map (admits_at n) item) void.1 ∙ fits.admits n void.0,
-    ))
-    s
+shut_more o p n t item fits s = grind (arith, received-item)
 
 -- it stays so, and nothing is delivered there
 shut_later : (o : Setting) (p n : ℕ) (later t : Trace) → Fit o p (later ++ t) → Shut n t → Shut n (later ++ t) × (has (delivers_number n) later ≡ false)
@@ -98,43 +76,16 @@ shut_later o p n (item ∷ later) t x s =
 
 taken_cases : (n : ℕ) (item : List Mark) → list_any (takes_out n) item ≡ true → (list_any (empties_number n) item ≡ true) ⊎ (list_any (voids_number n) item ≡ true)
 taken_cases n [] h = absurd (false≢true h)
-taken_cases n (Admits a ∷ ms) h = taken_cases n ms h
-taken_cases n (Delivers a ∷ ms) h = taken_cases n ms h
-taken_cases n (Executes a ∷ ms) h = taken_cases n ms h
-taken_cases n (Voids k ∷ ms) h =
-    ⊎_elim (λ here. inr (or_first (k == n) (list_any (voids_number n) ms) here))
-    (λ later. ⊎_elim (λ e. inl e) (λ v. inr (or_second (k == n) (list_any (voids_number n) ms) v)) (taken_cases n ms later))
-    (or_cases (k == n) (list_any (takes_out n) ms) h)
-taken_cases n (Empties a ∷ ms) h =
-    ⊎_elim (λ here. inl (or_first (a.number == n) (list_any (empties_number n) ms) here))
-    (λ later. ⊎_elim (λ e. inl (or_second (a.number == n) (list_any (empties_number n) ms) e)) (λ v. inr v) (taken_cases n ms later))
-    (or_cases (a.number == n) (list_any (takes_out n) ms) h)
-taken_cases n (Waits a ∷ ms) h = taken_cases n ms h
-taken_cases n (Leaves c ∷ ms) h = taken_cases n ms h
-taken_cases n (Enters c ∷ ms) h = taken_cases n ms h
-taken_cases n (Sends conn reply ∷ ms) h = taken_cases n ms h
-taken_cases n (ClosesConn conn ∷ ms) h = taken_cases n ms h
-taken_cases n (ClosesSession ∷ ms) h = taken_cases n ms h
-taken_cases n (Ignores why ∷ ms) h = taken_cases n ms h
+taken_cases n (Voids k ∷ ms) h = grind (arith, taken_cases n ms)
+taken_cases n (Empties a ∷ ms) h = grind (arith, taken_cases n ms)
+taken_cases n (m ∷ ms) h = taken_cases n ms h
 
 -- what is voided is received
 voided_received : (n : ℕ) (item : List Mark) → list_any (voids_number n) item ≡ true → contains (filter_map number_received item) n ≡ true
 voided_received n [] h = absurd (false≢true h)
 voided_received n (Admits a ∷ ms) h = or_second (a.number == n) (contains (filter_map number_received ms) n) (voided_received n ms h)
-voided_received n (Delivers a ∷ ms) h = voided_received n ms h
-voided_received n (Executes a ∷ ms) h = voided_received n ms h
-voided_received n (Voids k ∷ ms) h =
-    ⊎_elim (λ here. or_first (k == n) (contains (filter_map number_received ms) n) here)
-    (λ later. or_second (k == n) (contains (filter_map number_received ms) n) (voided_received n ms later))
-    (or_cases (k == n) (list_any (voids_number n) ms) h)
-voided_received n (Empties a ∷ ms) h = voided_received n ms h
-voided_received n (Waits a ∷ ms) h = voided_received n ms h
-voided_received n (Leaves c ∷ ms) h = voided_received n ms h
-voided_received n (Enters c ∷ ms) h = voided_received n ms h
-voided_received n (Sends conn reply ∷ ms) h = voided_received n ms h
-voided_received n (ClosesConn conn ∷ ms) h = voided_received n ms h
-voided_received n (ClosesSession ∷ ms) h = voided_received n ms h
-voided_received n (Ignores why ∷ ms) h = voided_received n ms h
+voided_received n (Voids k ∷ ms) h = grind (arith, voided_received n ms)
+voided_received n (m ∷ ms) h = voided_received n ms h
 
 -- a number that the item takes out is shut at its end
 taken_shut : (o : Setting) (p n : ℕ) (item : List Mark) (t : Trace) → Fits o p t item → list_any (takes_out n) item ≡ true → Shut n (item ∷ t)
@@ -176,7 +127,7 @@ module _ (o : Setting) (p next : ℕ) (later before : Trace) (item : List Mark) 
       by_test false is below =
           let reached : f.number ≤ here.place = here.fits.reaches f done (set_abort f item done is) in
           let test : nat_lt n f.number ≡ true = (and_parts (nat_lt n f.number) (not (is_delivered before n)) below).0 in
-          let lower : n < f.number = grind (arith, nat_tests) in
+          let lower : n < f.number = grind arith in
           here.none_below n (omega (arith, lower, reached))
 
   -- nothing is delivered at a covered number where a request was admitted, at any time
@@ -191,7 +142,7 @@ module _ (o : Setting) (p next : ℕ) (later before : Trace) (item : List Mark) 
       by_test false is below =
           let parts = and_parts (nat_lt n f.number) (not (is_delivered before n)) below in
           let test : nat_lt n f.number ≡ true = parts.0 in
-          let apart : (f.number == n) ≡ false = grind (arith, nat_tests) in
+          let apart : (f.number == n) ≡ false = grind arith in
           list_any-append (list_any (delivers_number n)) later (item ∷ before)
           ∙ ap (λ b. b || is_delivered (item ∷ before) n) (undelivered n covered)
           ∙ ap (λ b. b || is_delivered before n) (own_delivered o next later before item f y done.executes n apart)

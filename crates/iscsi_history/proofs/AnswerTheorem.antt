@@ -1,9 +1,6 @@
 -- A request that executed has at most one reply, and one whose command was taken out has none, in the trace of each list of events.
-use Rattle.std.proofs.Common.{◌≡◌, ℕ, ◌+◌, ◌<◌, ◌≤◌, inl, inr, ⊎_elim, cond, true, false, List, [], ◌∷◌, ◌++◌, map, length, count_by, Option, Some, None, refl, ap, sym, subst, ◌∙◌, arith, nat_lt, eq-eqb, ◌==◌, ◌&&◌}
-use Rattle.std.specs.List.{filter_map, cons_option}
-use Rattle.std.proofs.lemmas.Bool.{eqb-true}
-use Rattle.std.proofs.lemmas.List.{append-nil}
-use Rattle.std.proofs.lemmas.List.Elements.{filter_map-append}
+use Rattle.std.proofs.Common.{◌≡◌, ℕ, ◌+◌, ◌<◌, ◌≤◌, ⊎_elim, cond, List, [], ◌∷◌, ◌++◌, length, count_by, Option, Some, None, refl, ap, sym, subst, ◌∙◌, arith, nat_lt, eq-eqb}
+use Rattle.std.specs.List.{filter_map}
 use Rattle.iscsi_wire.specs.declared.reply.Reply.{Reply}
 use Rattle.iscsi_wire.specs.declared.reply.Reply.TheVariants.{Scsi, Reject}
 use Rattle.iscsi_wire.specs.declared.request.Request.{Request}
@@ -11,20 +8,18 @@ use Rattle.iscsi_wire.specs.Fields.{connection_of, header_of, itt}
 use Rattle.iscsi_history.specs.declared.event.Event.{Event}
 use Rattle.iscsi_history.specs.declared.event.Event.TheVariants.{Arrive, Done}
 use Rattle.iscsi_history.specs.rules.Settings.{Setting}
-use Rattle.iscsi_history.specs.rules.Trace.{Arrival, Command, Mark, Delivers, Executes, Voids, Empties, Leaves, Enters, Sends, ClosesConn, ClosesSession, Trace, live, was_free}
+use Rattle.iscsi_history.specs.rules.Trace.{Arrival, Command, Mark, Delivers, Leaves, Sends, Trace}
 use Rattle.iscsi_history.specs.rules.Execution.{sense_of_status, completion}
 use Rattle.iscsi_history.specs.rules.Agenda.{command_of}
 use Rattle.iscsi_history.specs.promises.Replies.{executed_in, answered_in, replies_to}
 use Rattle.iscsi_history.specs.rules.Run.{trace_of, run_of, after_event, effects_of, entries_from}
 use Rattle.iscsi_history.specs.promises.Answers.{Answers, AnswersOnce, AnswersOnceIn, CompletesWith, CompletesAll}
-use Rattle.iscsi_history.proofs.BoolLemmas.{and_parts}
 use Rattle.iscsi_history.proofs.ListLemmas.{first_itself}
 use Rattle.iscsi_history.proofs.ElementLemmas.{In, in-contains}
 use Rattle.iscsi_history.proofs.MomentLemmas.{log_effects}
 use Rattle.iscsi_history.proofs.CountLemmas.{one, count-one}
-use Rattle.iscsi_history.proofs.AbortMarks.{none_viewed}
-use Rattle.iscsi_history.proofs.NumberingLemmas.{unseen, passed}
-use Rattle.iscsi_history.proofs.Forms.{Start, AtTurn, AtArrival, AfterWaiting, Deeds, if_some, marks_done, Form, Ignored, Rejected, Received, Postponed, Completed, Executed, marks_of_form, IsDone, Each, IsFormed, HasForm, is_arrival, HaveForms}
+use Rattle.iscsi_history.proofs.DeedLemmas.{views}
+use Rattle.iscsi_history.proofs.Forms.{Start, AtTurn, Deeds, if_some, start_mark, marks_done, Form, Executed, marks_of_form, IsDone, IsFormed, HasForm, is_arrival, HaveForms}
 use Rattle.iscsi_history.proofs.FormRuns.{trace_has_forms}
 use Rattle.iscsi_history.proofs.ReplyForms.{comes_of, replies_seen}
 use Rattle.iscsi_history.proofs.ReplyTurns.{begins_of}
@@ -33,15 +28,10 @@ use Rattle.iscsi_history.proofs.ReplyRuns.{aborted_in, standing, standing_item, 
 
 -- ---- the marks of an item
 
-cons-in : {B : Type 0} (y : Option B) (xs : List B) (x : B) → In x xs → In x (cons_option y xs)
-cons-in None xs x h = h
-cons-in (Some y) xs x h = inr h
-
 -- what a view shows of a mark, it shows of the marks
 viewed-in : {B : Type 0} (view : Mark → Option B) (ms : List Mark) (m : Mark) (x : B) → In m ms → view m ≡ Some x → In x (filter_map view ms)
 viewed-in view [] m x h is = absurd h
-viewed-in view (n ∷ ms) m x h is =
-    ⊎_elim (λ same. subst (λ y. In x (cons_option y (filter_map view ms))) (sym (ap view same ∙ is)) (inl refl)) (λ later. cons-in (view n) (filter_map view ms) x (viewed-in view ms m x later is)) h
+viewed-in view (n ∷ ms) m x h is = grind (arith, viewed-in view ms m x)
 
 -- a reply, and where it goes out
 abbrev send_of : Mark → Option (ℕ × Reply)
@@ -60,56 +50,30 @@ sent_done a d conn reply h =
     (viewed-in send_of (marks_done a d) (Sends conn reply) (conn, reply) h refl))
   where
     by_reply : (x : Option Reply) → In (conn, reply) (filter_map send_of (if_some (Sends (connection_of a.request)) x)) → (conn ≡ connection_of a.request) × (x ≡ Some reply)
-    by_reply None k = absurd k
-    by_reply (Some r) k = ⊎_elim (λ same. (sym (ap (λ (p : ℕ × Reply). p.0) same), ap (λ (p : ℕ × Reply). Some p.1) same)) (λ none. absurd none) k
+    by_reply x k = grind arith
 
 -- what leaves
 left_done : (a : Arrival) (d : Deeds) → filter_map leaver_of (marks_done a d) ≡ d.leaving
-left_done a d =
-    passed leaver_of (if_some Voids d.void) _ (unseen leaver_of Voids d.void (λ n. refl))
-    ∙ filter_map-append leaver_of (map Leaves d.leaving) _
-    ∙ ap (λ xs. filter_map leaver_of (map Leaves d.leaving) ++ xs)
-    (passed leaver_of (map Empties d.emptied) _ (none_viewed leaver_of Empties d.emptied (λ b. refl))
-    ∙ passed leaver_of (if_some Enters d.entering) _ (unseen leaver_of Enters d.entering (λ c. refl))
-    ∙ passed leaver_of (if_some (Sends (connection_of a.request)) d.reply) _ (unseen leaver_of (Sends (connection_of a.request)) d.reply (λ reply. refl))
-    ∙ passed leaver_of (if_some ClosesConn d.closing) _ (unseen leaver_of ClosesConn d.closing (λ conn. refl))
-    ∙ elim d.ending as (λ b. filter_map leaver_of (cond b (ClosesSession ∷ []) []) ≡ []) [ true ↦ refl | false ↦ refl ])
-    ∙ append-nil (filter_map leaver_of (map Leaves d.leaving)) ∙ all d.leaving
-  where
-    all : (cs : List Command) → filter_map leaver_of (map Leaves cs) ≡ cs
-    all [] = refl
-    all (c ∷ cs) = ap (λ xs. c ∷ xs) (all cs)
+left_done a d = simp views
 
 -- ---- an item in which a request executes
 
 -- its replies are to the request
 fitting_done : (o : Setting) (t : Trace) (start : Start) (a b : Arrival) (d : Deeds) → IsDone o t start a d → a ≡ b → (conn : ℕ) (reply : Reply) → In (Sends conn reply) (marks_done a d)
     → (conn ≡ connection_of b.request) × Answers b.request reply
-fitting_done o t start a b d x same conn reply h =
-    let sent = sent_done a d conn reply h in
-    (sent.0 ∙ ap (λ (y : Arrival). connection_of y.request) same, subst (λ (y : Arrival). Answers y.request reply) same (subst (Each (Answers a.request)) sent.1 x.answers))
+fitting_done o t start a b d x same conn reply h = grind (arith, sent_done)
 
 fitting_form : (o : Setting) (now : ℕ) (t : Trace) (form : Form) → IsFormed o now t form → (a : Arrival) → executed_in (marks_of_form form) ≡ Some a → (conn : ℕ) (reply : Reply) → In (Sends conn reply) (marks_of_form form)
     → (conn ≡ connection_of a.request) × Answers a.request reply
-fitting_form o now t (Ignored why) x a is conn reply h = absurd cc
-fitting_form o now t (Rejected b) x a is conn reply h = absurd cc
-fitting_form o now t (Received b) x a is conn reply h = absurd cc
-fitting_form o now t (Postponed b) x a is conn reply h = absurd cc
-fitting_form o now t (Completed c status) x a is conn reply h = absurd cc
 fitting_form o now t (Executed AtTurn b d) x a is conn reply h = ⊎_elim (λ same. absurd cc) (λ later. fitting_done o t AtTurn b a d x.1 (cc) conn reply later) h
-fitting_form o now t (Executed AtArrival b d) x a is conn reply h = ⊎_elim (λ same. absurd cc) (λ later. fitting_done o t AtArrival b a d x.1 (cc) conn reply later) h
-fitting_form o now t (Executed AfterWaiting b d) x a is conn reply h = ⊎_elim (λ same. absurd cc) (λ later. fitting_done o t AfterWaiting b a d x.1 (cc) conn reply later) h
+fitting_form o now t (Executed start b d) x a is conn reply h = ⊎_elim (λ same. absurd cc) (λ later. fitting_done o t start b a d x.1 (cc) conn reply later) h
+fitting_form o now t form x a is conn reply h = absurd cc
 
 -- its commands that leave are those that are taken out
 left_form : (form : Form) (a : Arrival) (c : Command) → executed_in (marks_of_form form) ≡ Some a → In (Leaves c) (marks_of_form form) → In c (aborted_in form)
-left_form (Ignored why) a c is h = absurd cc
-left_form (Rejected b) a c is h = absurd cc
-left_form (Received b) a c is h = absurd cc
-left_form (Postponed b) a c is h = absurd cc
-left_form (Completed d status) a c is h = absurd cc
 left_form (Executed AtTurn b d) a c is h = subst (In c) (left_done b d) (viewed-in leaver_of (Delivers b ∷ marks_done b d) (Leaves c) c h refl)
-left_form (Executed AtArrival b d) a c is h = subst (In c) (left_done b d) (viewed-in leaver_of (Executes b ∷ marks_done b d) (Leaves c) c h refl)
-left_form (Executed AfterWaiting b d) a c is h = subst (In c) (left_done b d) (viewed-in leaver_of (Executes b ∷ marks_done b d) (Leaves c) c h refl)
+left_form (Executed start b d) a c is h = subst (In c) (left_done b d) (viewed-in leaver_of (start_mark start b ∷ marks_done b d) (Leaves c) c h refl)
+left_form form a c is h = absurd cc
 
 -- ---- an item that completes a command
 
@@ -117,27 +81,13 @@ abbrev Completes : Command → List Mark → Type 0
 Completes c ms = (status : ℕ) × (ms ≡ Sends (connection_of c.arrival.request) (Scsi (itt c.arrival.request) status (sense_of_status status)) ∷ [])
 
 completing_form : (form : Form) (c : Command) (ms : List Mark) → Leaves c ∷ ms ≡ marks_of_form form → Completes c ms
-completing_form (Ignored why) c ms is = absurd cc
-completing_form (Rejected b) c ms is = absurd cc
-completing_form (Received b) c ms is = absurd cc
-completing_form (Postponed b) c ms is = absurd cc
-completing_form (Completed d status) c ms is = (status, cc)
-completing_form (Executed AtTurn b d) c ms is = absurd cc
-completing_form (Executed AtArrival b d) c ms is = absurd cc
-completing_form (Executed AfterWaiting b d) c ms is = absurd cc
+completing_form form c ms is = grind arith
 
 -- ---- an item that answers no request
 
 rejecting_form : (form : Form) → answered_in (marks_of_form form) ≡ None → (conn : ℕ) (reply : Reply) → In (Sends conn reply) (marks_of_form form)
     → (r : Request) × (marks_of_form form ≡ Sends (connection_of r) (Reject 5 (header_of r)) ∷ [])
-rejecting_form (Ignored why) is conn reply h = ⊎_elim (λ same. absurd cc) (λ none. absurd none) h
-rejecting_form (Rejected a) is conn reply h = (a.request, refl)
-rejecting_form (Received a) is conn reply h = ⊎_elim (λ same. absurd cc) (λ none. absurd none) h
-rejecting_form (Postponed a) is conn reply h = ⊎_elim (λ same. absurd cc) (λ none. absurd none) h
-rejecting_form (Completed c status) is conn reply h = absurd cc
-rejecting_form (Executed AtTurn a d) is conn reply h = absurd cc
-rejecting_form (Executed AtArrival a d) is conn reply h = absurd cc
-rejecting_form (Executed AfterWaiting a d) is conn reply h = absurd cc
+rejecting_form form is conn reply h = grind arith
 
 -- ---- the clauses
 
@@ -183,13 +133,7 @@ answers_once o h = record {
 -- ---- the entries of completions
 
 completes_with : (o : Setting) (t : Trace) (ticket status : ℕ) → CompletesWith ticket status (effects_of o t (completion status (command_of t ticket)))
-completes_with o t ticket status = by_command (command_of t ticket) refl
-  where
-    by_command : (y : Option Command) → command_of t ticket ≡ y → CompletesWith ticket status (effects_of o t (completion status y))
-    by_command None is = refl
-    by_command (Some c) is =
-        let passes : (c.ticket == ticket && was_free c t) ≡ true = first_itself (λ d. d.ticket == ticket && was_free d t) (live t) c is in
-        (eqb-true c.ticket ticket (and_parts (c.ticket == ticket) _ passes).0, refl, refl)
+completes_with o t ticket status = grind (arith, first_itself)
 
 completes_all : (o : Setting) (event : ℕ) (t : Trace) (h : List Event) → CompletesAll h (entries_from o event t h)
 completes_all o event t [] = tt

@@ -6,7 +6,8 @@ use Rattle.std.specs.List.{list_all}
 use Rattle.std.proofs.lemmas.List.Folds.{list_any-append}
 use Rattle.std.proofs.lemmas.List.Sums.{sum_by-cons}
 use Rattle.iscsi_history.specs.rules.Trace.{Command, is_among, first_of, are_apart}
-use Rattle.iscsi_history.proofs.BoolLemmas.{and_parts, and_both, or_none, not_true}
+use Rattle.iscsi_history.proofs.ListLemmas.{none_out}
+use Rattle.iscsi_history.proofs.BoolLemmas.{and_parts, or_none, not_true}
 
 pub eq_sym : (a b : ℕ) → (a == b) ≡ (b == a)
 eq_sym a b = ⊎_elim (λ same. eq-eqb a b same ∙ sym (eq-eqb b a (sym same))) (λ apart. (let x : (a == b) ≡ false = grind (arith, nat_tests) in x) ∙ (let y : (b == a) ≡ false = grind (arith, nat_tests) in sym y)) (cases_eq a b)
@@ -16,37 +17,15 @@ unamong-push k cs c h apart = list_any-append (λ (d : Command). d.ticket == k) 
 
 pub apart-push : (cs : List Command) (c : Command) → are_apart cs ≡ true → is_among c.ticket cs ≡ false → are_apart (cs ++ c ∷ []) ≡ true
 apart-push [] c apart new = refl
-apart-push (d ∷ cs) c apart new =
-    let parts = and_parts (not (is_among d.ticket cs)) (are_apart cs) apart in
-    let news = or_none (d.ticket == c.ticket) (is_among c.ticket cs) new in
-    and_both (not (is_among d.ticket (cs ++ c ∷ []))) (are_apart (cs ++ c ∷ []))
-    (ap not (unamong-push d.ticket cs c (not_true (is_among d.ticket cs) parts.0) (eq_sym c.ticket d.ticket ∙ news.0)))
-    (apart-push cs c parts.1 news.1)
+apart-push (d ∷ cs) c apart new = grind (arith, apart-push cs c, unamong-push)
 
 pub unamong-filter : (p : Command → Bool) (k : ℕ) (cs : List Command) → is_among k cs ≡ false → is_among k (filter p cs) ≡ false
 unamong-filter p k [] h = refl
-unamong-filter p k (c ∷ cs) h =
-    let parts = or_none (c.ticket == k) (is_among k cs) h in
-    elim (p c) as (λ v. is_among k (cond v (c ∷ filter p cs) (filter p cs)) ≡ false) [
-      | true ↦ ap (λ b. b || is_among k (filter p cs)) parts.0 ∙ unamong-filter p k cs parts.1
-      | false ↦ unamong-filter p k cs parts.1
-    ]
+unamong-filter p k (c ∷ cs) h = grind (arith, unamong-filter p k cs)
 
 pub apart-filter : (p : Command → Bool) (cs : List Command) → are_apart cs ≡ true → are_apart (filter p cs) ≡ true
 apart-filter p [] h = refl
-apart-filter p (c ∷ cs) h =
-    let parts = and_parts (not (is_among c.ticket cs)) (are_apart cs) h in
-    elim (p c) as (λ v. are_apart (cond v (c ∷ filter p cs) (filter p cs)) ≡ true) [
-      | true ↦ and_both (not (is_among c.ticket (filter p cs))) (are_apart (filter p cs)) (ap not (unamong-filter p c.ticket cs (not_true (is_among c.ticket cs) parts.0))) (apart-filter p cs parts.1)
-      | false ↦ apart-filter p cs parts.1
-    ]
-
--- where no command has the ticket, nothing is taken out by it
-pub kept_all : (k : ℕ) (cs : List Command) → is_among k cs ≡ false → filter (λ d. not (d.ticket == k)) cs ≡ cs
-kept_all k [] h = refl
-kept_all k (c ∷ cs) h =
-    let parts = or_none (c.ticket == k) (is_among k cs) h in
-    ap (λ b. cond (not b) (c ∷ filter (λ d. not (d.ticket == k)) cs) (filter (λ d. not (d.ticket == k)) cs)) parts.0 ∙ ap (λ ds. c ∷ ds) (kept_all k cs parts.1)
+apart-filter p (c ∷ cs) h = grind (arith, apart-filter p cs, unamong-filter)
 
 -- how many pass, without the command of a ticket
 pub count-without : (p : Command → Bool) (k : ℕ) (cs : List Command) (c : Command) → are_apart cs ≡ true → first_of (filter (λ d. d.ticket == k) cs) ≡ Some c
@@ -61,7 +40,7 @@ count-without p k (x ∷ cs) c apart found =
       | true ↦ λ is here.
           let same : x ≡ c = cc in
           let gone : is_among k cs ≡ false = ap (λ n. is_among n cs) (sym (eqb-true x.ticket k is)) ∙ not_true (is_among x.ticket cs) parts.0 in
-          omega (arith, all, ap (count_by p) (kept_all k cs gone), ap {B = ℕ} (λ (d : Command). cond (p d) 1 0) same)
+          omega (arith, all, ap (count_by p) (none_out (λ (d : Command). d.ticket == k) cs gone), ap {B = ℕ} (λ (d : Command). cond (p d) 1 0) same)
       | false ↦ λ is later. omega (arith, all, sum_by-cons (λ d. cond (p d) 1 0) x away, count-without p k cs c parts.1 later)
     ] refl found
 

@@ -1,26 +1,26 @@
 -- Each item does and brings what is on open connections, and takes out what is going on on those that it closes.
-use Rattle.std.proofs.Common.{◌≡◌, ℕ, ◌+◌, ◌-◌, ◌<◌, ◌≤◌, ◌==◌, ◌||◌, inl, ⊎_elim, cond, Bool, true, false, List, [], ◌∷◌, Option, Some, None, refl, ap, sym, subst, ◌∙◌, arith, eq-eqb}
-use Rattle.std.specs.List.{list_any, list_all, filter_map, range_with_len, cons_option}
+use Rattle.std.proofs.Common.{◌≡◌, ℕ, ◌+◌, ◌-◌, ◌<◌, ◌≤◌, ◌==◌, ◌||◌, inl, true, false, List, [], ◌∷◌, Option, Some, None, refl, ap, sym, subst, ◌∙◌, arith, eq-eqb}
+use Rattle.std.specs.List.{list_any, list_all, filter_map, range_with_len}
 use Rattle.std.proofs.lemmas.Bool.{false≢true, eqb-true}
 use Rattle.iscsi_wire.specs.Serial.{number_of_first}
 use Rattle.iscsi_wire.specs.Fields.{connection_of}
 use Rattle.iscsi_history.specs.declared.effect.Why.{Why}
 use Rattle.iscsi_history.specs.rules.Settings.{Setting}
-use Rattle.iscsi_history.specs.rules.Trace.{Arrival, Command, Mark, Delivers, Executes, Ignores, Trace, first_of, admits_at, delivers_number, empties_number, held, enters, entered, leaves_ticket, live, live_in, closes_conn, closes_session, is_ended}
+use Rattle.iscsi_history.specs.rules.Trace.{Arrival, Command, Mark, Ignores, Trace, first_of, admits_at, delivers_number, empties_number, held, enters, entered, leaves_ticket, live, live_in, is_ended}
 use Rattle.iscsi_history.specs.rules.Execution.{exp_of, unfinished}
 use Rattle.iscsi_history.specs.rules.Logout.{is_open, live_of_units, all_held}
 use Rattle.iscsi_history.proofs.BoolLemmas.{or_first, or_second}
-use Rattle.iscsi_history.proofs.ElementLemmas.{In, in-cons, in-any, in-filter, filter-in, flat_map-in, range-in}
+use Rattle.iscsi_history.proofs.ElementLemmas.{In, in-any, in-filter, filter-in, flat_map-in, range-in}
 use Rattle.iscsi_history.proofs.HeldLemmas.{held-number, admitted_of_held}
 use Rattle.iscsi_history.proofs.Missing.{exp_item, expected_low}
-use Rattle.iscsi_history.proofs.Forms.{Start, Starts, AtTurn, AtArrival, AfterWaiting, start_mark, Deeds, marks_done, Form, Ignored, Rejected, Received, Postponed, Completed, Executed, marks_of_form, begun, EntersAs, is_closing, TakesOut, IsFormed}
+use Rattle.iscsi_history.proofs.Forms.{Start, Starts, AtTurn, AtArrival, AfterWaiting, start_mark, Deeds, marks_done, Form, Ignored, Rejected, Received, Postponed, Completed, Executed, marks_of_form, begun, is_closing, TakesOut, IsFormed}
 use Rattle.iscsi_history.proofs.FormItems.{live-begun}
 use Rattle.iscsi_history.proofs.FormRuns.{IsDue, StandsAt, Stands}
-use Rattle.iscsi_history.proofs.DeedLemmas.{each_is, begun_any, none_done, unended, unparted}
-use Rattle.iscsi_history.proofs.TouchLemmas.{EntersNext, entering_in, enters_form, entering_next, leaves_form}
-use Rattle.iscsi_history.proofs.FateLemmas.{executed_at, held-kept}
+use Rattle.iscsi_history.proofs.DeedLemmas.{begun_any, none_done, unended, unparted}
+use Rattle.iscsi_history.proofs.TouchLemmas.{enters_form, leaves_form}
+use Rattle.iscsi_history.proofs.FateLemmas.{executed_at}
 use Rattle.iscsi_history.proofs.ReplyForms.{in_among}
-use Rattle.iscsi_history.proofs.CloseLemmas.{is_at, brings, ignores, closed_by, entered_brought, admitted_brought, Sound, Clear, open-item, open-unended, by_bool}
+use Rattle.iscsi_history.proofs.CloseLemmas.{is_at, brings, ignores, closed_by, entered_brought, admitted_brought, Sound, Clear, open-unended, by_bool}
 
 -- ---- items on one open connection
 
@@ -71,13 +71,7 @@ module _ (o : Setting) (t : Trace) (conn : ℕ) (item : List Mark) (here : is_op
 
 -- a command that enters has a unit of the session
 units_form : (o : Setting) (now : ℕ) (t : Trace) (form : Form) → IsFormed o now t form → (c : Command) → In c (filter_map enters (marks_of_form form)) → c.unit < o.units
-units_form o now t form x c h =
-    ⊎_elim (λ is. (each_is (EntersNext o t form) (entering_in form) c (entering_next o now t form x) is).below) (λ none. absurd none)
-    (in-cons (entering_in form) [] c (subst (In c) (enters_form form) h))
-
--- a number that is neither below ExpCmdSN nor above MaxCmdSN
-in_window : (e window unfinished n : ℕ) → 1 ≤ e → e ≤ n → n ≤ e + window - 1 - unfinished → n < e + window
-in_window e window unfinished n some low high = omega arith
+units_form o now t form x c h = grind (arith, enters_form)
 
 -- the arrivals that aren't passed over are on open connections
 abbrev pub OnOpen : Setting → Trace → Arrival → Type 0
@@ -85,21 +79,9 @@ OnOpen o t a = is_open o t (connection_of a.request) ≡ true
 
 -- what is received is in the window
 range_form : (o : Setting) (now p : ℕ) (t : Trace) (form : Form) → StandsAt (OnOpen o) o now p t form → (n : ℕ) (b : Arrival) → first_of (filter_map (admits_at n) (marks_of_form form)) ≡ Some b → (number_of_first o.first ≤ n) × (n < exp_of o t + o.window)
-range_form o now p t (Ignored why) at n b h = absurd cc
-range_form o now p t (Rejected a) at n b h = absurd cc
-range_form o now p t (Received a) at n b h = by_test (a.number == n) refl h
-  where
-    by_test : (v : Bool) → (a.number == n) ≡ v → first_of (cons_option (cond v (Some a) None) []) ≡ Some b → (number_of_first o.first ≤ n) × (n < exp_of o t + o.window)
-    by_test false is found = absurd cc
-    by_test true is found =
-        let same : a.number ≡ n = eqb-true a.number n is in
-        let start : number_of_first o.first ≤ exp_of o t = expected_low o.first t in
-        let low : exp_of o t ≤ a.number = at.1.0 in
-        let high : a.number < exp_of o t + o.window = in_window (exp_of o t) o.window (unfinished t) a.number (omega (arith, start)) low at.1.1 in
-        ((let z : number_of_first o.first ≤ n = omega (arith, start, low, same) in z), (let z : n < exp_of o t + o.window = omega (arith, high, same) in z))
-range_form o now p t (Postponed a) at n b h = absurd cc
-range_form o now p t (Completed c status) at n b h = absurd cc
+range_form o now p t (Received a) at n b h = grind (arith, expected_low)
 range_form o now p t (Executed start a d) at n b h = absurd (let none : None ≡ Some b = sym (ap first_of (executed_at n start a d).admits) ∙ h in cc)
+range_form o now p t form at n b h = absurd cc
 
 -- ---- a request that executes
 
@@ -117,18 +99,11 @@ module _ (o : Setting) (now p : ℕ) (t : Trace) (start : Start) (a : Arrival) (
       by_start AfterWaiting waits here = c.waits a here.1
 
   only : Only (connection_of a.request) marks
-  only k apart =
-      begun_any (is_at k) start a (marks_done a d) apart apart
-      ∙ none_done a d (is_at k) (λ n is. refl) (λ e there. refl) (λ b there. refl)
-      (λ e is. let enters : EntersAs o t a d e = each_is (EntersAs o t a d) d.entering e x.1.enters is in ap (λ (y : Command). connection_of y.arrival.request == k) enters.next ∙ apart)
-      (λ reply is. apart) (λ conn is. refl) (λ is. refl)
+  only k apart = grind (arith, none_done)
 
   -- a connection that it doesn't close
   unclosed : (k : ℕ) → (d.ending ≡ true → ⊥) → ((conn : ℕ) → d.closing ≡ Some conn → (conn == k) ≡ false) → closed_by marks k ≡ false
-  unclosed k goes_on others =
-      ap (λ b. b || list_any (closes_conn k) marks)
-      (begun_any closes_session start a (marks_done a d) refl refl ∙ none_done a d closes_session (λ n is. refl) (λ e there. refl) (λ b there. refl) (λ e is. refl) (λ reply is. refl) (λ conn is. refl) (λ is. absurd (goes_on is)))
-      ∙ begun_any (closes_conn k) start a (marks_done a d) refl refl ∙ none_done a d (closes_conn k) (λ n is. refl) (λ e there. refl) (λ b there. refl) (λ e is. refl) (λ reply is. refl) others (λ is. refl)
+  unclosed k goes_on others = grind (arith, none_done)
 
   sound_staying : is_closing d ≡ false → Sound o t marks
   sound_staying stays =
@@ -138,19 +113,7 @@ module _ (o : Setting) (now p : ℕ) (t : Trace) (start : Start) (a : Arrival) (
   module _ (s : TakesOut o (begun start a t) d) where
     -- it takes out what there is of an open connection that it closes
     closes_these : (k : ℕ) → is_open o t k ≡ true → closed_by marks k ≡ true → s.of_these k ≡ true
-    closes_these k on closed = by_bool (s.of_these k ≡ true) (s.of_these k) (λ is. is) (λ apart. absurd (false≢true (sym (none apart) ∙ closed)))
-      where
-        still : (s : Start) → is_open o (begun s a t) k ≡ true
-        still AtTurn = open-item o (Delivers a ∷ []) t k on refl
-        still AtArrival = open-item o (Executes a ∷ []) t k on refl
-        still AfterWaiting = open-item o (Executes a ∷ []) t k on refl
-
-        other : s.of_these k ≡ false → (conn : ℕ) → d.closing ≡ Some conn → (v : Bool) → (conn == k) ≡ v → v ≡ false
-        other apart conn is true same = absurd (false≢true (sym apart ∙ ap s.of_these (sym (eqb-true conn k same)) ∙ each_is (λ n. s.of_these n ≡ true) d.closing conn s.closing is))
-        other apart conn is false same = refl
-
-        none : s.of_these k ≡ false → closed_by marks k ≡ false
-        none apart = unclosed k (λ is. false≢true (sym apart ∙ s.ending is k (still start))) (λ conn is. other apart conn is (conn == k) refl)
+    closes_these k on closed = grind (arith, unclosed)
 
     live_leaves : (e : Command) → In e (live t) → closed_by marks (connection_of e.arrival.request) ≡ true → list_any (leaves_ticket e.ticket) marks ≡ true
     live_leaves e there closed =
@@ -167,9 +130,7 @@ module _ (o : Setting) (now p : ℕ) (t : Trace) (start : Start) (a : Arrival) (
         (λ later. or_second (list_any (delivers_number n) marks) (list_any (empties_number n) marks) ((executed_at n start a d).emptied ∙ in-any (λ (y : Arrival). y.number == n) d.emptied b (emptied later) (eq-eqb b.number n (held-number t n b there))))
       where
         kept : (s : Start) → list_any (delivers_number n) (start_mark s a ∷ []) ≡ false → held (begun s a t) n ≡ Some b
-        kept AtTurn later = held-kept t n (Delivers a ∷ []) refl later refl ∙ there
-        kept AtArrival later = held-kept t n (Executes a ∷ []) refl refl refl ∙ there
-        kept AfterWaiting later = held-kept t n (Executes a ∷ []) refl refl refl ∙ there
+        kept s later = grind arith
 
         emptied : list_any (delivers_number n) (start_mark start a ∷ []) ≡ false → In b d.emptied
         emptied later =
@@ -198,15 +159,7 @@ module _ (o : Setting) (now p : ℕ) (t : Trace) (start : Start) (a : Arrival) (
 
 -- an event is passed over
 sound_ignored : (o : Setting) (t : Trace) (why : Why) → Sound o t (Ignores why ∷ [])
-sound_ignored o t why = record {
-  on_open = λ k off. refl;
-  units = λ c h. absurd h;
-  range = λ n a h. absurd cc;
-  closes = λ k h. refl;
-  live_out = λ c there h. absurd (false≢true h);
-  held_out = λ n a there h. absurd (false≢true h);
-  ended = λ over. refl;
-}
+sound_ignored o t why = grind arith
 
 sound_form : (o : Setting) (now p : ℕ) (t : Trace) (form : Form) → IsFormed o now t form → StandsAt (OnOpen o) o now p t form → Clear o t → Sound o t (marks_of_form form)
 sound_form o now p t (Ignored why) x at c = sound_ignored o t why

@@ -1,18 +1,18 @@
 -- What is still going on is on connections that are open: one item more.
-use Rattle.std.proofs.Common.{◌≡◌, ℕ, ◌+◌, ◌<◌, ◌≤◌, ◌==◌, ◌||◌, ◌⊎◌, inl, inr, ⊎_elim, not, cond, Bool, true, false, List, [], ◌∷◌, filter, Some, None, refl, ap, sym, subst, ◌∙◌, arith, eq-eqb}
+use Rattle.std.proofs.Common.{◌≡◌, ℕ, ◌+◌, ◌<◌, ◌≤◌, ◌==◌, ◌||◌, ◌⊎◌, inl, inr, ⊎_elim, not, Bool, true, false, List, [], ◌∷◌, filter, Some, refl, ap, sym, subst, ◌∙◌, arith, eq-eqb}
 use Rattle.std.specs.List.{list_any, list_all, filter_map}
 use Rattle.std.proofs.lemmas.Bool.{false≢true}
 use Rattle.iscsi_wire.specs.Serial.{number_of_first}
 use Rattle.iscsi_wire.specs.Fields.{connection_of}
-use Rattle.iscsi_history.specs.rules.Settings.{Setting, is_known}
-use Rattle.iscsi_history.specs.rules.Trace.{Arrival, Command, Mark, Admits, Delivers, Executes, Voids, Empties, Waits, Leaves, Enters, Sends, ClosesConn, ClosesSession, Ignores, Trace, has, shown, first_of, admits_at, admitted, delivers_number, is_delivered, empties_number, is_emptied, held, waiting_by, waiting_through, waiting, enters, entered, leaves_ticket, live, closes_conn, closes_session, is_ended, is_closed}
+use Rattle.iscsi_history.specs.rules.Settings.{Setting}
+use Rattle.iscsi_history.specs.rules.Trace.{Arrival, Command, Mark, Admits, Delivers, Executes, Waits, Enters, Sends, ClosesConn, ClosesSession, Ignores, Trace, has, shown, first_of, admits_at, admitted, delivers_number, empties_number, held, waiting_by, waiting_through, waiting, enters, entered, leaves_ticket, live, closes_conn, closes_session, is_ended}
 use Rattle.iscsi_history.specs.rules.Execution.{exp_of}
 use Rattle.iscsi_history.specs.rules.Logout.{is_open}
-use Rattle.iscsi_history.proofs.ElementLemmas.{In, in-filter, in-append, in-cons}
-use Rattle.iscsi_history.proofs.BoolLemmas.{and_parts, and_both, or_none, or_first, or_second, not_true}
+use Rattle.iscsi_history.proofs.ElementLemmas.{In, in-filter, in-append}
+use Rattle.iscsi_history.proofs.BoolLemmas.{or_first, or_second, not_true}
 use Rattle.iscsi_history.proofs.ApartLemmas.{eq_sym}
 use Rattle.iscsi_history.proofs.TraceLemmas.{live-item}
-use Rattle.iscsi_history.proofs.HeldLemmas.{first_of-append, first_of-cons}
+use Rattle.iscsi_history.proofs.HeldLemmas.{first_of-append}
 use Rattle.iscsi_history.proofs.AbortRuns.{exp_item}
 
 -- ---- marks
@@ -54,50 +54,11 @@ brought_here conn m ms at by = (or_first (is_at conn m) (list_any (is_at conn) m
 
 pub entered_brought : (ms : List Mark) (c : Command) → In c (filter_map enters ms) → Brought (connection_of c.arrival.request) ms
 entered_brought [] c h = absurd h
-entered_brought (m ∷ ms) c h = ⊎_elim (λ here. by_mark m here) (λ later. brought_later (connection_of c.arrival.request) m ms (entered_brought ms c later)) (in-cons (enters m) (filter_map enters ms) c h)
-  where
-    conn : ℕ
-    conn = connection_of c.arrival.request
-
-    by_mark : (m : Mark) → enters m ≡ Some c → Brought (connection_of c.arrival.request) (m ∷ ms)
-    by_mark (Admits a) is = absurd cc
-    by_mark (Delivers a) is = absurd cc
-    by_mark (Executes a) is = absurd cc
-    by_mark (Voids n) is = absurd cc
-    by_mark (Empties a) is = absurd cc
-    by_mark (Waits a) is = absurd cc
-    by_mark (Leaves d) is = absurd cc
-    by_mark (Enters d) is =
-        let same : d ≡ c = cc in
-        brought_here (connection_of c.arrival.request) (Enters d) ms (eq-eqb (connection_of d.arrival.request) (connection_of c.arrival.request) (ap (λ (x : Command). connection_of x.arrival.request) same)) refl
-    by_mark (Sends k reply) is = absurd cc
-    by_mark (ClosesConn k) is = absurd cc
-    by_mark ClosesSession is = absurd cc
-    by_mark (Ignores why) is = absurd cc
+entered_brought (m ∷ ms) c h = grind (arith, entered_brought ms c)
 
 pub admitted_brought : (n : ℕ) (ms : List Mark) (a : Arrival) → first_of (filter_map (admits_at n) ms) ≡ Some a → Brought (connection_of a.request) ms
 admitted_brought n [] a h = absurd cc
-admitted_brought n (m ∷ ms) a h = ⊎_elim (λ here. by_mark m here) (λ later. brought_later (connection_of a.request) m ms (admitted_brought n ms a later)) (first_of-cons (admits_at n m) (filter_map (admits_at n) ms) a h)
-  where
-    by_mark : (m : Mark) → admits_at n m ≡ Some a → Brought (connection_of a.request) (m ∷ ms)
-    by_mark (Admits b) is =
-        elim (b.number == n) as (λ v. cond v (Some b) None ≡ Some a → Brought (connection_of a.request) (Admits b ∷ ms)) [
-          | true ↦ λ found.
-              let same : b ≡ a = cc in
-              brought_here (connection_of a.request) (Admits b) ms (eq-eqb (connection_of b.request) (connection_of a.request) (ap (λ (x : Arrival). connection_of x.request) same)) refl
-          | false ↦ λ found. absurd cc
-        ] is
-    by_mark (Delivers b) is = absurd cc
-    by_mark (Executes b) is = absurd cc
-    by_mark (Voids k) is = absurd cc
-    by_mark (Empties b) is = absurd cc
-    by_mark (Waits b) is = absurd cc
-    by_mark (Leaves c) is = absurd cc
-    by_mark (Enters c) is = absurd cc
-    by_mark (Sends k reply) is = absurd cc
-    by_mark (ClosesConn k) is = absurd cc
-    by_mark ClosesSession is = absurd cc
-    by_mark (Ignores why) is = absurd cc
+admitted_brought n (m ∷ ms) a h = grind (arith, admitted_brought n ms a)
 
 -- a function that waits at an item's end waited before, and its connection isn't closed in the item, or the item brought it
 waits_from : (ms : List Mark) (ws : List Arrival) (a : Arrival) → In a (waiting_through ms ws) → (In a ws × (closed_by ms (connection_of a.request) ≡ false)) ⊎ Brought (connection_of a.request) ms
@@ -106,36 +67,22 @@ waits_from (m ∷ ms) ws a h =
     ⊎_elim (λ before. by_mark m before.0 before.1) (λ later. inr (brought_later (connection_of a.request) m ms later)) (waits_from ms (waiting_by m ws) a h)
   where
     by_mark : (m : Mark) → In a (waiting_by m ws) → closed_by ms (connection_of a.request) ≡ false → (In a ws × (closed_by (m ∷ ms) (connection_of a.request) ≡ false)) ⊎ Brought (connection_of a.request) (m ∷ ms)
-    by_mark (Admits b) there stays = inl (there, stays)
-    by_mark (Delivers b) there stays = inl (there, stays)
     by_mark (Executes b) there stays = inl ((in-filter (λ (x : Arrival). not (x.event == b.event)) ws a there).0, stays)
-    by_mark (Voids k) there stays = inl (there, stays)
-    by_mark (Empties b) there stays = inl (there, stays)
     by_mark (Waits b) there stays =
         ⊎_elim (λ before. inl (before, stays))
         (λ last. ⊎_elim (λ same. inr (brought_here (connection_of a.request) (Waits b) ms (eq-eqb (connection_of b.request) (connection_of a.request) (ap (λ (x : Arrival). connection_of x.request) same)) refl)) (λ none. absurd none) last)
         (in-append ws (b ∷ []) a there)
-    by_mark (Leaves c) there stays = inl (there, stays)
-    by_mark (Enters c) there stays = inl (there, stays)
-    by_mark (Sends k reply) there stays = inl (there, stays)
     by_mark (ClosesConn k) there stays =
         let r = in-filter (λ (x : Arrival). not (connection_of x.request == k)) ws a there in
         let apart : (k == connection_of a.request) ≡ false = eq_sym k (connection_of a.request) ∙ not_true (connection_of a.request == k) r.1 in
         inl (r.0, ap (λ b. list_any closes_session ms || (b || list_any (closes_conn (connection_of a.request)) ms)) apart ∙ stays)
     by_mark ClosesSession there stays = absurd there
-    by_mark (Ignores why) there stays = inl (there, stays)
+    by_mark m there stays = inl (there, stays)
 
 -- a request that is held at an item's end was held before, and isn't taken in it, or the item admits it
 held_from : (item : List Mark) (t : Trace) (n : ℕ) (a : Arrival) → held (item ∷ t) n ≡ Some a
     → ((held t n ≡ Some a) × ((list_any (delivers_number n) item || list_any (empties_number n) item) ≡ false)) ⊎ (first_of (filter_map (admits_at n) item) ≡ Some a)
-held_from item t n a h = by_tests (list_any (delivers_number n) item) (is_delivered t n) (list_any (empties_number n) item) (is_emptied t n) h
-  where
-    by_tests : (x d y e : Bool) → cond ((x || d) || (y || e)) None (admitted (item ∷ t) n) ≡ Some a → ((cond (d || e) None (admitted t n) ≡ Some a) × ((x || y) ≡ false)) ⊎ (first_of (filter_map (admits_at n) item) ≡ Some a)
-    by_tests true d y e k = absurd cc
-    by_tests false true y e k = absurd cc
-    by_tests false false true e k = absurd cc
-    by_tests false false false true k = absurd cc
-    by_tests false false false false k = ⊎_elim (λ before. inl (before, refl)) (λ now. inr now) (first_of-append (shown (admits_at n) t) (filter_map (admits_at n) item) a k)
+held_from item t n a h = grind arith
 
 -- ---- what an item must be like
 
@@ -161,32 +108,18 @@ pub record Clear (o : Setting) (t : Trace) : Type 0 where
   pub holds : (n : ℕ) (a : Arrival) → held t n ≡ Some a → is_open o t (connection_of a.request) ≡ true
 
 pub clear-none : (o : Setting) → Clear o []
-clear-none o = record {
-  units = λ c h. absurd h;
-  range = λ n a h. absurd cc;
-  lives = λ c h. absurd h;
-  waits = λ a h. absurd h;
-  holds = λ n a h. absurd cc;
-}
+clear-none o = grind arith
 
 -- a connection that the item doesn't close stays open
 pub open-item : (o : Setting) (item : List Mark) (t : Trace) (conn : ℕ) → is_open o t conn ≡ true → closed_by item conn ≡ false → is_open o (item ∷ t) conn ≡ true
-open-item o item t conn here stays =
-    let parts = and_parts (is_known conn o.conns) (not (is_closed conn t)) here in
-    let none = or_none (list_any closes_session item) (list_any (closes_conn conn) item) stays in
-    let same : is_closed conn (item ∷ t) ≡ is_closed conn t =
-    ap (λ b. (b || is_ended t) || (list_any (closes_conn conn) item || has (closes_conn conn) t)) none.0 ∙ ap (λ b. is_ended t || (b || has (closes_conn conn) t)) none.1 in
-    and_both (is_known conn o.conns) (not (is_closed conn (item ∷ t))) parts.0 (ap not same ∙ parts.1)
+open-item o item t conn here stays = grind arith
 
 -- where a connection is open the session hasn't ended
 pub open-unended : (o : Setting) (t : Trace) (conn : ℕ) → is_open o t conn ≡ true → is_ended t ≡ false
-open-unended o t conn here =
-    let parts = and_parts (is_known conn o.conns) (not (is_closed conn t)) here in
-    (or_none (is_ended t) (has (closes_conn conn) t) (not_true (is_closed conn t) parts.1)).0
+open-unended o t conn here = grind arith
 
 pub by_bool : (A : Type 0) (b : Bool) → (b ≡ true → A) → (b ≡ false → A) → A
-by_bool A true on off = on refl
-by_bool A false on off = off refl
+by_bool A b on off = grind arith
 
 module _ (o : Setting) (item : List Mark) (t : Trace) (s : Sound o t item) where
   -- what the item brings is on a connection that is open after it

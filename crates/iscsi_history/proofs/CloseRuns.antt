@@ -1,13 +1,11 @@
 -- In the trace of a list of events that come on the session's connections each item is sound.
-use Rattle.std.proofs.Common.{◌≡◌, ℕ, ◌+◌, not, true, List, [], ◌∷◌, ap}
+use Rattle.std.proofs.Common.{arith, ◌≡◌, ℕ, ◌+◌, true, List, [], ◌∷◌}
 use Rattle.std.specs.List.{list_all}
 use Rattle.iscsi_history.specs.declared.event.Event.{Event}
-use Rattle.iscsi_history.specs.declared.event.Event.TheVariants.{Arrive, Done}
-use Rattle.iscsi_history.specs.rules.Settings.{Setting, is_known}
-use Rattle.iscsi_history.specs.rules.Trace.{Mark, Trace, after_items, is_closed}
+use Rattle.iscsi_history.specs.rules.Settings.{Setting}
+use Rattle.iscsi_history.specs.rules.Trace.{Mark, Trace, after_items}
 use Rattle.iscsi_history.specs.rules.Agenda.{belongs, items_of}
 use Rattle.iscsi_history.specs.rules.Run.{after_event, after_events, trace_of}
-use Rattle.iscsi_history.proofs.BoolLemmas.{and_parts, and_both}
 use Rattle.iscsi_history.proofs.FormRuns.{Brings, Turns, TurnsOf, event_stands}
 use Rattle.iscsi_history.proofs.CloseLemmas.{Sound, Clear, clear-none, clear-item}
 use Rattle.iscsi_history.proofs.CloseItems.{OnOpen, item_sound}
@@ -30,8 +28,7 @@ pub event_sound : (o : Setting) (event : ℕ) (t : Trace) (e : Event) → belong
 event_sound o event t e known x = by_items (items_of o event t e) (event_stands (OnOpen o) o event t e (comes e known))
   where
     comes : (e : Event) → belongs o e ≡ true → Brings (OnOpen o) o event t e
-    comes (Arrive conn header) known = λ is. and_both (is_known conn o.conns) (not (is_closed conn t)) known (ap not is)
-    comes (Done ticket status) known = tt
+    comes e known = grind arith
 
     by_items : (items : List (List Mark)) → TurnsOf (OnOpen o) o event t items → Sounds o (after_items items t)
     by_items [] s = absurd s
@@ -39,9 +36,7 @@ event_sound o event t e known x = by_items (items_of o event t e) (event_stands 
 
 events_sound : (o : Setting) (event : ℕ) (t : Trace) (h : List Event) → list_all (belongs o) h ≡ true → Sounds o t → Sounds o (after_events o event t h)
 events_sound o event t [] known x = x
-events_sound o event t (e ∷ h) known x =
-    let parts = and_parts (belongs o e) (list_all (belongs o) h) known in
-    events_sound o (event + 1) (after_event o event t e) h parts.1 (event_sound o event t e parts.0 x)
+events_sound o event t (e ∷ h) known x = grind (arith, events_sound o (event + 1) (after_event o event t e) h, event_sound)
 
 -- in the trace of a list of events each item is sound
 pub trace_sounds : (o : Setting) (h : List Event) → list_all (belongs o) h ≡ true → Sounds o (trace_of o h)

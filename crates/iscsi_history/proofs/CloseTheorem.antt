@@ -1,102 +1,36 @@
 -- Nothing goes on in a session that is closed, nor on a connection that is, in the trace of each list of events that come on
 -- the session's connections. A request on another one would go on after the last of them is closed, and the session with it.
-use Rattle.std.proofs.Common.{◌≡◌, ℕ, ◌==◌, ◌&&◌, ◌||◌, inl, ⊎_elim, not, Bool, true, false, List, [], ◌∷◌, ◌++◌, map, filter, refl, ap, sym, subst, ◌∙◌}
+use Rattle.std.proofs.Common.{arith, ◌≡◌, ℕ, ◌==◌, ◌&&◌, ◌||◌, inl, ⊎_elim, not, true, false, List, [], ◌∷◌, ◌++◌, map, filter, refl, ap, sym, subst, ◌∙◌}
 use Rattle.std.specs.List.{list_all, list_any, flat_map, range_with_len}
 use Rattle.std.proofs.lemmas.Bool.{false≢true}
 use Rattle.std.proofs.lemmas.List.Folds.{list_any-append, list_all-append}
-use Rattle.iscsi_history.specs.declared.effect.Effect.{Effect}
 use Rattle.iscsi_history.specs.declared.effect.Effect.TheVariants.{Enable}
 use Rattle.iscsi_history.specs.declared.event.Event.{Event}
-use Rattle.iscsi_history.specs.rules.Settings.{Setting, is_known}
-use Rattle.iscsi_history.specs.rules.Trace.{Command, Mark, Admits, Delivers, Executes, Voids, Empties, Waits, Leaves, Enters, Sends, ClosesConn, ClosesSession, Ignores, Trace, has, live, live_in, was_free, enabled_in, closes_conn, closes_session, is_ended}
+use Rattle.iscsi_history.specs.rules.Settings.{Setting}
+use Rattle.iscsi_history.specs.rules.Trace.{Command, Mark, Ignores, Trace, has, live, live_in, was_free, enabled_in, closes_conn, closes_session, is_ended}
 use Rattle.iscsi_history.specs.rules.Logout.{is_open}
 use Rattle.iscsi_history.specs.rules.Run.{trace_of, effects_of_mark, newly_enabled, effects_of_item, run_of}
 use Rattle.iscsi_history.specs.rules.Agenda.{belongs}
-use Rattle.iscsi_history.specs.promises.Enabling.{effects_so_far}
 use Rattle.iscsi_history.specs.promises.Closes.{is_session_close, is_close_of, is_ignored, is_on, ClosesHold, ClosesHoldIn}
-use Rattle.iscsi_history.proofs.BoolLemmas.{and_both, or_none, or_second, or_comm, or_false, and_false}
-use Rattle.iscsi_history.proofs.MomentLemmas.{log_effects}
+use Rattle.iscsi_history.proofs.BoolLemmas.{and_both, or_second}
+use Rattle.iscsi_history.proofs.MomentLemmas.{log_effects, enables_none, shown_so_far}
 use Rattle.iscsi_history.proofs.ElementLemmas.{In, in-filter, in-append}
 use Rattle.iscsi_history.proofs.CloseLemmas.{is_at, ignores, Sound, Clear, clear-item, open-unended}
 use Rattle.iscsi_history.proofs.CloseRuns.{Sounds, clear_of, trace_sounds}
 
 -- ---- what the effects show of closing
 
-enables_none : (p : Effect → Bool) → ((ticket unit : ℕ) → p (Enable ticket unit) ≡ false) → (cs : List Command) → list_any p (map (λ (c : Command). Enable c.ticket c.unit) cs) ≡ false
-enables_none p none [] = refl
-enables_none p none (c ∷ cs) = ap (λ b. b || list_any p (map (λ (d : Command). Enable d.ticket d.unit) cs)) (none c.ticket c.unit) ∙ enables_none p none cs
-
-module _ (o : Setting) (p : Effect → Bool) (q : Mark → Bool) (none : (ticket unit : ℕ) → p (Enable ticket unit) ≡ false) (same : (t : Trace) (m : Mark) → list_any p (effects_of_mark o t m) ≡ q m) where
-  shown_marks : (t : Trace) (ms : List Mark) → list_any p (flat_map (effects_of_mark o t) ms) ≡ list_any q ms
-  shown_marks t [] = refl
-  shown_marks t (m ∷ ms) =
-      list_any-append p (effects_of_mark o t m) (flat_map (effects_of_mark o t) ms)
-      ∙ ap (λ b. b || list_any p (flat_map (effects_of_mark o t) ms)) (same t m) ∙ ap (λ b. q m || b) (shown_marks t ms)
-
-  shown_item : (t : Trace) (item : List Mark) → list_any p (effects_of_item o t item) ≡ list_any q item
-  shown_item t item =
-      list_any-append p (flat_map (effects_of_mark o t) item) (map (λ (c : Command). Enable c.ticket c.unit) (newly_enabled o t item))
-      ∙ ap (λ b. list_any p (flat_map (effects_of_mark o t) item) || b) (enables_none p none (newly_enabled o t item))
-      ∙ or_false (list_any p (flat_map (effects_of_mark o t) item)) ∙ shown_marks t item
-
-  shown_so_far : (t : Trace) → list_any p (effects_so_far o t) ≡ has q t
-  shown_so_far [] = refl
-  shown_so_far (item ∷ t) =
-      list_any-append p (effects_so_far o t) (effects_of_item o t item)
-      ∙ ap (λ b. b || list_any p (effects_of_item o t item)) (shown_so_far t)
-      ∙ ap (λ b. has q t || b) (shown_item t item)
-      ∙ or_comm (has q t) (list_any q item)
-
 session_mark : (o : Setting) (t : Trace) (m : Mark) → list_any is_session_close (effects_of_mark o t m) ≡ closes_session m
-session_mark o t (Admits a) = refl
-session_mark o t (Delivers a) = refl
-session_mark o t (Executes a) = refl
-session_mark o t (Voids n) = refl
-session_mark o t (Empties a) = refl
-session_mark o t (Waits a) = refl
-session_mark o t (Leaves c) = refl
-session_mark o t (Enters c) = refl
-session_mark o t (Sends conn reply) = refl
-session_mark o t (ClosesConn conn) = refl
-session_mark o t ClosesSession = refl
-session_mark o t (Ignores why) = refl
+session_mark o t m = grind arith
 
 conn_mark : (o : Setting) (k : ℕ) (t : Trace) (m : Mark) → list_any (is_close_of k) (effects_of_mark o t m) ≡ closes_conn k m
-conn_mark o k t (Admits a) = refl
-conn_mark o k t (Delivers a) = refl
-conn_mark o k t (Executes a) = refl
-conn_mark o k t (Voids n) = refl
-conn_mark o k t (Empties a) = refl
-conn_mark o k t (Waits a) = refl
-conn_mark o k t (Leaves c) = refl
-conn_mark o k t (Enters c) = refl
-conn_mark o k t (Sends conn reply) = refl
-conn_mark o k t (ClosesConn conn) = or_false (conn == k)
-conn_mark o k t ClosesSession = refl
-conn_mark o k t (Ignores why) = refl
+conn_mark o k t m = grind arith
 
 -- ---- what an item shows on a connection
 
-on_mark : (o : Setting) (k : ℕ) (t : Trace) (m : Mark) → is_at k m ≡ false → list_any (is_on k) (effects_of_mark o t m) ≡ false
-on_mark o k t (Admits a) h = refl
-on_mark o k t (Delivers a) h = ap (λ b. b || false) h
-on_mark o k t (Executes a) h = ap (λ b. b || false) h
-on_mark o k t (Voids n) h = refl
-on_mark o k t (Empties a) h = refl
-on_mark o k t (Waits a) h = ap (λ b. b || false) h
-on_mark o k t (Leaves c) h = refl
-on_mark o k t (Enters c) h = refl
-on_mark o k t (Sends conn reply) h = ap (λ b. b || false) h
-on_mark o k t (ClosesConn conn) h = refl
-on_mark o k t ClosesSession h = refl
-on_mark o k t (Ignores why) h = refl
-
 on_marks : (o : Setting) (k : ℕ) (t : Trace) (ms : List Mark) → list_any (is_at k) ms ≡ false → list_any (is_on k) (flat_map (effects_of_mark o t) ms) ≡ false
 on_marks o k t [] h = refl
-on_marks o k t (m ∷ ms) h =
-    let parts = or_none (is_at k m) (list_any (is_at k) ms) h in
-    list_any-append (is_on k) (effects_of_mark o t m) (flat_map (effects_of_mark o t) ms)
-    ∙ ap (λ b. b || list_any (is_on k) (flat_map (effects_of_mark o t) ms)) (on_mark o k t m parts.0) ∙ on_marks o k t ms parts.1
+on_marks o k t (m ∷ ms) h = grind (arith, on_marks o k t ms)
 
 on_item : (o : Setting) (k : ℕ) (t : Trace) (item : List Mark) → list_any (is_at k) item ≡ false → list_any (is_on k) (effects_of_item o t item) ≡ false
 on_item o k t item h =
@@ -108,18 +42,8 @@ on_item o k t item h =
 
 ignored_marks : (o : Setting) (t : Trace) (ms : List Mark) → list_all ignores ms ≡ true → list_all is_ignored (flat_map (effects_of_mark o t) ms) ≡ true
 ignored_marks o t [] h = refl
-ignored_marks o t (Admits a ∷ ms) h = absurd (false≢true h)
-ignored_marks o t (Delivers a ∷ ms) h = absurd (false≢true h)
-ignored_marks o t (Executes a ∷ ms) h = absurd (false≢true h)
-ignored_marks o t (Voids n ∷ ms) h = absurd (false≢true h)
-ignored_marks o t (Empties a ∷ ms) h = absurd (false≢true h)
-ignored_marks o t (Waits a ∷ ms) h = absurd (false≢true h)
-ignored_marks o t (Leaves c ∷ ms) h = absurd (false≢true h)
-ignored_marks o t (Enters c ∷ ms) h = absurd (false≢true h)
-ignored_marks o t (Sends conn reply ∷ ms) h = absurd (false≢true h)
-ignored_marks o t (ClosesConn conn ∷ ms) h = absurd (false≢true h)
-ignored_marks o t (ClosesSession ∷ ms) h = absurd (false≢true h)
 ignored_marks o t (Ignores why ∷ ms) h = ignored_marks o t ms h
+ignored_marks o t (m ∷ ms) h = absurd (false≢true h)
 
 none_in : {A : Type 0} (xs : List A) → ((x : A) → In x xs → ⊥) → xs ≡ []
 none_in [] none = refl
@@ -151,8 +75,7 @@ part o (i ∷ later) before item x = part o later before item x.1
 
 -- a connection that is closed isn't open
 unopen : (o : Setting) (t : Trace) (conn : ℕ) → has (closes_conn conn) t ≡ true → is_open o t conn ≡ false
-unopen o t conn h =
-    ap (λ b. is_known conn o.conns && not b) (or_second (is_ended t) (has (closes_conn conn) t) h) ∙ and_false (is_known conn o.conns)
+unopen o t conn h = grind arith
 
 sounds_hold : (o : Setting) (t : Trace) → Sounds o t → ClosesHold o t
 sounds_hold o t x = record {

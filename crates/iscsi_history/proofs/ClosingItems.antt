@@ -1,25 +1,23 @@
 -- Items that close connections or the session, or close none.
-use Rattle.std.proofs.Common.{List, false, ℕ, ◌≡◌, ap, ◌||◌, ◌∙◌, ◌∷◌, [], sym, ◌&&◌, ◌==◌, cond, eq-eqb, filter, map, refl, true, ◌++◌, None, Option, Some, Bool, not}
+use Rattle.std.proofs.Common.{arith, List, false, ℕ, ◌≡◌, ap, ◌||◌, ◌∙◌, ◌∷◌, [], sym, ◌&&◌, ◌==◌, cond, filter, map, refl, true, ◌++◌, None, Option, Some, Bool, not}
 use Rattle.std.specs.List.{list_any, flat_map, filter_map, list_all}
 use Rattle.iscsi_wire.specs.Serial.{wire}
-use Rattle.iscsi_history.specs.rules.Trace.{Mark, closes_conn, closes_session, Trace, has, is_closed, is_ended, Arrival, Empties, ClosesConn, ClosesSession, sent_on, Command, Leaves, waiting_through}
+use Rattle.iscsi_history.proofs.DeedLemmas.{views, tests}
+use Rattle.iscsi_history.specs.rules.Trace.{Mark, closes_conn, closes_session, Trace, is_closed, Arrival, Empties, ClosesConn, ClosesSession, sent_on, Command, Leaves, waiting_through}
 use Rattle.iscsi_history.specs.rules.Settings.{Setting, is_known}
 use Rattle.iscsi_history.specs.rules.Logout.{is_open, is_last_open, parting}
 use Rattle.iscsi_history.specs.declared.effect.Effect.TheVariants.{Empty, Leave}
 use Rattle.iscsi_history.specs.rules.Run.{effects_of_mark}
-use Rattle.iscsi_history.proofs.BoolLemmas.{or_false, or_second, and_false}
+use Rattle.iscsi_history.proofs.BoolLemmas.{or_false}
 use Rattle.iscsi_history.proofs.NewlyLemmas.{Untouched}
 use Rattle.iscsi_history.proofs.DeliveryLemmas.{IsQuiet}
-use Rattle.std.proofs.lemmas.Bool.{false≢true}
 
 pub record ClosesNone (item : List Mark) : Type 0 where
   pub session : list_any closes_session item ≡ false
   pub conns : (conn : ℕ) → list_any (closes_conn conn) item ≡ false
 
 pub closed-same : (conn : ℕ) (item : List Mark) (t : Trace) → ClosesNone item → is_closed conn (item ∷ t) ≡ is_closed conn t
-closed-same conn item t c =
-    ap (λ b. (b || is_ended t) || (list_any (closes_conn conn) item || has (closes_conn conn) t)) c.session
-    ∙ ap (λ b. is_ended t || (b || has (closes_conn conn) t)) (c.conns conn)
+closed-same conn item t c = grind (arith, c.conns conn)
 
 -- a mark, and those after it
 pub closes-more : (m : Mark) (ms : List Mark) → ClosesNone (m ∷ []) → ClosesNone ms → ClosesNone (m ∷ ms)
@@ -31,16 +29,12 @@ closes-more m ms c cs = record {
 -- each connection of the session is open
 pub all_open : (o : Setting) (cs : List (ℕ × ℕ)) → ((cid : ℕ) → is_known cid cs ≡ true → is_known cid o.conns ≡ true) → filter (is_open o []) (map (λ (c : ℕ × ℕ). c.0) cs) ≡ map (λ (c : ℕ × ℕ). c.0) cs
 all_open o [] within = refl
-all_open o (c ∷ cs) within =
-    let rest : List ℕ = filter (is_open o []) (map (λ (d : ℕ × ℕ). d.0) cs) in
-    ap (λ b. cond (b && true) (c.0 ∷ rest) rest) (within c.0 (ap (λ b. b || is_known c.0 cs) (eq-eqb c.0 c.0 refl)))
-    ∙ ap (λ ds. c.0 ∷ ds) (all_open o cs (λ cid known. within cid (or_second (c.0 == cid) (is_known cid cs) known)))
+all_open o (c ∷ cs) within = grind (arith, all_open o cs)
 
 -- ---- the marks of a Logout
 
 pub untouched-emptied : (as' : List Arrival) → Untouched (map Empties as')
-untouched-emptied [] = record { enters_none = refl; leaves_no = λ k. refl }
-untouched-emptied (a ∷ as') = let rest : Untouched (map Empties as') = untouched-emptied as' in record { enters_none = rest.enters_none; leaves_no = rest.leaves_no }
+untouched-emptied as' = record { enters_none = simp views; leaves_no = λ k. simp tests }
 
 -- what follows those that are taken out
 abbrev pub closing_marks : Setting → Trace → Arrival → Option ℕ → List Mark
@@ -48,38 +42,20 @@ closing_marks o t a None = parting a 0 ++ ClosesSession ∷ []
 closing_marks o t a (Some closing) = parting a 0 ++ ClosesConn closing ∷ cond (is_last_open o t closing) (ClosesSession ∷ []) []
 
 pub untouched-closing : (o : Setting) (t : Trace) (a : Arrival) (scope : Option ℕ) → Untouched (closing_marks o t a scope)
-untouched-closing o t a None = record { enters_none = refl; leaves_no = λ k. refl }
-untouched-closing o t a (Some closing) =
-    elim (is_last_open o t closing) as (λ b. Untouched (parting a 0 ++ ClosesConn closing ∷ cond b (ClosesSession ∷ []) [])) [
-      | true ↦ record { enters_none = refl; leaves_no = λ k. refl }
-      | false ↦ record { enters_none = refl; leaves_no = λ k. refl }
-    ]
+untouched-closing o t a scope = grind arith
 
 -- ---- the marks that close something
 
 pub quiet-closing : (o : Setting) (t : Trace) (a : Arrival) (scope : Option ℕ) → IsQuiet (closing_marks o t a scope)
-quiet-closing o t a None = record { receives = refl; admits = λ n. refl; delivers_none = refl; delivers_no = λ n. refl; empties_no = λ n. refl }
-quiet-closing o t a (Some closing) = by_last (is_last_open o t closing)
-  where
-    by_last : (b : Bool) → IsQuiet (parting a 0 ++ ClosesConn closing ∷ (let ms : List Mark = cond b (ClosesSession ∷ []) [] in ms))
-    by_last true = record { receives = refl; admits = λ n. refl; delivers_none = refl; delivers_no = λ n. refl; empties_no = λ n. refl }
-    by_last false = record { receives = refl; admits = λ n. refl; delivers_none = refl; delivers_no = λ n. refl; empties_no = λ n. refl }
-
--- ---- the effects
-
-pub emptied-shown : (o : Setting) (t : Trace) (hs : List Arrival) → map (λ (a : Arrival). Empty (wire a.number)) hs ≡ flat_map (effects_of_mark o t) (map Empties hs)
-emptied-shown o t [] = refl
-emptied-shown o t (h ∷ hs) = ap (λ es. Empty (wire h.number) ∷ es) (emptied-shown o t hs)
+quiet-closing o t a scope = grind arith
 
 -- ---- lists of such marks
 
 pub emptied_sends : (hs : List Arrival) (rest : List Mark) → filter_map sent_on (map Empties hs ++ rest) ≡ filter_map sent_on rest
-emptied_sends [] rest = refl
-emptied_sends (h ∷ hs) rest = emptied_sends hs rest
+emptied_sends hs rest = simp views
 
 pub left_sends : (cs : List Command) (rest : List Mark) → filter_map sent_on (map Leaves cs ++ rest) ≡ filter_map sent_on rest
-left_sends [] rest = refl
-left_sends (c ∷ cs) rest = left_sends cs rest
+left_sends cs rest = simp views
 
 pub emptied_waits : (hs : List Arrival) (rest : List Mark) (ws : List Arrival) → waiting_through (map Empties hs ++ rest) ws ≡ waiting_through rest ws
 emptied_waits [] rest ws = refl
@@ -98,12 +74,10 @@ left_shown o t [] rest = refl
 left_shown o t (c ∷ cs) rest = ap (λ es. Leave c.ticket c.unit ∷ es) (left_shown o t cs rest)
 
 pub emptied_any : (test : Mark → Bool) (hs : List Arrival) (rest : List Mark) → ((h : Arrival) → test (Empties h) ≡ false) → list_any test (map Empties hs ++ rest) ≡ list_any test rest
-emptied_any test [] rest none = refl
-emptied_any test (h ∷ hs) rest none = ap (λ b. b || list_any test (map Empties hs ++ rest)) (none h) ∙ emptied_any test hs rest none
+emptied_any test hs rest none = simp (tests, none)
 
 pub left_any : (test : Mark → Bool) (cs : List Command) (rest : List Mark) → ((c : Command) → test (Leaves c) ≡ false) → list_any test (map Leaves cs ++ rest) ≡ list_any test rest
-left_any test [] rest none = refl
-left_any test (c ∷ cs) rest none = ap (λ b. b || list_any test (map Leaves cs ++ rest)) (none c) ∙ left_any test cs rest none
+left_any test cs rest none = simp (tests, none)
 
 -- ---- what is open afterwards
 
@@ -112,28 +86,10 @@ is_nil [] = true
 is_nil (c ∷ cs) = false
 
 pub nil_is : (cs : List ℕ) → is_nil cs ≡ true → cs ≡ []
-nil_is [] h = refl
-nil_is (c ∷ cs) h = absurd (false≢true h)
-
-pub none_open : (o : Setting) (t : Trace) (cids : List ℕ) → ((c : ℕ) → is_closed c t ≡ true) → filter (is_open o t) cids ≡ []
-none_open o t [] all = refl
-none_open o t (c ∷ cids) all =
-    ap (λ b. cond b (c ∷ filter (is_open o t) cids) (filter (is_open o t) cids)) (ap (λ b. is_known c o.conns && not b) (all c) ∙ and_false (is_known c o.conns))
-    ∙ none_open o t cids all
+nil_is cs h = grind arith
 
 -- none stays open but for the one that closes
 pub last_is : (o : Setting) (t : Trace) (closing : ℕ) (ds : List (ℕ × ℕ)) → ((k : ℕ) → is_known k ds ≡ true → is_known k o.conns ≡ true)
     → is_nil (filter (λ k. is_open o t k && not (k == closing)) (map (λ (d : ℕ × ℕ). d.0) ds)) ≡ list_all (λ d. (d.0 == closing) || is_closed d.0 t) ds
 last_is o t closing [] within = refl
-last_is o t closing (d ∷ ds) within =
-    let rest : List ℕ = filter (λ k. is_open o t k && not (k == closing)) (map (λ (x : ℕ × ℕ). x.0) ds) in
-    let later = last_is o t closing ds (λ k known. within k (or_second (d.0 == k) (is_known k ds) known)) in
-    ap (λ b. is_nil (cond ((b && not (is_closed d.0 t)) && not (d.0 == closing)) (d.0 ∷ rest) rest)) (within d.0 (ap (λ b. b || is_known d.0 ds) (eq-eqb d.0 d.0 refl)))
-    ∙ by_tests (d.0 == closing) (is_closed d.0 t) rest later
-  where
-    by_tests : (here closed : Bool) (rest : List ℕ) → is_nil rest ≡ list_all (λ x. (x.0 == closing) || is_closed x.0 t) ds
-        → is_nil (cond (not closed && not here) (d.0 ∷ rest) rest) ≡ ((here || closed) && list_all (λ x. (x.0 == closing) || is_closed x.0 t) ds)
-    by_tests true true rest later = later
-    by_tests true false rest later = later
-    by_tests false true rest later = later
-    by_tests false false rest later = refl
+last_is o t closing (d ∷ ds) within = grind (arith, last_is o t closing ds)

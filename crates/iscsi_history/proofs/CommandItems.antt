@@ -1,20 +1,20 @@
 -- Items by which commands enter and leave, and the commands with a ticket.
-use Rattle.std.proofs.Common.{List, ap, count_by, not, ◌∷◌, ◌≡◌, [], refl, ◌&&◌, ◌==◌, Bool, filter, length, ℕ, ◌++◌, ◌∙◌, ◌+◌, false, ◌||◌, cond, sym, true, None, Some, eq-eqb, ◌<◌, arith, nat_lt, map, subst}
+use Rattle.std.proofs.Common.{List, ap, count_by, not, ◌∷◌, ◌≡◌, [], refl, ◌&&◌, ◌==◌, Bool, filter, length, ℕ, ◌++◌, ◌∙◌, ◌+◌, false, ◌||◌, cond, true, None, Some, eq-eqb, arith, nat_lt, map}
 use Rattle.std.specs.List.{list_any, filter_map, list_all, range_with_len, flat_map}
 use Rattle.std.proofs.lemmas.List.{append-nil}
-use Rattle.std.proofs.lemmas.Bool.{eqb-true, false≢true}
 use Rattle.iscsi_wire.specs.Fields.{is_immediate, connection_of, itt}
 use Rattle.iscsi_wire.specs.declared.reply.Reply.TheVariants.{Scsi}
+use Rattle.iscsi_history.proofs.ListLemmas.{none_left}
+use Rattle.iscsi_history.proofs.DeedLemmas.{views, tests}
 use Rattle.iscsi_history.specs.rules.Trace.{Command, Mark, Trace, Admits, Arrival, entered, enters, leaves_ticket, live, live_in, is_among, are_apart, first_of, Leaves, waiting_through, sent_on}
 use Rattle.iscsi_history.specs.rules.Execution.{unfinished, reply_on, sense_of_status}
 use Rattle.iscsi_history.specs.rules.Settings.{Setting}
-use Rattle.iscsi_history.proofs.NewlyLemmas.{Untouched, live-untouched, both_all}
+use Rattle.iscsi_history.proofs.NewlyLemmas.{any_in_units as any_of_units, Untouched, live-untouched, both_all}
 use Rattle.iscsi_history.proofs.TraceLemmas.{live-leaves, weaker}
-use Rattle.iscsi_history.proofs.ListLemmas.{filter-swap, any_at, any_in_range, none_passes}
-use Rattle.iscsi_history.proofs.BoolLemmas.{and_parts, or_false, or_none, not_true, and_true, alike, and_both, same_alike, or_second}
+use Rattle.iscsi_history.proofs.ListLemmas.{any_filter, filter-swap, none_passes}
+use Rattle.iscsi_history.proofs.BoolLemmas.{and_parts, not_true, and_true, alike, and_both, same_alike}
 use Rattle.iscsi_history.proofs.ApartLemmas.{unamong-filter, eq_sym}
 use Rattle.iscsi_history.proofs.DeliveryLemmas.{IsQuiet}
-use Rattle.std.proofs.lemmas.Bool.Decides.{nat_tests}
 use Rattle.iscsi_wire.specs.declared.reply.Reply.{Reply}
 use Rattle.iscsi_history.proofs.ClosingItems.{ClosesNone}
 use Rattle.iscsi_history.specs.declared.effect.Effect.TheVariants.{Leave, Send}
@@ -60,17 +60,7 @@ are_all_in unit out cs = list_all (λ c. not (out c.ticket) || (c.unit == unit))
 
 elsewhere_kept : (out : ℕ → Bool) (unit other : ℕ) (cs : List Command) → are_all_in unit out cs ≡ true → (other == unit) ≡ false → filter (λ c. not (out c.ticket)) (filter (λ c. c.unit == other) cs) ≡ filter (λ c. c.unit == other) cs
 elsewhere_kept out unit other [] all elsewhere = refl
-elsewhere_kept out unit other (x ∷ cs) all elsewhere =
-    let parts = and_parts (not (out x.ticket) || (x.unit == unit)) (are_all_in unit out cs) all in
-    let away : Command → Bool = λ c. not (out c.ticket) in
-    let rest : filter away (filter (λ c. c.unit == other) cs) ≡ filter (λ c. c.unit == other) cs = elsewhere_kept out unit other cs parts.1 elsewhere in
-    elim (x.unit == other) as (λ b. (x.unit == other) ≡ b → filter away (cond b (x ∷ filter (λ c. c.unit == other) cs) (filter (λ c. c.unit == other) cs)) ≡ cond b (x ∷ filter (λ c. c.unit == other) cs) (filter (λ c. c.unit == other) cs)) [
-      | true ↦ λ is.
-          let outside : (x.unit == unit) ≡ false = ap (λ n. n == unit) (eqb-true x.unit other is) ∙ elsewhere in
-          let stays : not (out x.ticket) ≡ true = sym (or_false (not (out x.ticket))) ∙ ap (λ b. not (out x.ticket) || b) (sym outside) ∙ parts.0 in
-          ap (λ b. cond b (x ∷ filter away (filter (λ c. c.unit == other) cs)) (filter away (filter (λ c. c.unit == other) cs))) stays ∙ ap (λ ds. x ∷ ds) rest
-      | false ↦ λ is. rest
-    ] refl
+elsewhere_kept out unit other (x ∷ cs) all elsewhere = grind (arith, elsewhere_kept out unit other cs)
 
 pub live_in-left_elsewhere : (item : List Mark) (t : Trace) (out : ℕ → Bool) (unit : ℕ) → LeavesSome item out → are_all_in unit out (live t) ≡ true → (other : ℕ) → (other == unit) ≡ false → live_in other (item ∷ t) ≡ live_in other t
 live_in-left_elsewhere item t out unit l all other elsewhere = live_in-left item t out other l ∙ elsewhere_kept out unit other (live t) all elsewhere
@@ -80,68 +70,28 @@ live_in-left_elsewhere item t out unit l all other elsewhere = live_in-left item
 -- where no command has the ticket, none that also passes a test has it
 none_with : (w : Command → Bool) (k : ℕ) (cs : List Command) → is_among k cs ≡ false → filter (λ c. c.ticket == k && w c) cs ≡ []
 none_with w k [] h = refl
-none_with w k (c ∷ cs) h =
-    let parts = or_none (c.ticket == k) (is_among k cs) h in
-    ap (λ b. cond (b && w c) (c ∷ filter (λ d. d.ticket == k && w d) cs) (filter (λ d. d.ticket == k && w d) cs)) parts.0 ∙ none_with w k cs parts.1
+none_with w k (c ∷ cs) h = grind (arith, none_with w k cs)
 
 pub none_any : (w : Command → Bool) (k : ℕ) (cs : List Command) → is_among k cs ≡ false → list_any (λ c. c.ticket == k && w c) cs ≡ false
 none_any w k [] h = refl
-none_any w k (c ∷ cs) h =
-    let parts = or_none (c.ticket == k) (is_among k cs) h in
-    ap (λ b. (b && w c) || list_any (λ d. d.ticket == k && w d) cs) parts.0 ∙ none_any w k cs parts.1
+none_any w k (c ∷ cs) h = grind (arith, none_any w k cs)
 
 -- the one command with the ticket passes, or none
 pub first_passing : (w : Command → Bool) (k : ℕ) (cs : List Command) (c : Command) → are_apart cs ≡ true → first_of (filter (λ d. d.ticket == k) cs) ≡ Some c
     → (first_of (filter (λ d. d.ticket == k && w d) cs) ≡ cond (w c) (Some c) None) × (list_any (λ d. d.ticket == k && w d) (filter (λ d. d.unit == c.unit) cs) ≡ w c)
 first_passing w k [] c apart found = absurd cc
 first_passing w k (x ∷ cs) c apart found =
-    let parts = and_parts (not (is_among x.ticket cs)) (are_apart cs) apart in
-    let test : Command → Bool = λ d. d.ticket == k && w d in
-    let in_unit : Command → Bool = λ d. d.unit == c.unit in
-    elim (x.ticket == k) as (λ b. (x.ticket == k) ≡ b → first_of (cond b (x ∷ filter (λ d. d.ticket == k) cs) (filter (λ d. d.ticket == k) cs)) ≡ Some c
-    → (first_of (cond (b && w x) (x ∷ filter test cs) (filter test cs)) ≡ cond (w c) (Some c) None) × (list_any test (cond (x.unit == c.unit) (x ∷ filter in_unit cs) (filter in_unit cs)) ≡ w c)) [
-      | true ↦ λ is here.
-          let same : x ≡ c = cc in
-          let gone : is_among k cs ≡ false = ap (λ n. is_among n cs) (sym (eqb-true x.ticket k is)) ∙ not_true (is_among x.ticket cs) parts.0 in
-          let unit_is : (x.unit == c.unit) ≡ true = eq-eqb x.unit c.unit (ap (λ (d : Command). d.unit) same) in (
-            ap (λ ds. first_of (cond (w x) (x ∷ ds) ds)) (none_with w k cs gone) ∙ ap (λ d. first_of (cond (w d) (d ∷ []) [])) same ∙ one (w c),
-            ap (λ b. list_any test (cond b (x ∷ filter in_unit cs) (filter in_unit cs))) unit_is
-                ∙ ap (λ b. (b && w x) || list_any test (filter in_unit cs)) is
-                ∙ ap (λ b. w x || b) (none_any w k (filter in_unit cs) (unamong-filter in_unit k cs gone))
-                ∙ or_false (w x) ∙ ap w same,
-          )
-      | false ↦ λ is later.
-          let rest = first_passing w k cs c parts.1 later in (
-            rest.0,
-            elim (x.unit == c.unit) as (λ b. list_any test (cond b (x ∷ filter in_unit cs) (filter in_unit cs)) ≡ w c) [
-              | true ↦ ap (λ b. (b && w x) || list_any test (filter in_unit cs)) is ∙ rest.1
-              | false ↦ rest.1
-            ],
-          )
-    ] refl found
-  where
-    one : (b : Bool) → first_of (cond b (c ∷ []) []) ≡ cond b (Some c) None
-    one true = refl
-    one false = refl
+    grind (arith, first_passing w k cs c, none_with, none_any, unamong-filter)
 
 pub none_passing : (w : Command → Bool) (k : ℕ) (cs : List Command) → first_of (filter (λ d. d.ticket == k) cs) ≡ None → first_of (filter (λ d. d.ticket == k && w d) cs) ≡ None
 none_passing w k [] none = refl
-none_passing w k (x ∷ cs) none =
-    elim (x.ticket == k) as (λ b. first_of (cond b (x ∷ filter (λ d. d.ticket == k) cs) (filter (λ d. d.ticket == k) cs)) ≡ None → first_of (cond (b && w x) (x ∷ filter (λ d. d.ticket == k && w d) cs) (filter (λ d. d.ticket == k && w d) cs)) ≡ None) [
-      | true ↦ λ h. absurd cc
-      | false ↦ λ h. none_passing w k cs h
-    ] none
+none_passing w k (x ∷ cs) none = grind (arith, none_passing w k cs)
 
 -- ---- a completion
 
 pub first_passes : (p q : Command → Bool) (cs : List Command) (c : Command) → list_all q cs ≡ true → first_of (filter p cs) ≡ Some c → q c ≡ true
 first_passes p q [] c all found = absurd cc
-first_passes p q (x ∷ cs) c all found =
-    let parts = and_parts (q x) (list_all q cs) all in
-    elim (p x) as (λ b. first_of (cond b (x ∷ filter p cs) (filter p cs)) ≡ Some c → q c ≡ true) [
-      | true ↦ λ here. let same : x ≡ c = cc in ap q (sym same) ∙ parts.0
-      | false ↦ λ later. first_passes p q cs c parts.1 later
-    ] found
+first_passes p q (x ∷ cs) c all found = grind (arith, first_passes p q cs c)
 
 abbrev pub completion_item : Command → ℕ → List Mark
 completion_item c status = Leaves c ∷ reply_on c.arrival (Scsi (itt c.arrival.request) status (sense_of_status status))
@@ -158,73 +108,37 @@ among_unit k (c ∷ cs) = ap (λ b. b || list_any (λ (d : Command). d.ticket ==
 
 -- some command passes just where one of some unit does
 pub any_in_units : (p : Command → Bool) (n : ℕ) (cs : List Command) → list_all (λ c. nat_lt c.unit n) cs ≡ true → list_any (λ unit. list_any p (filter (λ (c : Command). c.unit == unit) cs)) (range_with_len 0 n) ≡ list_any p cs
-any_in_units p n [] inside = never (range_with_len 0 n)
-  where
-    never : (us : List ℕ) → list_any (λ unit. false) us ≡ false
-    never [] = refl
-    never (u ∷ us) = never us
-any_in_units p n (x ∷ cs) inside =
-    let parts = and_parts (nat_lt x.unit n) (list_all (λ c. nat_lt c.unit n) cs) inside in
-    let here : ℕ → Bool = λ unit. list_any p (filter (λ (c : Command). c.unit == unit) (x ∷ cs)) in
-    elim (p x) as (λ b. p x ≡ b → list_any here (range_with_len 0 n) ≡ (b || list_any p cs)) [
-      | true ↦ λ is. any_at here 0 n x.unit (omega arith) (below x.unit parts.0)
-          (ap (λ b. list_any p (cond b (x ∷ filter (λ (c : Command). c.unit == x.unit) cs) (filter (λ (c : Command). c.unit == x.unit) cs))) (eq-eqb x.unit x.unit refl)
-          ∙ ap (λ b. b || list_any p (filter (λ (c : Command). c.unit == x.unit) cs)) is)
-      | false ↦ λ is. any_in_range here (λ unit. list_any p (filter (λ (c : Command). c.unit == unit) cs)) 0 n (λ unit low high. without unit is) ∙ any_in_units p n cs parts.1
-    ] refl
-  where
-    below : (u : ℕ) → nat_lt u n ≡ true → u < 0 + n
-    below u test = let lt : u < n = grind (arith, nat_tests) in omega (arith, lt)
-
-    without : (unit : ℕ) → p x ≡ false → list_any p (filter (λ (c : Command). c.unit == unit) (x ∷ cs)) ≡ list_any p (filter (λ (c : Command). c.unit == unit) cs)
-    without unit is =
-        let rest : List Command = filter (λ (c : Command). c.unit == unit) cs in
-        elim (x.unit == unit) as (λ b. list_any p (cond b (x ∷ rest) rest) ≡ list_any p rest) [
-          | true ↦ ap (λ b. b || list_any p rest) is
-          | false ↦ refl
-        ]
+any_in_units p n cs inside = grind (arith, any_filter, any_of_units)
 
 -- ---- the marks by which commands leave
 
 pub leaves_only : (cs : List Command) (ms : List Mark) (k : ℕ) → list_any (leaves_ticket k) (map Leaves cs ++ ms) ≡ (is_among k cs || list_any (leaves_ticket k) ms)
-leaves_only [] ms k = refl
-leaves_only (c ∷ cs) ms k = ap (λ b. (c.ticket == k) || b) (leaves_only cs ms k) ∙ assoc (c.ticket == k) (is_among k cs) (list_any (leaves_ticket k) ms)
-  where
-    assoc : (a b d : Bool) → (a || (b || d)) ≡ ((a || b) || d)
-    assoc true b d = refl
-    assoc false b d = refl
+leaves_only cs ms k = simp tests
 
 pub enters_only : (cs : List Command) (ms : List Mark) → filter_map enters (map Leaves cs ++ ms) ≡ filter_map enters ms
-enters_only [] ms = refl
-enters_only (c ∷ cs) ms = enters_only cs ms
+enters_only cs ms = simp views
 
 -- ---- commands leave, and a function is answered
 
 pub quiet-leaving : (cs : List Command) (a : Arrival) (reply : Reply) → IsQuiet (map Leaves cs ++ reply_on a reply)
-quiet-leaving [] a reply = record { receives = refl; admits = λ n. refl; delivers_none = refl; delivers_no = λ n. refl; empties_no = λ n. refl }
-quiet-leaving (c ∷ cs) a reply =
-    let q : IsQuiet (map Leaves cs ++ reply_on a reply) = quiet-leaving cs a reply in
-    record { receives = q.receives; admits = λ n. q.admits n; delivers_none = q.delivers_none; delivers_no = λ n. q.delivers_no n; empties_no = λ n. q.empties_no n }
+quiet-leaving cs a reply =
+    record { receives = simp views; admits = λ n. simp views; delivers_none = simp views; delivers_no = λ n. simp tests; empties_no = λ n. simp tests }
 
 pub leaving-enters : (cs : List Command) (a : Arrival) (reply : Reply) → filter_map enters (map Leaves cs ++ reply_on a reply) ≡ []
-leaving-enters [] a reply = refl
-leaving-enters (c ∷ cs) a reply = leaving-enters cs a reply
+leaving-enters cs a reply = simp views
 
 pub leaving-calm : (cs : List Command) (a : Arrival) (reply : Reply) (ws : List Arrival) → waiting_through (map Leaves cs ++ reply_on a reply) ws ≡ ws
 leaving-calm [] a reply ws = refl
 leaving-calm (c ∷ cs) a reply ws = leaving-calm cs a reply ws
 
 pub leaving-closes : (cs : List Command) (a : Arrival) (reply : Reply) → ClosesNone (map Leaves cs ++ reply_on a reply)
-leaving-closes [] a reply = record { session = refl; conns = λ c. refl }
-leaving-closes (c ∷ cs) a reply = let none : ClosesNone (map Leaves cs ++ reply_on a reply) = leaving-closes cs a reply in record { session = none.session; conns = λ k. none.conns k }
+leaving-closes cs a reply = record { session = simp tests; conns = λ c. simp tests }
 
 pub leaving-sends : (cs : List Command) (a : Arrival) (reply : Reply) → filter_map sent_on (map Leaves cs ++ reply_on a reply) ≡ connection_of a.request ∷ []
-leaving-sends [] a reply = refl
-leaving-sends (c ∷ cs) a reply = leaving-sends cs a reply
+leaving-sends cs a reply = simp views
 
 pub leaving-tickets : (cs : List Command) (a : Arrival) (reply : Reply) (k : ℕ) → list_any (leaves_ticket k) (map Leaves cs ++ reply_on a reply) ≡ is_among k cs
-leaving-tickets [] a reply k = refl
-leaving-tickets (c ∷ cs) a reply k = ap (λ b. (c.ticket == k) || b) (leaving-tickets cs a reply k)
+leaving-tickets cs a reply k = simp tests
 
 pub leaving-shown : (o : Setting) (t : Trace) (cs : List Command) (a : Arrival) (reply : Reply)
     → flat_map (effects_of_mark o t) (map Leaves cs ++ reply_on a reply) ≡ map (λ (c : Command). Leave c.ticket c.unit) cs ++ Send (connection_of a.request) (stat_sn_of o t (connection_of a.request)) reply ∷ []
@@ -257,26 +171,4 @@ among_passing q (x ∷ cs) apart =
 -- no other command has the ticket of the first that passes
 pub ticket_alone : (q : Command → Bool) (cs : List Command) (c : Command) → are_apart cs ≡ true → first_of (filter q cs) ≡ Some c → (filter (λ d. d.ticket == c.ticket) cs ≡ c ∷ []) × (is_among c.ticket cs ≡ true)
 ticket_alone q [] c apart found = absurd cc
-ticket_alone q (x ∷ cs) c apart found =
-    let parts = and_parts (not (is_among x.ticket cs)) (are_apart cs) apart in
-    let gone : is_among x.ticket cs ≡ false = not_true (is_among x.ticket cs) parts.0 in
-    elim (q x) as (λ b. first_of (cond b (x ∷ filter q cs) (filter q cs)) ≡ Some c → (filter (λ d. d.ticket == c.ticket) (x ∷ cs) ≡ c ∷ []) × (is_among c.ticket (x ∷ cs) ≡ true)) [
-      | true ↦ λ here.
-          let same : x ≡ c = cc in
-          subst (λ (d : Command). (filter (λ e. e.ticket == d.ticket) (x ∷ cs) ≡ d ∷ []) × (is_among d.ticket (x ∷ cs) ≡ true)) same
-          (ap (λ b. cond b (x ∷ filter (λ e. e.ticket == x.ticket) cs) (filter (λ e. e.ticket == x.ticket) cs)) (eq-eqb x.ticket x.ticket refl) ∙ ap (λ ds. x ∷ ds) (none_with x.ticket cs gone), ap (λ b. b || is_among x.ticket cs) (eq-eqb x.ticket x.ticket refl))
-      | false ↦ λ later.
-          let rest = ticket_alone q cs c parts.1 later in
-          let other : (x.ticket == c.ticket) ≡ false =
-          elim (x.ticket == c.ticket) as (λ b. (x.ticket == c.ticket) ≡ b → b ≡ false) [
-            | true ↦ λ is. absurd (false≢true (sym gone ∙ ap (λ k. is_among k cs) (eqb-true x.ticket c.ticket is) ∙ rest.1))
-            | false ↦ λ is. refl
-          ] refl in
-          (ap (λ b. cond b (x ∷ filter (λ e. e.ticket == c.ticket) cs) (filter (λ e. e.ticket == c.ticket) cs)) other ∙ rest.0, or_second (x.ticket == c.ticket) (is_among c.ticket cs) rest.1)
-    ] found
-  where
-    none_with : (k : ℕ) (ds : List Command) → is_among k ds ≡ false → filter (λ e. e.ticket == k) ds ≡ []
-    none_with k [] h = refl
-    none_with k (d ∷ ds) h =
-        let parts = or_none (d.ticket == k) (is_among k ds) h in
-        ap (λ b. cond b (d ∷ filter (λ e. e.ticket == k) ds) (filter (λ e. e.ticket == k) ds)) parts.0 ∙ none_with k ds parts.1
+ticket_alone q (x ∷ cs) c apart found = grind (arith, ticket_alone q cs c, none_left (λ e. e.ticket == x.ticket) cs)

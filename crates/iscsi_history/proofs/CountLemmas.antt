@@ -1,5 +1,6 @@
 -- How many of a list pass tests, one weaker than the other.
-use Rattle.std.proofs.Common.{◌≡◌, ℕ, ◌+◌, ◌≤◌, ◌==◌, ◌&&◌, ◌||◌, not, ⊎_elim, cond, Bool, true, false, List, [], ◌∷◌, filter, count_by, refl, ap, sym, ◌∙◌, arith, length, ◌<◌, get_or, set, suc, zero, Some, find, ◌++◌, None, Option, drop, replicate}
+use Rattle.std.proofs.Common.{◌≡◌, ℕ, ◌+◌, ◌≤◌, ◌==◌, ◌&&◌, not, cond, Bool, true, false, List, [], ◌∷◌, filter, count_by, refl, ap, sym, ◌∙◌, arith, length, ◌<◌, get_or, set, suc, zero, Some, find, ◌++◌, None, Option, drop, replicate}
+use Rattle.std.proofs.lemmas.Grind.{common_steps}
 use Rattle.std.proofs.lemmas.Bool.{false≢true}
 use Rattle.std.proofs.lemmas.List.Sums.{sum_by-cons, sum_by-append}
 use Rattle.iscsi_history.specs.rules.Trace.{Command, is_among}
@@ -16,16 +17,10 @@ count-cons p x xs = sum_by-cons (λ y. cond (p y) 1 0) x xs
 -- those of a part that pass
 pub count-filter : {A : Type 0} (p q : A → Bool) (xs : List A) → count_by p (filter q xs) ≡ count_by (λ x. q x && p x) xs
 count-filter p q [] = refl
-count-filter p q (x ∷ xs) =
-    elim (q x) as (λ b. count_by p (cond b (x ∷ filter q xs) (filter q xs)) ≡ cond (b && p x) 1 0 + count_by (λ y. q y && p y) xs) [
-      | true ↦ count-cons p x (filter q xs) ∙ ap (λ n. cond (p x) 1 0 + n) (count-filter p q xs)
-      | false ↦ count-filter p q xs ∙ (let z : count_by (λ y. q y && p y) xs ≡ 0 + count_by (λ y. q y && p y) xs = omega arith in z)
-    ] ∙ sym (count-cons (λ y. q y && p y) x xs)
+count-filter p q (x ∷ xs) = grind (arith, common_steps, count-filter p q xs)
 
 one_weaker : (b c : Bool) → (b ≡ true → c ≡ true) → one b ≤ one c
-one_weaker true true h = omega arith
-one_weaker true false h = absurd (false≢true (h refl))
-one_weaker false c h = omega arith
+one_weaker b c h = grind arith
 
 one_same : {A : Type 0} (p : A → Bool) (y x : A) (b : Bool) → y ≡ x → p x ≡ b → one (p y) ≡ one b
 one_same p y x b same is = ap one (ap p same ∙ is)
@@ -38,30 +33,15 @@ count-weaker p q (x ∷ xs) h = omega (arith, count-cons p x xs, count-cons q x 
 -- and one more, where it alone passes an element
 pub count-lost : {A : Type 0} (p q : A → Bool) (xs : List A) (x : A) → ((y : A) → p y ≡ true → q y ≡ true) → In x xs → p x ≡ false → q x ≡ true → count_by p xs + 1 ≤ count_by q xs
 count-lost p q [] x h there none some = absurd there
-count-lost p q (y ∷ xs) x h there none some =
-    let ps : count_by p (y ∷ xs) ≡ one (p y) + count_by p xs = count-cons p y xs in
-    let qs : count_by q (y ∷ xs) ≡ one (q y) + count_by q xs = count-cons q y xs in
-    ⊎_elim
-    (λ same.
-    omega (arith, ps, qs, one_same p y x false same none, one_same q y x true same some, count-weaker p q xs h))
-    (λ later. omega (arith, ps, qs, one_weaker (p y) (q y) (h y), count-lost p q xs x h later none some))
-    there
+count-lost p q (y ∷ xs) x h there none some = grind (arith, count-lost p q xs x, count-cons, count-weaker)
 
 -- an element that passes counts
 pub count-one : {A : Type 0} (p : A → Bool) (xs : List A) (x : A) → In x xs → p x ≡ true → 1 ≤ count_by p xs
 count-one p [] x there passes = absurd there
-count-one p (y ∷ xs) x there passes =
-    let ps : count_by p (y ∷ xs) ≡ one (p y) + count_by p xs = count-cons p y xs in
-    ⊎_elim
-    (λ same. omega (arith, ps, one_same p y x true same passes))
-    (λ later. omega (arith, ps, count-one p xs x later passes))
-    there
+count-one p (y ∷ xs) x there passes = grind (arith, count-one p xs x, count-cons)
 
 split_one : (b c : Bool) → one (b && c) + one (not b && c) ≡ one c
-split_one true true = refl
-split_one true false = refl
-split_one false true = refl
-split_one false false = refl
+split_one b c = grind arith
 
 -- those that pass a second test, and those that don't
 pub count-split : {A : Type 0} (p q : A → Bool) (xs : List A) → count_by (λ x. q x && p x) xs + count_by (λ x. not (q x) && p x) xs ≡ count_by p xs
@@ -74,99 +54,51 @@ count-split p q (x ∷ xs) =
 -- what is among some that are counted is counted
 pub among_counted : (k : ℕ) (cs : List Command) → is_among k cs ≡ true → 1 ≤ count_by (λ (c : Command). c.ticket == k) cs
 among_counted k [] h = absurd (false≢true h)
-among_counted k (c ∷ cs) h = by_test (c.ticket == k) (sum_by-cons (λ (x : Command). cond (x.ticket == k) 1 0) c cs) (among_counted k cs) h
-  where
-    by_test : (v : Bool) → count_by (λ (x : Command). x.ticket == k) (c ∷ cs) ≡ cond v 1 0 + count_by (λ (x : Command). x.ticket == k) cs → (is_among k cs ≡ true → 1 ≤ count_by (λ (x : Command). x.ticket == k) cs) → (v || is_among k cs) ≡ true
-        → 1 ≤ count_by (λ (x : Command). x.ticket == k) (c ∷ cs)
-    by_test true all rest h = omega arith
-    by_test false all rest h = omega (arith, rest h)
+among_counted k (c ∷ cs) h = grind (arith, common_steps, among_counted k cs)
 
 pub counted_among : (k : ℕ) (cs : List Command) → 1 ≤ count_by (λ (c : Command). c.ticket == k) cs → is_among k cs ≡ true
 counted_among k [] h = absurd (omega arith)
-counted_among k (c ∷ cs) h = by_test (c.ticket == k) (sum_by-cons (λ (x : Command). cond (x.ticket == k) 1 0) c cs) (counted_among k cs)
-  where
-    by_test : (v : Bool) → count_by (λ (x : Command). x.ticket == k) (c ∷ cs) ≡ cond v 1 0 + count_by (λ (x : Command). x.ticket == k) cs → (1 ≤ count_by (λ (x : Command). x.ticket == k) cs → is_among k cs ≡ true) → (v || is_among k cs) ≡ true
-    by_test true all rest = refl
-    by_test false all rest = rest (omega arith)
+counted_among k (c ∷ cs) h = grind (arith, counted_among k cs)
 
 -- ---- one element after the other
 
 -- one element more that counts
 pub count_set : {A : Type 0} (p : A → Bool) (ps : List A) (k : ℕ) (x d : A) → k < length ps → p (get_or ps k d) ≡ false → p x ≡ true → count_by p (set ps k x) ≡ count_by p ps + 1
 count_set p [] k x d lt before now = absurd (omega arith)
-count_set p (y ∷ ps) zero x d lt before now =
-    let new : count_by p (x ∷ ps) ≡ 1 + count_by p ps = sum_by-cons (λ z. cond (p z) 1 0) x ps ∙ ap (λ b. cond b 1 0 + count_by p ps) now in
-    let old : count_by p (y ∷ ps) ≡ 0 + count_by p ps = sum_by-cons (λ z. cond (p z) 1 0) y ps ∙ ap (λ b. cond b 1 0 + count_by p ps) before in
-    omega (arith, new, old)
-count_set p (y ∷ ps) (suc k) x d lt before now =
-    let new : count_by p (y ∷ set ps k x) ≡ cond (p y) 1 0 + count_by p (set ps k x) = sum_by-cons (λ z. cond (p z) 1 0) y (set ps k x) in
-    let old : count_by p (y ∷ ps) ≡ cond (p y) 1 0 + count_by p ps = sum_by-cons (λ z. cond (p z) 1 0) y ps in
-    let rest : count_by p (set ps k x) ≡ count_by p ps + 1 = count_set p ps k x d (omega arith) before now in
-    omega (arith, new, old, rest)
+count_set p (y ∷ ps) zero x d lt before now = grind (arith, count-cons)
+count_set p (y ∷ ps) (suc k) x d lt before now = grind (arith, count_set p ps k x d, count-cons)
 
 -- ---- what is left out
 
 pub at_most : {A : Type 0} (p : A → Bool) (ys : List A) → length (filter (λ z. not (p z)) ys) ≤ length ys
 at_most p [] = omega arith
-at_most p (z ∷ ys) =
-    let rest : length (filter (λ w. not (p w)) ys) ≤ length ys = at_most p ys in
-    elim (p z) as (λ b. length (cond (not b) (z ∷ filter (λ w. not (p w)) ys) (filter (λ w. not (p w)) ys)) ≤ suc (length ys)) [
-      | true ↦ omega (arith, rest)
-      | false ↦ omega (arith, rest)
-    ]
+at_most p (z ∷ ys) = grind (arith, at_most p ys)
 
 -- at least one command fewer
 pub fewer : {A : Type 0} (p : A → Bool) (xs : List A) (x : A) → find p xs ≡ Some x → length (filter (λ y. not (p y)) xs) + 1 ≤ length xs
 fewer p [] x h = absurd cc
-fewer p (y ∷ xs) x h =
-    elim (p y) as (λ b. cond b (Some y) (find p xs) ≡ Some x → length (cond (not b) (y ∷ filter (λ z. not (p z)) xs) (filter (λ z. not (p z)) xs)) + 1 ≤ suc (length xs)) [
-      | true ↦ λ here. omega (arith, at_most p xs)
-      | false ↦ λ later. omega (arith, fewer p xs x later)
-    ] h
+fewer p (y ∷ xs) x h = grind (arith, fewer p xs x, at_most)
 
 -- ---- places
 
 pub count_shift : {A : Type 0} (p : Option A → Bool) (x : A) (ps : List (Option A)) → p None ≡ false → get_or ps 0 None ≡ Some x → count_by p (drop 1 ps ++ None ∷ []) + cond (p (Some x)) 1 0 ≡ count_by p ps
 count_shift p x [] none found = absurd cc
-count_shift p x (y ∷ ps) none found =
-    let first : count_by p (y ∷ ps) ≡ cond (p y) 1 0 + count_by p ps = sum_by-cons (λ z. cond (p z) 1 0) y ps in
-    let last : count_by p (ps ++ None ∷ []) ≡ count_by p ps + count_by p (None ∷ []) = sum_by-append (λ z. cond (p z) 1 0) ps (None ∷ []) in
-    let gone : count_by p (None ∷ []) ≡ 0 + 0 = sum_by-cons (λ z. cond (p z) 1 0) None [] ∙ ap (λ b. cond b 1 0 + 0) none in
-    omega (arith, first, last, gone, ap {B = ℕ} (λ z. cond (p z) 1 0) found)
+count_shift p x (y ∷ ps) none found = grind (arith, count-cons, sum_by-append)
 
 -- another element at a place
 pub count_replaced : {A : Type 0} (p : A → Bool) (ps : List A) (k : ℕ) (x d : A) → k < length ps → count_by p (set ps k x) + cond (p (get_or ps k d)) 1 0 ≡ count_by p ps + cond (p x) 1 0
 count_replaced p [] k x d lt = absurd (omega arith)
-count_replaced p (y ∷ ps) zero x d lt =
-    let new : count_by p (x ∷ ps) ≡ cond (p x) 1 0 + count_by p ps = sum_by-cons (λ z. cond (p z) 1 0) x ps in
-    let old : count_by p (y ∷ ps) ≡ cond (p y) 1 0 + count_by p ps = sum_by-cons (λ z. cond (p z) 1 0) y ps in
-    omega (arith, new, old)
-count_replaced p (y ∷ ps) (suc k) x d lt =
-    let new : count_by p (y ∷ set ps k x) ≡ cond (p y) 1 0 + count_by p (set ps k x) = sum_by-cons (λ z. cond (p z) 1 0) y (set ps k x) in
-    let old : count_by p (y ∷ ps) ≡ cond (p y) 1 0 + count_by p ps = sum_by-cons (λ z. cond (p z) 1 0) y ps in
-    let rest : count_by p (set ps k x) + cond (p (get_or ps k d)) 1 0 ≡ count_by p ps + cond (p x) 1 0 = count_replaced p ps k x d (omega arith) in
-    omega (arith, new, old, rest)
+count_replaced p (y ∷ ps) zero x d lt = grind (arith, count-cons)
+count_replaced p (y ∷ ps) (suc k) x d lt = grind (arith, count_replaced p ps k x d, count-cons)
 
 -- at least the one that is found is left out
 pub fewer_left : {A : Type 0} (p q : A → Bool) (xs : List A) (x : A) → find p xs ≡ Some x → q x ≡ true → length (filter (λ y. not (q y)) xs) + 1 ≤ length xs
 fewer_left p q [] x found is = absurd cc
-fewer_left p q (y ∷ xs) x found is =
-    elim (p y) as (λ b. cond b (Some y) (find p xs) ≡ Some x → length (filter (λ z. not (q z)) (y ∷ xs)) + 1 ≤ suc (length xs)) [
-      | true ↦ λ here.
-          let same : y ≡ x = cc in
-          let out : q y ≡ true = ap q same ∙ is in
-          omega (arith, at_most q xs, ap (λ b. length (cond (not b) (y ∷ filter (λ z. not (q z)) xs) (filter (λ z. not (q z)) xs))) out)
-      | false ↦ λ there.
-          let rest : length (filter (λ z. not (q z)) xs) + 1 ≤ length xs = fewer_left p q xs x there is in
-          elim (q y) as (λ b. length (cond (not b) (y ∷ filter (λ z. not (q z)) xs) (filter (λ z. not (q z)) xs)) + 1 ≤ suc (length xs)) [
-            | true ↦ omega (arith, rest)
-            | false ↦ omega (arith, rest)
-          ]
-    ] found
+fewer_left p q (y ∷ xs) x found is = grind (arith, fewer_left p q xs x, at_most)
 
 pub none_counted : {A : Type 0} (p : Option A → Bool) (n : ℕ) → p None ≡ false → count_by p (replicate n None) ≡ 0
 none_counted p zero h = refl
-none_counted p (suc n) h = sum_by-cons (λ y. cond (p y) 1 0) None (replicate n None) ∙ ap (λ b. cond b 1 0 + count_by p (replicate n None)) h ∙ (let rest : count_by p (replicate n None) ≡ 0 = none_counted p n h in omega (arith, rest))
+none_counted p (suc n) h = grind (arith, none_counted p n)
 
 pub count_places : {A : Type 0} (p : Option A → Bool) (q : ℕ → Bool) (ps : List (Option A)) (e : ℕ) → ((k : ℕ) → k < length ps → p (get_or ps k None) ≡ q (e + k)) → count_by p ps ≡ count_by q (range_with_len e (length ps))
 count_places p q [] e h = refl

@@ -1,6 +1,6 @@
 -- Delivery: in each run, the requests delivered are those admitted below ExpCmdSN, in the order of their numbers.
-use Rattle.std.proofs.Common.{◌≡◌, ℕ, zero, suc, ◌+◌, ◌-◌, ◌<◌, ◌≤◌, ◌||◌, cond, false, List, [], ◌∷◌, ◌++◌, map, None, option_map, refl, ap, sym, ◌∙◌, arith, append_assoc}
-use Rattle.std.specs.List.{list_any, filter_map, flat_map, range_with_len, cons_option}
+use Rattle.std.proofs.Common.{◌≡◌, ℕ, zero, suc, ◌+◌, ◌-◌, ◌<◌, ◌≤◌, false, List, [], ◌∷◌, ◌++◌, map, refl, ap, sym, ◌∙◌, arith, append_assoc}
+use Rattle.std.specs.List.{list_any, filter_map, flat_map, range_with_len}
 use Rattle.std.proofs.lemmas.List.{append-nil}
 use Rattle.std.proofs.lemmas.List.Elements.{filter_map-append}
 use Rattle.std.proofs.lemmas.Grind.{flat_map-append}
@@ -10,7 +10,7 @@ use Rattle.iscsi_history.specs.declared.effect.Effect.TheVariants.{Enable}
 use Rattle.iscsi_history.specs.declared.effect.Why.{Why}
 use Rattle.iscsi_history.specs.declared.event.Event.{Event}
 use Rattle.iscsi_history.specs.rules.Settings.{Setting}
-use Rattle.iscsi_history.specs.rules.Trace.{Arrival, Command, Mark, Admits, Delivers, Executes, Voids, Empties, Waits, Leaves, Enters, Sends, ClosesConn, ClosesSession, Ignores, Trace, after_items, shown, first_of, number_received, received, delivers_number, is_delivered, empties_number, is_emptied, held, admits_at, admitted}
+use Rattle.iscsi_history.specs.rules.Trace.{Command, Mark, Delivers, Ignores, Trace, after_items, shown, number_received, received, delivers_number, empties_number, held, admits_at}
 use Rattle.iscsi_history.specs.rules.Agenda.{items_of}
 use Rattle.iscsi_history.specs.rules.Run.{after_event, after_events, effects_of_mark, newly_enabled, effects_of_item, effects_of, entries_from}
 use Rattle.iscsi_history.specs.promises.Executed.{request_at, executed_below, delivers, delivered_by, delivered}
@@ -19,18 +19,8 @@ use Rattle.iscsi_history.specs.promises.Executed.{request_at, executed_below, de
 
 marks_deliver : (o : Setting) (t : Trace) (item : List Mark) → flat_map delivered_by (flat_map (effects_of_mark o t) item) ≡ filter_map delivers item
 marks_deliver o t [] = refl
-marks_deliver o t (Admits a ∷ ms) = marks_deliver o t ms
 marks_deliver o t (Delivers a ∷ ms) = ap (λ rs. a.request ∷ rs) (marks_deliver o t ms)
-marks_deliver o t (Executes a ∷ ms) = marks_deliver o t ms
-marks_deliver o t (Voids n ∷ ms) = marks_deliver o t ms
-marks_deliver o t (Empties a ∷ ms) = marks_deliver o t ms
-marks_deliver o t (Waits a ∷ ms) = marks_deliver o t ms
-marks_deliver o t (Leaves c ∷ ms) = marks_deliver o t ms
-marks_deliver o t (Enters c ∷ ms) = marks_deliver o t ms
-marks_deliver o t (Sends conn reply ∷ ms) = marks_deliver o t ms
-marks_deliver o t (ClosesConn conn ∷ ms) = marks_deliver o t ms
-marks_deliver o t (ClosesSession ∷ ms) = marks_deliver o t ms
-marks_deliver o t (Ignores why ∷ ms) = marks_deliver o t ms
+marks_deliver o t (m ∷ ms) = marks_deliver o t ms
 
 enables_deliver : (cs : List Command) → flat_map delivered_by (map (λ (c : Command). Enable c.ticket c.unit) cs) ≡ []
 enables_deliver [] = refl
@@ -45,11 +35,7 @@ item_delivers o t item =
 
 items_deliver : (o : Setting) (t : Trace) (items : List (List Mark)) → shown delivers (after_items items t) ≡ shown delivers t ++ flat_map delivered_by (effects_of o t items)
 items_deliver o t [] = sym (append-nil (shown delivers t))
-items_deliver o t (item ∷ items) =
-    items_deliver o (item ∷ t) items
-    ∙ append_assoc (shown delivers t) (filter_map delivers item) (flat_map delivered_by (effects_of o (item ∷ t) items))
-    ∙ ap (λ rs. shown delivers t ++ (rs ++ flat_map delivered_by (effects_of o (item ∷ t) items))) (sym (item_delivers o t item))
-    ∙ ap (λ rs. shown delivers t ++ rs) (sym (flat_map-append delivered_by (effects_of_item o t item) (effects_of o (item ∷ t) items)))
+items_deliver o t (item ∷ items) = grind (arith, items_deliver o (item ∷ t) items, append_assoc, item_delivers, flat_map-append)
 
 pub log_delivers : (o : Setting) (event : ℕ) (t : Trace) (h : List Event) → shown delivers (after_events o event t h) ≡ shown delivers t ++ delivered (entries_from o event t h)
 log_delivers o event t [] = sym (append-nil (shown delivers t))
@@ -74,9 +60,7 @@ executed_below-more o t n low =
 -- traces that admit the same at the numbers of a range
 pub same_range : (t t' : Trace) (a count : ℕ) → ((k : ℕ) → a ≤ k → k < a + count → request_at t k ≡ request_at t' k) → filter_map (request_at t) (range_with_len a count) ≡ filter_map (request_at t') (range_with_len a count)
 same_range t t' a zero h = refl
-same_range t t' a (suc count) h =
-    ap (λ x. cons_option x (filter_map (request_at t) (range_with_len (a + 1) count))) (h a (omega arith) (omega arith))
-    ∙ ap (cons_option (request_at t' a)) (same_range t t' (a + 1) count (λ k l u. h k (omega arith) (omega arith)))
+same_range t t' a (suc count) h = grind (arith, h a (omega arith) (omega arith), same_range t t' (a + 1) count (λ k l u. h k (omega arith) (omega arith)))
 
 -- an item that receives, admits and delivers nothing
 pub record IsQuiet (item : List Mark) : Type 0 where
@@ -96,15 +80,10 @@ pub admitted-quiet : (item : List Mark) (t : Trace) (n : ℕ) → IsQuiet item �
 admitted-quiet item t n q = ap (λ xs. shown (admits_at n) t ++ xs) (q.admits n) ∙ append-nil (shown (admits_at n) t)
 
 pub held-quiet : (item : List Mark) (t : Trace) (n : ℕ) → IsQuiet item → held (item ∷ t) n ≡ held t n
-held-quiet item t n q =
-    ap (λ b. cond ((b || is_delivered t n) || is_emptied (item ∷ t) n) None (admitted (item ∷ t) n)) (q.delivers_no n)
-    ∙ ap (λ b. cond (is_delivered t n || (b || is_emptied t n)) None (admitted (item ∷ t) n)) (q.empties_no n)
-    ∙ ap (λ xs. cond (is_delivered t n || is_emptied t n) None (first_of xs)) (admitted-quiet item t n q)
+held-quiet item t n q = grind (arith, q.delivers_no n, q.empties_no n, admitted-quiet item t n q)
 
 pub request_at-quiet : (item : List Mark) (t : Trace) (n : ℕ) → IsQuiet item → request_at (item ∷ t) n ≡ request_at t n
-request_at-quiet item t n q =
-    ap (λ b. cond (b || is_emptied t n) None (option_map (λ (a : Arrival). a.request) (admitted (item ∷ t) n))) (q.empties_no n)
-    ∙ ap (λ xs. cond (is_emptied t n) None (option_map (λ (a : Arrival). a.request) (first_of xs))) (admitted-quiet item t n q)
+request_at-quiet item t n q = grind (arith, q.empties_no n, admitted-quiet item t n q)
 
 pub executed_below-quiet : (o : Setting) (item : List Mark) (t : Trace) (n : ℕ) → IsQuiet item → executed_below o (item ∷ t) n ≡ executed_below o t n
 executed_below-quiet o item t n q =

@@ -1,8 +1,8 @@
 -- The elements of lists.
-use Rattle.std.proofs.Common.{◌≡◌, ℕ, zero, suc, ◌+◌, ◌<◌, ◌≤◌, ◌⊎◌, inl, inr, ⊎_elim, cond, Bool, true, false, List, [], ◌∷◌, ◌++◌, length, filter, get_or, Option, Some, None, refl, ap, sym, subst, ◌∙◌, arith}
+use Rattle.std.proofs.Common.{◌≡◌, ℕ, zero, suc, ◌+◌, ◌<◌, ◌≤◌, ◌⊎◌, inl, inr, ⊎_elim, Bool, true, List, [], ◌∷◌, ◌++◌, filter, Option, Some, ap, sym, ◌∙◌, arith}
 use Rattle.std.specs.List.{list_any, flat_map, range_with_len, cons_option}
 use Rattle.std.specs.Prelude.{Contains}
-use Rattle.std.proofs.lemmas.Bool.{false≢true, cases_eq}
+use Rattle.std.proofs.lemmas.Bool.{cases_eq}
 use Rattle.iscsi_history.specs.rules.Trace.{first_of}
 use Rattle.iscsi_history.proofs.BoolLemmas.{or_first, or_second}
 
@@ -13,19 +13,11 @@ In x (y ∷ ys) = (y ≡ x) ⊎ In x ys
 
 pub in-filter : {A : Type 0} (p : A → Bool) (xs : List A) (x : A) → In x (filter p xs) → In x xs × (p x ≡ true)
 in-filter p [] x h = absurd h
-in-filter p (y ∷ ys) x h =
-    elim (p y) as (λ b. p y ≡ b → In x (cond b (y ∷ filter p ys) (filter p ys)) → In x (y ∷ ys) × (p x ≡ true)) [
-      | true ↦ λ is k. ⊎_elim (λ same. (inl same, ap p (sym same) ∙ is)) (λ later. let r = in-filter p ys x later in (inr r.0, r.1)) k
-      | false ↦ λ is k. let r = in-filter p ys x k in (inr r.0, r.1)
-    ] refl h
+in-filter p (y ∷ ys) x h = grind (arith, in-filter p ys x)
 
 pub filter-in : {A : Type 0} (p : A → Bool) (xs : List A) (x : A) → In x xs → p x ≡ true → In x (filter p xs)
 filter-in p [] x h passes = absurd h
-filter-in p (y ∷ ys) x h passes =
-    elim (p y) as (λ b. p y ≡ b → In x (cond b (y ∷ filter p ys) (filter p ys))) [
-      | true ↦ λ is. ⊎_elim (λ same. inl same) (λ later. inr (filter-in p ys x later passes)) h
-      | false ↦ λ is. ⊎_elim (λ same. absurd (false≢true (sym is ∙ ap p same ∙ passes))) (λ later. filter-in p ys x later passes) h
-    ] refl
+filter-in p (y ∷ ys) x h passes = grind (arith, filter-in p ys x)
 
 pub in-append : {A : Type 0} (xs ys : List A) (x : A) → In x (xs ++ ys) → In x xs ⊎ In x ys
 in-append [] ys x h = inr h
@@ -41,17 +33,14 @@ append-in_second (z ∷ xs) ys x h = inr (append-in_second xs ys x h)
 
 pub flat_map-in : {A : Type 0} (f : ℕ → List A) (ns : List ℕ) (n : ℕ) (x : A) → In n ns → In x (f n) → In x (flat_map f ns)
 flat_map-in f [] n x there h = absurd there
-flat_map-in f (m ∷ ns) n x there h =
-    ⊎_elim (λ same. append-in_first (f m) (flat_map f ns) x (subst (λ k. In x (f k)) (sym same) h))
-    (λ later. append-in_second (f m) (flat_map f ns) x (flat_map-in f ns n x later h)) there
+flat_map-in f (m ∷ ns) n x there h = grind (arith, flat_map-in f ns n x, append-in_first, append-in_second)
 
 pub range-in : (a count n : ℕ) → a ≤ n → n < a + count → In n (range_with_len a count)
 range-in a zero n low high = absurd (omega arith)
 range-in a (suc count) n low high = ⊎_elim (λ same. inl (sym same)) (λ apart. inr (range-in (a + 1) count n (omega arith) (omega arith))) (cases_eq n a)
 
 pub in-cons : {A : Type 0} (x : Option A) (xs : List A) (y : A) → In y (cons_option x xs) → (x ≡ Some y) ⊎ In y xs
-in-cons None xs y h = inr h
-in-cons (Some x) xs y h = ⊎_elim (λ same. inl (ap Some same)) (λ later. inr later) h
+in-cons x xs y h = grind arith
 
 -- where an element passes, some does
 pub in-any : {A : Type 0} (p : A → Bool) (xs : List A) (x : A) → In x xs → p x ≡ true → list_any p xs ≡ true
@@ -61,12 +50,7 @@ in-any p (y ∷ ys) x h passes = ⊎_elim (λ same. or_first (p y) (list_any p y
 -- std's word for it
 pub in-contains : {A : Type 0} (xs : List A) (x : A) → Contains xs x → In x xs
 in-contains [] x h = absurd (let none : h.0 < 0 = h.1 in omega arith)
-in-contains (y ∷ xs) x h = at h.0 h.1 h.2 (in-contains xs x)
-  where
-    at : (k : ℕ) → k < length (y ∷ xs) → get_or (y ∷ xs) k x ≡ x → (Contains xs x → In x xs) → In x (y ∷ xs)
-    at zero lt is later = inl is
-    at (suc k) lt is later = inr (later (k, (let z : k < length xs = omega arith in z), is))
+in-contains (y ∷ xs) x h = grind (arith, in-contains xs x)
 
 pub first-in : {A : Type 0} (xs : List A) (x : A) → first_of xs ≡ Some x → In x xs
-first-in [] x h = absurd cc
-first-in (y ∷ xs) x h = inl (let same : y ≡ x = cc in same)
+first-in xs x h = grind arith

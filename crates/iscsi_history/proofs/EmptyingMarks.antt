@@ -1,14 +1,15 @@
 -- Items that receive a number without a request, and items that take held requests out.
-use Rattle.std.proofs.Common.{List, ◌∷◌, refl, [], false, ℕ, ◌≡◌, ◌==◌, ap, sym, ◌||◌, ◌∙◌, ◌++◌, None, cond, option_map, eq-eqb, Bool, map, Some, ◌+◌, ◌<◌, arith, suc, zero, ◌≤◌, Option, append_assoc, true}
+use Rattle.std.proofs.Common.{List, ◌∷◌, refl, [], false, ℕ, ◌≡◌, ◌==◌, ap, sym, ◌||◌, ◌∙◌, ◌++◌, None, cond, Bool, map, Some, ◌+◌, ◌<◌, arith, suc, zero, ◌≤◌, Option, append_assoc}
 use Rattle.std.specs.List.{filter_map, list_any, cons_option, range_with_len}
 use Rattle.std.proofs.lemmas.List.{append-nil}
 use Rattle.std.proofs.lemmas.Grind.{flat_map-append}
-use Rattle.iscsi_history.specs.rules.Trace.{Arrival, Executes, Mark, Trace, admits_at, delivers_number, empties_number, number_received, Voids, Empties, admitted, contains, first_of, held, is_delivered, is_emptied, is_received, shown, received, Command, Leaves, Enters, Sends, held_among, has}
+use Rattle.iscsi_history.proofs.DeedLemmas.{views, tests}
+use Rattle.iscsi_history.specs.rules.Trace.{Arrival, Executes, Mark, Trace, admits_at, delivers_number, empties_number, number_received, Voids, Empties, admitted, contains, held, is_delivered, is_emptied, is_received, shown, received, Command, Leaves, Enters, Sends, held_among, has}
 use Rattle.iscsi_wire.specs.declared.reply.Reply.{Reply}
 use Rattle.iscsi_history.specs.promises.Executed.{delivers, request_at}
 use Rattle.iscsi_history.proofs.DeliveryLemmas.{IsQuiet}
 use Rattle.iscsi_history.proofs.ListLemmas.{none_first, range-parts}
-use Rattle.iscsi_history.proofs.BoolLemmas.{or_false, or_second}
+use Rattle.iscsi_history.proofs.BoolLemmas.{or_false}
 use Rattle.iscsi_history.proofs.TraceLemmas.{received-item}
 
 -- ---- quiet items
@@ -35,23 +36,17 @@ pub record VoidsOne (item : List Mark) (n : ℕ) : Type 0 where
   pub delivers_no : (k : ℕ) → list_any (delivers_number k) item ≡ false
   pub empties_no : (k : ℕ) → list_any (empties_number k) item ≡ false
 
--- an item that empties this number alone, and receives, admits and delivers nothing
-pub record EmptiesOne (item : List Mark) (n : ℕ) : Type 0 where
+-- an item that empties these numbers, and receives, admits and delivers nothing
+pub record EmptiesThese (item : List Mark) (out : ℕ → Bool) : Type 0 where
   pub receives : filter_map number_received item ≡ []
   pub admits : (k : ℕ) → filter_map (admits_at k) item ≡ []
   pub delivers_none : filter_map delivers item ≡ []
   pub delivers_no : (k : ℕ) → list_any (delivers_number k) item ≡ false
-  pub empties : (k : ℕ) → list_any (empties_number k) item ≡ (n == k)
+  pub empties : (k : ℕ) → list_any (empties_number k) item ≡ out k
 
--- a quiet mark before quiet ones
-pub quiet-both : (m : Mark) (ms : List Mark) → IsQuiet (m ∷ []) → IsQuiet ms → IsQuiet (m ∷ ms)
-quiet-both m ms q qs = record {
-  receives = ap (λ x. cons_option x (filter_map number_received ms)) (none_first (number_received m) q.receives) ∙ qs.receives;
-  admits = λ k. ap (λ x. cons_option x (filter_map (admits_at k) ms)) (none_first (admits_at k m) (q.admits k)) ∙ qs.admits k;
-  delivers_none = ap (λ x. cons_option x (filter_map delivers ms)) (none_first (delivers m) q.delivers_none) ∙ qs.delivers_none;
-  delivers_no = λ k. ap (λ b. b || list_any (delivers_number k) ms) (sym (or_false (delivers_number k m)) ∙ q.delivers_no k) ∙ qs.delivers_no k;
-  empties_no = λ k. ap (λ b. b || list_any (empties_number k) ms) (sym (or_false (empties_number k m)) ∙ q.empties_no k) ∙ qs.empties_no k;
-}
+-- this number alone
+abbrev pub EmptiesOne : List Mark → ℕ → Type 0
+EmptiesOne item n = EmptiesThese item (λ k. n == k)
 
 pub voids-one : (m : Mark) (n : ℕ) (ms : List Mark) → IsQuiet (m ∷ []) → IsQuiet ms → VoidsOne (m ∷ Voids n ∷ ms) n
 voids-one m n ms q qs = record {
@@ -81,15 +76,10 @@ module _ (item : List Mark) (t : Trace) (n : ℕ) (v : VoidsOne item n) where
   admitted-voids k = ap (λ xs. shown (admits_at k) t ++ xs) (v.admits k) ∙ append-nil (shown (admits_at k) t)
 
   pub held-voids : (k : ℕ) → held (item ∷ t) k ≡ held t k
-  held-voids k =
-      ap (λ b. cond ((b || is_delivered t k) || is_emptied (item ∷ t) k) None (admitted (item ∷ t) k)) (v.delivers_no k)
-      ∙ ap (λ b. cond (is_delivered t k || (b || is_emptied t k)) None (admitted (item ∷ t) k)) (v.empties_no k)
-      ∙ ap (λ xs. cond (is_delivered t k || is_emptied t k) None (first_of xs)) (admitted-voids k)
+  held-voids k = grind (arith, v.delivers_no k, v.empties_no k, admitted-voids k)
 
   pub request_at-voids : (k : ℕ) → request_at (item ∷ t) k ≡ request_at t k
-  request_at-voids k =
-      ap (λ b. cond (b || is_emptied t k) None (option_map (λ (a : Arrival). a.request) (admitted (item ∷ t) k))) (v.empties_no k)
-      ∙ ap (λ xs. cond (is_emptied t k) None (option_map (λ (a : Arrival). a.request) (first_of xs))) (admitted-voids k)
+  request_at-voids k = grind (arith, v.empties_no k, admitted-voids k)
 
 -- ---- a request is taken out
 
@@ -104,50 +94,32 @@ module _ (item : List Mark) (t : Trace) (n : ℕ) (v : EmptiesOne item n) where
   emptied-empties k = ap (λ b. b || is_emptied t k) (v.empties k)
 
   pub held-empties : (k : ℕ) → held (item ∷ t) k ≡ cond (is_delivered t k || ((n == k) || is_emptied t k)) None (admitted t k)
-  held-empties k =
-      ap (λ b. cond ((b || is_delivered t k) || is_emptied (item ∷ t) k) None (admitted (item ∷ t) k)) (v.delivers_no k)
-      ∙ ap (λ b. cond (is_delivered t k || b) None (admitted (item ∷ t) k)) (emptied-empties k)
-      ∙ ap (λ xs. cond (is_delivered t k || ((n == k) || is_emptied t k)) None (first_of xs)) (admitted-empties k)
+  held-empties k = grind (arith, v.delivers_no k, admitted-empties k)
 
   pub held-other : (k : ℕ) → (n == k) ≡ false → held (item ∷ t) k ≡ held t k
   held-other k apart = held-empties k ∙ ap (λ b. cond (is_delivered t k || (b || is_emptied t k)) None (admitted t k)) apart
 
   pub held-gone : held (item ∷ t) n ≡ None
-  held-gone =
-      held-empties n
-      ∙ ap (λ b. cond b None (admitted t n)) (or_second (is_delivered t n) ((n == n) || is_emptied t n) (ap (λ b. b || is_emptied t n) (eq-eqb n n refl)))
+  held-gone = grind (arith, held-empties n)
 
   pub request_at-empties : (k : ℕ) → (n == k) ≡ false → request_at (item ∷ t) k ≡ request_at t k
-  request_at-empties k apart =
-      ap (λ b. cond b None (option_map (λ (a : Arrival). a.request) (admitted (item ∷ t) k))) (emptied-empties k ∙ ap (λ b. b || is_emptied t k) apart)
-      ∙ ap (λ xs. cond (is_emptied t k) None (option_map (λ (a : Arrival). a.request) (first_of xs))) (admitted-empties k)
+  request_at-empties k apart = grind (arith, admitted-empties k)
 
 -- ---- requests are taken out together
-
--- an item that empties these numbers, and receives, admits and delivers nothing
-pub record EmptiesThese (item : List Mark) (out : ℕ → Bool) : Type 0 where
-  pub receives : filter_map number_received item ≡ []
-  pub admits : (k : ℕ) → filter_map (admits_at k) item ≡ []
-  pub delivers_none : filter_map delivers item ≡ []
-  pub delivers_no : (k : ℕ) → list_any (delivers_number k) item ≡ false
-  pub empties : (k : ℕ) → list_any (empties_number k) item ≡ out k
 
 -- some of these requests has the number
 abbrev pub is_number_of : List Arrival → ℕ → Bool
 is_number_of hs n = list_any (λ (a : Arrival). a.number == n) hs
 
-empties-held : (hs : List Arrival) (rest : List Mark) → IsQuiet rest → EmptiesThese (map Empties hs ++ rest) (is_number_of hs)
-empties-held [] rest q = record { receives = q.receives; admits = q.admits; delivers_none = q.delivers_none; delivers_no = q.delivers_no; empties = q.empties_no }
-empties-held (h ∷ hs) rest q =
-    let e : EmptiesThese (map Empties hs ++ rest) (is_number_of hs) = empties-held hs rest q in
-    record { receives = e.receives; admits = e.admits; delivers_none = e.delivers_none; delivers_no = e.delivers_no; empties = λ k. ap (λ b. (h.number == k) || b) (e.empties k) }
-
 -- commands leave, requests are taken out, and quiet marks follow
 pub empties-these : (cs : List Command) (hs : List Arrival) (rest : List Mark) → IsQuiet rest → EmptiesThese ((map Leaves cs ++ map Empties hs) ++ rest) (is_number_of hs)
-empties-these [] hs rest q = empties-held hs rest q
-empties-these (c ∷ cs) hs rest q =
-    let e : EmptiesThese ((map Leaves cs ++ map Empties hs) ++ rest) (is_number_of hs) = empties-these cs hs rest q in
-    record { receives = e.receives; admits = e.admits; delivers_none = e.delivers_none; delivers_no = e.delivers_no; empties = e.empties }
+empties-these cs hs rest q = record {
+  receives = simp (views, q.receives);
+  admits = λ k. simp (views, q.admits k);
+  delivers_none = simp (views, q.delivers_none);
+  delivers_no = λ k. simp (tests, q.delivers_no k);
+  empties = λ k. simp (tests, q.empties_no k);
+}
 
 -- ---- the requests that are held at the numbers of a range
 
@@ -165,8 +137,7 @@ module _ (t : Trace) where
   pub held_from-none : (a count : ℕ) → ((n : ℕ) → a ≤ n → n < a + count → held t n ≡ None) → held_from t a count ≡ []
   held_from-none a zero none = refl
   held_from-none a (suc count) none =
-      ap (λ x. (let l : List Arrival = elim x [ Some b ↦ b ∷ [] | None ↦ [] ] in l) ++ held_from t (a + 1) count) (none a (omega arith) (omega arith))
-      ∙ held_from-none (a + 1) count (λ n l u. none n (omega arith) (omega arith))
+      grind (arith, none a (omega arith) (omega arith), held_from-none (a + 1) count (λ n l u. none n (omega arith) (omega arith)))
 
 -- ---- items that are joined
 
@@ -180,38 +151,7 @@ pub record SameNumbers (t t' : Trace) : Type 0 where
 
 module _ (m : Mark) (ms : List Mark) (t : Trace) where
   pub shown-joined : {A : Type 0} (view : Mark → Option A) → shown view ((m ∷ ms) ∷ t) ≡ shown view (ms ∷ (m ∷ []) ∷ t)
-  shown-joined {A} view = by_first (view m)
-    where
-      by_first : (x : Option A) → shown view t ++ cons_option x (filter_map view ms) ≡ (shown view t ++ cons_option x []) ++ filter_map view ms
-      by_first None = ap (λ xs. xs ++ filter_map view ms) (sym (append-nil (shown view t)))
-      by_first (Some x) = sym (append_assoc (shown view t) (x ∷ []) (filter_map view ms))
-
-  pub has-joined : (test : Mark → Bool) → has test ((m ∷ ms) ∷ t) ≡ has test (ms ∷ (m ∷ []) ∷ t)
-  has-joined test = by_tests (test m) (list_any test ms) (has test t)
-    where
-      by_tests : (a b c : Bool) → ((a || b) || c) ≡ (b || ((a || false) || c))
-      by_tests true true c = refl
-      by_tests true false c = refl
-      by_tests false true c = refl
-      by_tests false false c = refl
+  shown-joined {A} view = grind (arith, append_assoc)
 
   pub joined-same : SameNumbers (ms ∷ (m ∷ []) ∷ t) ((m ∷ ms) ∷ t)
-  joined-same = record {
-    received_is = shown-joined number_received;
-    admitted_is = λ n. ap first_of (shown-joined (admits_at n));
-    delivered_is = λ n. has-joined (delivers_number n);
-    emptied_is = λ n. has-joined (empties_number n);
-    delivers_is = shown-joined delivers;
-  }
-
-module _ (t t' : Trace) (s : SameNumbers t t') where
-  pub held-same : (n : ℕ) → held t' n ≡ held t n
-  held-same n =
-      ap (λ b. cond (b || is_emptied t' n) None (admitted t' n)) (s.delivered_is n)
-      ∙ ap (λ b. cond (is_delivered t n || b) None (admitted t' n)) (s.emptied_is n)
-      ∙ ap (λ x. cond (is_delivered t n || is_emptied t n) None x) (s.admitted_is n)
-
-  pub request_at-same : (n : ℕ) → request_at t' n ≡ request_at t n
-  request_at-same n =
-      ap (λ b. cond b None (option_map (λ (a : Arrival). a.request) (admitted t' n))) (s.emptied_is n)
-      ∙ ap (λ x. cond (is_emptied t n) None (option_map (λ (a : Arrival). a.request) x)) (s.admitted_is n)
+  joined-same = grind (arith, shown-joined)

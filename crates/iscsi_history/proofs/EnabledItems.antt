@@ -1,39 +1,25 @@
 -- What is enabled and live after an item, and the commands that were shown as enabled.
-use Rattle.std.proofs.Common.{Bool, List, false, refl, true, ◌||◌, ◌∷◌, ◌≡◌, ◌+◌, ◌++◌, ◌<◌, ◌==◌, [], ap, arith, suc, zero, ℕ, ◌∙◌, ◌≤◌, ⊎_elim, ◌&&◌, not, cond, eq-eqb, filter, sym, nat_lt}
+use Rattle.std.proofs.Common.{Bool, List, false, refl, true, ◌||◌, ◌∷◌, ◌≡◌, ◌+◌, ◌++◌, ◌<◌, ◌==◌, [], ap, arith, suc, zero, ℕ, ◌∙◌, ◌≤◌, ◌&&◌, not, filter, sym, nat_lt}
 use Rattle.std.specs.List.{flat_map, range_with_len, list_any, list_all}
 use Rattle.std.proofs.lemmas.List.{append-nil}
-use Rattle.std.proofs.lemmas.Bool.{cases_eq, false≢true, eqb-true}
-use Rattle.std.proofs.lemmas.Bool.Decides.{nat_tests}
 use Rattle.std.proofs.lemmas.List.Folds.{list_any-append}
-use Rattle.iscsi_history.specs.rules.Trace.{Command, Mark, Trace, is_free_at, was_free, live_in, Admits, ClosesConn, ClosesSession, Delivers, Empties, Enters, Executes, Ignores, Leaves, Sends, Voids, Waits, leaves_ticket, has, is_among, live}
+use Rattle.iscsi_history.specs.rules.Trace.{Command, Mark, Trace, was_free, live_in, leaves_ticket, has, is_among, live}
 use Rattle.iscsi_history.specs.rules.Settings.{Setting}
 use Rattle.iscsi_history.specs.rules.Run.{newly_enabled, effects_of_mark, effects_of_item}
 use Rattle.iscsi_history.specs.promises.Enabling.{is_leave, effects_so_far, is_enable, is_shown_enabled, is_enabled, EnabledSoFar}
 use Rattle.iscsi_history.proofs.NewlyLemmas.{flat_map-none, new_in, new_in-none, is_here, was_free-stays, Untouched, live-untouched, live_in-untouched, newly-untouched, any_or, is_new, newly_among, was_or_new}
-use Rattle.iscsi_history.proofs.MomentLemmas.{enables, item_enables, left_unlive}
-use Rattle.iscsi_history.proofs.BoolLemmas.{or_false, or_comm, and_both, or_second, and_false}
+use Rattle.iscsi_history.proofs.MomentLemmas.{enables, enables_none, shown_so_far, item_enables, left_unlive}
+use Rattle.iscsi_history.proofs.BoolLemmas.{or_false, or_second, and_false}
 use Rattle.iscsi_history.proofs.TraceLemmas.{weaker}
 use Rattle.iscsi_history.proofs.ListLemmas.{any_all}
 use Rattle.iscsi_history.proofs.CommandItems.{LeavesSome, live-left, none_any}
 
 pub was_before : (c : Command) (item : List Mark) (t : Trace) → (was_free c t || was_free c (item ∷ t)) ≡ was_free c (item ∷ t)
-was_before c item t = absorb (was_free c t) (is_free_at c (item ∷ t))
-  where
-    absorb : (a b : Bool) → (a || (b || a)) ≡ (b || a)
-    absorb true true = refl
-    absorb true false = refl
-    absorb false true = refl
-    absorb false false = refl
+was_before c item t = grind arith
 
 flat_map-one : {A : Type 0} (f : ℕ → List A) (from n k : ℕ) → from ≤ k → k < from + n → ((j : ℕ) → (j == k) ≡ false → f j ≡ []) → flat_map f (range_with_len from n) ≡ f k
 flat_map-one f from zero k low high none = absurd (omega arith)
-flat_map-one f from (suc n) k low high none =
-    ⊎_elim
-    (λ here.
-    ap (λ ys. f from ++ ys) (flat_map-none f (from + 1) n (λ j le. none j (let no : (j == k) ≡ false = grind (arith, nat_tests) in no)))
-    ∙ append-nil (f from) ∙ ap f here)
-    (λ apart. ap (λ ys. ys ++ flat_map f (range_with_len (from + 1) n)) (none from (let no : (from == k) ≡ false = grind (arith, nat_tests) in no)) ∙ flat_map-one f (from + 1) n k (omega arith) (omega arith) none)
-    (cases_eq from k)
+flat_map-one f from (suc n) k low high none = grind (arith, flat_map-one f (from + 1) n k, flat_map-none, append-nil)
 
 -- one that touches a single unit enables commands of that one
 pub newly-one : (o : Setting) (item : List Mark) (t : Trace) (unit : ℕ) → unit < o.units → ((other : ℕ) → (other == unit) ≡ false → live_in other (item ∷ t) ≡ live_in other t) → newly_enabled o t item ≡ new_in t item unit
@@ -41,39 +27,15 @@ newly-one o item t unit inside same = flat_map-one (new_in t item) 0 o.units uni
 
 -- ---- what the effects show
 
-left_marks : (o : Setting) (t : Trace) (k : ℕ) (item : List Mark) → list_any (is_leave k) (flat_map (effects_of_mark o t) item) ≡ list_any (leaves_ticket k) item
-left_marks o t k [] = refl
-left_marks o t k (Admits a ∷ ms) = left_marks o t k ms
-left_marks o t k (Delivers a ∷ ms) = left_marks o t k ms
-left_marks o t k (Executes a ∷ ms) = left_marks o t k ms
-left_marks o t k (Voids n ∷ ms) = left_marks o t k ms
-left_marks o t k (Empties a ∷ ms) = left_marks o t k ms
-left_marks o t k (Waits a ∷ ms) = left_marks o t k ms
-left_marks o t k (Leaves c ∷ ms) = ap (λ b. (c.ticket == k) || b) (left_marks o t k ms)
-left_marks o t k (Enters c ∷ ms) = left_marks o t k ms
-left_marks o t k (Sends conn reply ∷ ms) = left_marks o t k ms
-left_marks o t k (ClosesConn conn ∷ ms) = left_marks o t k ms
-left_marks o t k (ClosesSession ∷ ms) = left_marks o t k ms
-left_marks o t k (Ignores why ∷ ms) = left_marks o t k ms
-
-no_leave : (k : ℕ) (cs : List Command) → list_any (is_leave k) (enables cs) ≡ false
-no_leave k [] = refl
-no_leave k (c ∷ cs) = no_leave k cs
-
-item_leaves : (o : Setting) (t : Trace) (item : List Mark) (k : ℕ) → list_any (is_leave k) (effects_of_item o t item) ≡ list_any (leaves_ticket k) item
-item_leaves o t item k =
-    list_any-append (is_leave k) (flat_map (effects_of_mark o t) item) (enables (newly_enabled o t item))
-    ∙ ap (λ b. list_any (is_leave k) (flat_map (effects_of_mark o t) item) || b) (no_leave k (newly_enabled o t item))
-    ∙ or_false (list_any (is_leave k) (flat_map (effects_of_mark o t) item)) ∙ left_marks o t k item
-
 -- the commands that left, by the effects, are those of the marks
 left_so_far : (o : Setting) (t : Trace) (k : ℕ) → list_any (is_leave k) (effects_so_far o t) ≡ has (leaves_ticket k) t
-left_so_far o [] k = refl
-left_so_far o (item ∷ t) k =
-    list_any-append (is_leave k) (effects_so_far o t) (effects_of_item o t item)
-    ∙ ap (λ b. b || list_any (is_leave k) (effects_of_item o t item)) (left_so_far o t k)
-    ∙ ap (λ b. has (leaves_ticket k) t || b) (item_leaves o t item k)
-    ∙ or_comm (has (leaves_ticket k) t) (list_any (leaves_ticket k) item)
+left_so_far o t k = shown_so_far o (is_leave k) (leaves_ticket k) (λ ticket unit. refl) left_mark t
+  where
+    left_mark : (t : Trace) (m : Mark) → list_any (is_leave k) (effects_of_mark o t m) ≡ leaves_ticket k m
+    left_mark t m = grind arith
+
+no_leave : (k : ℕ) (cs : List Command) → list_any (is_leave k) (enables cs) ≡ false
+no_leave k cs = enables_none (is_leave k) (λ ticket unit. refl) cs
 
 abbrev pub enabled_once : Setting → Trace → ℕ → Bool
 enabled_once o t k = list_any (is_enable k) (effects_so_far o t)
@@ -81,8 +43,7 @@ enabled_once o t k = list_any (is_enable k) (effects_so_far o t)
 -- what is shown after an item, by what was shown before
 pub shown-item : (o : Setting) (t : Trace) (item : List Mark) (k : ℕ) → is_shown_enabled k (effects_so_far o (item ∷ t)) ≡ ((enabled_once o t k || is_among k (newly_enabled o t item)) && not (list_any (leaves_ticket k) item || has (leaves_ticket k) t))
 shown-item o t item k =
-    ap (λ b. list_any (is_enable k) (effects_so_far o (item ∷ t)) && not b) (left_so_far o (item ∷ t) k)
-    ∙ ap (λ b. b && not (has (leaves_ticket k) (item ∷ t))) (list_any-append (is_enable k) (effects_so_far o t) (effects_of_item o t item) ∙ ap (λ b. enabled_once o t k || b) (item_enables o t item k))
+    grind (arith, left_so_far o (item ∷ t) k, list_any-append (is_enable k) (effects_so_far o t) (effects_of_item o t item), item_enables o t item k)
 
 pub shown-before : (o : Setting) (t : Trace) (k : ℕ) → is_shown_enabled k (effects_so_far o t) ≡ (enabled_once o t k && not (has (leaves_ticket k) t))
 shown-before o t k = ap (λ b. enabled_once o t k && not b) (left_so_far o t k)
@@ -92,21 +53,7 @@ shown-before o t k = ap (λ b. enabled_once o t k && not b) (left_so_far o t k)
 -- each is among those of its unit
 all_in_unit : (cs : List Command) → list_all (λ (c : Command). is_here c.unit (filter (λ (d : Command). d.unit == c.unit) cs) c) cs ≡ true
 all_in_unit [] = refl
-all_in_unit (x ∷ cs) =
-    and_both (is_here x.unit (filter (λ (d : Command). d.unit == x.unit) (x ∷ cs)) x) (list_all (λ (c : Command). is_here c.unit (filter (λ (d : Command). d.unit == c.unit) (x ∷ cs)) c) cs)
-    (ap (λ b. b && is_among x.ticket (cond b (x ∷ filter (λ (d : Command). d.unit == x.unit) cs) (filter (λ (d : Command). d.unit == x.unit) cs))) (eq-eqb x.unit x.unit refl) ∙ ap (λ b. b || is_among x.ticket (filter (λ (d : Command). d.unit == x.unit) cs)) (eq-eqb x.ticket x.ticket refl))
-    (weaker (λ (c : Command). is_here c.unit (filter (λ (d : Command). d.unit == c.unit) cs) c) (λ (c : Command). is_here c.unit (filter (λ (d : Command). d.unit == c.unit) (x ∷ cs)) c) cs grows (all_in_unit cs))
-  where
-    grows : (c : Command) → is_here c.unit (filter (λ (d : Command). d.unit == c.unit) cs) c ≡ true → is_here c.unit (filter (λ (d : Command). d.unit == c.unit) (x ∷ cs)) c ≡ true
-    grows c h =
-        elim (x.unit == c.unit) as (λ b. ((c.unit == c.unit) && is_among c.ticket (cond b (x ∷ filter (λ (d : Command). d.unit == c.unit) cs) (filter (λ (d : Command). d.unit == c.unit) cs))) ≡ true) [
-          | true ↦ more (c.unit == c.unit) (x.ticket == c.ticket) (is_among c.ticket (filter (λ (d : Command). d.unit == c.unit) cs)) h
-          | false ↦ h
-        ]
-      where
-        more : (a b e : Bool) → (a && e) ≡ true → (a && (b || e)) ≡ true
-        more true b e k = or_second b e k
-        more false b e k = absurd (false≢true k)
+all_in_unit (x ∷ cs) = grind (arith, all_in_unit cs, weaker)
 
 -- ---- an item that nothing enters or leaves by
 
@@ -134,30 +81,12 @@ exact-untouched o item t u x k =
 -- those with other tickets don't matter
 any_without : (w : Command → Bool) (out : ℕ → Bool) (k : ℕ) (cs : List Command) → out k ≡ false → list_any (λ d. d.ticket == k && w d) (filter (λ d. not (out d.ticket)) cs) ≡ list_any (λ d. d.ticket == k && w d) cs
 any_without w out k [] stays = refl
-any_without w out k (x ∷ cs) stays =
-    let away : List Command = filter (λ d. not (out d.ticket)) cs in
-    elim (x.ticket == k) as (λ b. (x.ticket == k) ≡ b → list_any (λ d. d.ticket == k && w d) (filter (λ d. not (out d.ticket)) (x ∷ cs)) ≡ ((b && w x) || list_any (λ d. d.ticket == k && w d) cs)) [
-      | true ↦ λ is.
-          ap (λ b. list_any (λ d. d.ticket == k && w d) (cond (not b) (x ∷ away) away)) (ap out (eqb-true x.ticket k is) ∙ stays)
-          ∙ ap (λ b. (b && w x) || list_any (λ d. d.ticket == k && w d) away) is ∙ ap (λ b. w x || b) (any_without w out k cs stays)
-      | false ↦ λ is. elim (out x.ticket) as (λ b. list_any (λ d. d.ticket == k && w d) (cond (not b) (x ∷ away) away) ≡ list_any (λ d. d.ticket == k && w d) cs) [
-        | true ↦ any_without w out k cs stays
-        | false ↦ ap (λ b. (b && w x) || list_any (λ d. d.ticket == k && w d) away) is ∙ any_without w out k cs stays
-      ]
-    ] refl
+any_without w out k (x ∷ cs) stays = grind (arith, any_without w out k cs)
 
 -- those with the ticket are gone
 none_gone : (out : ℕ → Bool) (k : ℕ) (cs : List Command) → out k ≡ true → is_among k (filter (λ d. not (out d.ticket)) cs) ≡ false
 none_gone out k [] goes = refl
-none_gone out k (x ∷ cs) goes =
-    let away : List Command = filter (λ d. not (out d.ticket)) cs in
-    elim (x.ticket == k) as (λ b. (x.ticket == k) ≡ b → is_among k (filter (λ d. not (out d.ticket)) (x ∷ cs)) ≡ false) [
-      | true ↦ λ is. ap (λ b. is_among k (cond (not b) (x ∷ away) away)) (ap out (eqb-true x.ticket k is) ∙ goes) ∙ none_gone out k cs goes
-      | false ↦ λ is. elim (out x.ticket) as (λ b. is_among k (cond (not b) (x ∷ away) away) ≡ false) [
-        | true ↦ none_gone out k cs goes
-        | false ↦ ap (λ b. b || is_among k away) is ∙ none_gone out k cs goes
-      ]
-    ] refl
+none_gone out k (x ∷ cs) goes = grind (arith, none_gone out k cs)
 
 exact-left : (o : Setting) (item : List Mark) (t : Trace) (out : ℕ → Bool) → LeavesSome item out → list_all (λ d. nat_lt d.unit o.units) (live (item ∷ t)) ≡ true → Exact o t → Exact o (item ∷ t)
 exact-left o item t out l regular x k =
@@ -173,11 +102,7 @@ exact-left o item t out l regular x k =
     newly_is = newly_among o item t k regular
 
     bools : (was new left : Bool) → (left ≡ true → new ≡ false) → ((was || new) && not left) ≡ ((was && not left) || new)
-    bools true new true h = sym (h refl)
-    bools true new false h = refl
-    bools false true true h = absurd (false≢true (sym (h refl)))
-    bools false true false h = refl
-    bools false false left h = refl
+    bools was new left h = grind arith
 
     -- nothing that left before is new now
     unnew : has (leaves_ticket k) t ≡ true → is_among k (newly_enabled o t item) ≡ false
@@ -185,8 +110,7 @@ exact-left o item t out l regular x k =
 
     by_ticket : (b : Bool) → out k ≡ b → ((enabled_once o t k || is_among k (newly_enabled o t item)) && not (b || has (leaves_ticket k) t)) ≡ list_any (λ d. d.ticket == k && was_free d (item ∷ t)) rest
     by_ticket true is =
-        and_false (enabled_once o t k || is_among k (newly_enabled o t item))
-        ∙ sym (none_any (λ d. was_free d (item ∷ t)) k rest (none_gone out k (live t) is))
+        cc (and_false (enabled_once o t k || is_among k (newly_enabled o t item)), none_any (λ d. was_free d (item ∷ t)) k rest (none_gone out k (live t) is))
     by_ticket false is =
         bools (enabled_once o t k) (is_among k (newly_enabled o t item)) (has (leaves_ticket k) t) unnew
         ∙ ap (λ b. b || is_among k (newly_enabled o t item)) (sym (shown-before o t k) ∙ x k ∙ sym (any_without (λ d. was_free d t) out k (live t) is))

@@ -1,23 +1,16 @@
 -- What has become of a number: a received one has one fate, and any other none.
-use Rattle.std.proofs.Common.{◌≡◌, ℕ, ◌==◌, ◌||◌, inl, inr, cond, Bool, true, false, List, [], ◌∷◌, ◌++◌, map, count_by, Option, Some, None, is_some, refl, ap, sym, subst, ◌∙◌}
+use Rattle.std.proofs.Common.{arith, ◌≡◌, ℕ, ◌==◌, ◌||◌, cond, Bool, true, false, List, [], ◌∷◌, ◌++◌, count_by, Option, Some, None, refl, ap, sym, subst, ◌∙◌}
 use Rattle.std.specs.List.{list_any, filter_map, cons_option}
 use Rattle.std.proofs.lemmas.Bool.{false≢true, eqb-true}
-use Rattle.std.proofs.lemmas.List.{append-nil}
-use Rattle.std.proofs.lemmas.List.Elements.{filter_map-append}
-use Rattle.std.proofs.lemmas.List.Folds.{list_any-append}
-use Rattle.iscsi_wire.specs.declared.reply.Reply.{Reply}
-use Rattle.iscsi_wire.specs.Fields.{connection_of}
 use Rattle.iscsi_history.specs.rules.Settings.{Setting}
-use Rattle.iscsi_history.specs.rules.Trace.{Arrival, Command, Mark, Admits, Delivers, Executes, Voids, Empties, Leaves, Enters, Sends, ClosesConn, ClosesSession, Trace, has, shown, first_of, number_received, contains, is_received, admits_at, admitted, delivers_number, is_delivered, empties_number, is_emptied, held}
+use Rattle.iscsi_history.specs.rules.Trace.{Arrival, Mark, Admits, Voids, Trace, has, first_of, number_received, contains, is_received, admits_at, admitted, delivers_number, is_delivered, empties_number, is_emptied, held}
 use Rattle.iscsi_history.specs.promises.Meaning.{voids_number, fates_of}
-use Rattle.iscsi_history.proofs.AbortMarks.{none_mapped, none_viewed}
 use Rattle.iscsi_history.proofs.BoolLemmas.{or_false}
 use Rattle.iscsi_history.proofs.ElementLemmas.{In}
-use Rattle.iscsi_history.proofs.ListLemmas.{list_any-map}
 use Rattle.iscsi_history.proofs.HeldLemmas.{unreceived_unheld}
 use Rattle.iscsi_history.proofs.TraceLemmas.{received-item, unadmitted}
-use Rattle.iscsi_history.proofs.Forms.{Start, AtTurn, AtArrival, AfterWaiting, start_mark, Deeds, if_some, marks_done, Form, Ignored, Rejected, Received, Postponed, Completed, Executed, marks_of_form, begun, Starts, Each, IsDone, IsFormed, HasForm, HaveForms}
-use Rattle.iscsi_history.proofs.NumberingLemmas.{to_list, unseen, passed}
+use Rattle.iscsi_history.proofs.Forms.{Start, AtTurn, start_mark, Deeds, if_some, marks_done, Form, Received, Executed, marks_of_form, begun, Starts, Each, IsDone, IsFormed, HasForm, HaveForms}
+use Rattle.iscsi_history.proofs.DeedLemmas.{views, tests}
 
 -- ---- what an item does to a number
 
@@ -62,35 +55,21 @@ none_some a h = cc
 held_by : (t : Trace) (n : ℕ) (e d : Bool) (x : Option Arrival) → is_emptied t n ≡ e → is_delivered t n ≡ d → admitted t n ≡ x → held t n ≡ cond (d || e) None x
 held_by t n e d x emptied delivered there = ap (λ b. cond (b || is_emptied t n) None (admitted t n)) delivered ∙ ap (λ b. cond (d || b) None (admitted t n)) emptied ∙ ap (λ y. cond (d || e) None y) there
 
-admitted-same : (t : Trace) (n : ℕ) (item : List Mark) → filter_map (admits_at n) item ≡ [] → admitted (item ∷ t) n ≡ admitted t n
-admitted-same t n item none = ap (λ xs. first_of (shown (admits_at n) t ++ xs)) none ∙ ap first_of (append-nil (shown (admits_at n) t))
-
 admitted-first : (t : Trace) (n : ℕ) (item : List Mark) (a : Arrival) → is_received t n ≡ false → filter_map (admits_at n) item ≡ a ∷ [] → admitted (item ∷ t) n ≡ Some a
 admitted-first t n item a new here = ap (λ xs. first_of (xs ++ filter_map (admits_at n) item)) (unadmitted n t new) ∙ ap first_of here
 
 -- it is held as before, where the item neither takes it out nor delivers it
 pub held-kept : (t : Trace) (n : ℕ) (item : List Mark) → list_any (empties_number n) item ≡ false → list_any (delivers_number n) item ≡ false → filter_map (admits_at n) item ≡ [] → held (item ∷ t) n ≡ held t n
-held-kept t n item unemptied undelivered none =
-    held_by (item ∷ t) n (is_emptied t n) (is_delivered t n) (admitted t n) (ap (λ b. b || is_emptied t n) unemptied) (ap (λ b. b || is_delivered t n) undelivered) (admitted-same t n item none)
+held-kept t n item unemptied undelivered none = grind arith
 
 -- an item joins its facts to those of before
 joined : (t : Trace) (n : ℕ) (item : List Mark) (r v e d r' v' e' d' : Bool) (as' : List Arrival) (h x : Option Arrival) → NumberIs t n r v e d h → ItemAt n item r' v' e' d' as' → held (item ∷ t) n ≡ x
     → NumberIs (item ∷ t) n (r || r') (v' || v) (e' || e) (d' || d) x
-joined t n item r v e d r' v' e' d' as' h x s i holds = record {
-  received = received-item item t n ∙ ap (λ b. b || contains (filter_map number_received item) n) s.received ∙ ap (λ b. r || b) i.receives;
-  voided = ap (λ b. b || has (voids_number n) t) i.voided ∙ ap (λ b. v' || b) s.voided;
-  emptied = ap (λ b. b || is_emptied t n) i.emptied ∙ ap (λ b. e' || b) s.emptied;
-  delivered = ap (λ b. b || is_delivered t n) i.delivered ∙ ap (λ b. d' || b) s.delivered;
-  holds = holds;
-}
+joined t n item r v e d r' v' e' d' as' h x s i holds = grind (arith, received-item)
 
 -- a number whose request is gone stays as it is
 stays : (t : Trace) (n : ℕ) (item : List Mark) (v e d : Bool) → NumberIs t n true v e d None → Touch t n item → NumberIs (item ∷ t) n true v e d None
-stays t n item v e d s (NotTouched i) = joined t n item true v e d false false false false [] None None s i (held-kept t n item i.emptied i.delivered i.admits ∙ s.holds)
-stays t n item v e d s (AdmitsNow a new i) = absurd (false≢true (sym new ∙ s.received))
-stays t n item v e d s (VoidsNow new i) = absurd (false≢true (sym new ∙ s.received))
-stays t n item v e d s (EmptiesNow b there i) = absurd (none_some b (sym s.holds ∙ there))
-stays t n item v e d s (DeliversNow b there i) = absurd (none_some b (sym s.holds ∙ there))
+stays t n item v e d s touch = grind (arith, received-item)
 
 next_fate : (t : Trace) (n : ℕ) (item : List Mark) → Fate t n → Touch t n item → Fate (item ∷ t) n
 next_fate t n item (Unreceived s) (NotTouched i) = Unreceived (joined t n item false false false false false false false false [] None None s i (held-kept t n item i.emptied i.delivered i.admits ∙ s.holds))
@@ -115,43 +94,6 @@ next_fate t n item (Delivered s) x = Delivered (stays t n item false false true 
 
 -- ---- the marks of what is done
 
--- a test that only numbers pass that are voided or taken out
-module _ (p : Mark → Bool) (leaves : (c : Command) → p (Leaves c) ≡ false) (enters : (c : Command) → p (Enters c) ≡ false)
-    (sends : (conn : ℕ) (reply : Reply) → p (Sends conn reply) ≡ false) (closes : (conn : ℕ) → p (ClosesConn conn) ≡ false) (ends : p ClosesSession ≡ false) where
-  none_passes : {A : Type 0} (f : A → Mark) (x : Option A) (ms : List Mark) → ((y : A) → p (f y) ≡ false) → list_any p (if_some f x ++ ms) ≡ list_any p ms
-  none_passes f None ms none = refl
-  none_passes f (Some y) ms none = ap (λ b. b || list_any p ms) (none y)
-
-  end_passes : (b : Bool) → list_any p (cond b (ClosesSession ∷ []) []) ≡ false
-  end_passes true = ap (λ b. b || false) ends
-  end_passes false = refl
-
-  tested : (a : Arrival) (d : Deeds) → list_any p (marks_done a d) ≡ (list_any p (if_some Voids d.void) || list_any p (map Empties d.emptied))
-  tested a d =
-      list_any-append p (if_some Voids d.void) _
-      ∙ ap (λ b. list_any p (if_some Voids d.void) || b)
-      (list_any-append p (map Leaves d.leaving) _
-      ∙ ap (λ b. b || list_any p (map Empties d.emptied ++ (if_some Enters d.entering ++ (if_some (Sends (connection_of a.request)) d.reply ++ (if_some ClosesConn d.closing ++ cond d.ending (ClosesSession ∷ []) []))))) (none_mapped p Leaves d.leaving leaves)
-      ∙ list_any-append p (map Empties d.emptied) _
-      ∙ ap (λ b. list_any p (map Empties d.emptied) || b)
-      (none_passes Enters d.entering _ enters ∙ none_passes (Sends (connection_of a.request)) d.reply _ (sends (connection_of a.request)) ∙ none_passes ClosesConn d.closing _ closes ∙ end_passes d.ending)
-      ∙ or_false (list_any p (map Empties d.emptied)))
-
--- a view that sees nothing but numbers that are voided
-module _ {B : Type 0} (view : Mark → Option B) (leaves : (c : Command) → view (Leaves c) ≡ None) (empties : (a : Arrival) → view (Empties a) ≡ None) (enters : (c : Command) → view (Enters c) ≡ None)
-    (sends : (conn : ℕ) (reply : Reply) → view (Sends conn reply) ≡ None) (closes : (conn : ℕ) → view (ClosesConn conn) ≡ None) (ends : view ClosesSession ≡ None) where
-  pub voids_viewed : (a : Arrival) (d : Deeds) → filter_map view (marks_done a d) ≡ filter_map view (if_some Voids d.void)
-  voids_viewed a d =
-      filter_map-append view (if_some Voids d.void) _
-      ∙ ap (λ xs. filter_map view (if_some Voids d.void) ++ xs)
-      (passed view (map Leaves d.leaving) _ (none_viewed view Leaves d.leaving leaves)
-      ∙ passed view (map Empties d.emptied) _ (none_viewed view Empties d.emptied empties)
-      ∙ passed view (if_some Enters d.entering) _ (unseen view Enters d.entering enters)
-      ∙ passed view (if_some (Sends (connection_of a.request)) d.reply) _ (unseen view (Sends (connection_of a.request)) d.reply (sends (connection_of a.request)))
-      ∙ passed view (if_some ClosesConn d.closing) _ (unseen view ClosesConn d.closing closes)
-      ∙ elim d.ending as (λ b. filter_map view (cond b (ClosesSession ∷ []) []) ≡ []) [ true ↦ ap to_list ends | false ↦ refl ])
-      ∙ append-nil (filter_map view (if_some Voids d.void))
-
 -- what the marks do to a number: it is voided, or requests are taken out there, or the request that executes is delivered there
 abbrev void_at : ℕ → Deeds → Bool
 void_at n d = list_any (voids_number n) (if_some Voids d.void)
@@ -163,37 +105,16 @@ abbrev delivered_at : ℕ → Start → Arrival → Bool
 delivered_at n start a = list_any (delivers_number n) (start_mark start a ∷ [])
 
 pub done_at : (n : ℕ) (a : Arrival) (d : Deeds) → ItemAt n (marks_done a d) (void_at n d) (void_at n d) (emptied_at n d) false []
-done_at n a d = record {
-  receives = ap (λ ns. contains ns n) (voids_viewed number_received (λ c. refl) (λ b. refl) (λ c. refl) (λ conn reply. refl) (λ conn. refl) refl a d) ∙ numbers d.void;
-  voided = tested (voids_number n) (λ c. refl) (λ c. refl) (λ conn reply. refl) (λ conn. refl) refl a d ∙ ap (λ b. void_at n d || b) (none_mapped (voids_number n) Empties d.emptied (λ b. refl)) ∙ or_false (void_at n d);
-  emptied = tested (empties_number n) (λ c. refl) (λ c. refl) (λ conn reply. refl) (λ conn. refl) refl a d ∙ ap (λ b. b || list_any (empties_number n) (map Empties d.emptied)) (unemptied d.void) ∙ list_any-map (empties_number n) Empties d.emptied;
-  delivered = tested (delivers_number n) (λ c. refl) (λ c. refl) (λ conn reply. refl) (λ conn. refl) refl a d ∙ ap (λ b. b || list_any (delivers_number n) (map Empties d.emptied)) (undelivered d.void) ∙ none_mapped (delivers_number n) Empties d.emptied (λ b. refl);
-  admits = voids_viewed (admits_at n) (λ c. refl) (λ b. refl) (λ c. refl) (λ conn reply. refl) (λ conn. refl) refl a d ∙ unseen (admits_at n) Voids d.void (λ k. refl);
-}
-  where
-    numbers : (x : Option ℕ) → contains (filter_map number_received (if_some Voids x)) n ≡ list_any (voids_number n) (if_some Voids x)
-    numbers None = refl
-    numbers (Some k) = refl
-
-    unemptied : (x : Option ℕ) → list_any (empties_number n) (if_some Voids x) ≡ false
-    unemptied None = refl
-    unemptied (Some k) = refl
-
-    undelivered : (x : Option ℕ) → list_any (delivers_number n) (if_some Voids x) ≡ false
-    undelivered None = refl
-    undelivered (Some k) = refl
+done_at n a d = record { receives = simp (views, tests); voided = simp tests; emptied = simp tests; delivered = simp tests; admits = simp views }
 
 pub executed_at : (n : ℕ) (start : Start) (a : Arrival) (d : Deeds) → ItemAt n (start_mark start a ∷ marks_done a d) (void_at n d) (void_at n d) (emptied_at n d) (delivered_at n start a) []
-executed_at n AtTurn a d = record { receives = (done_at n a d).receives; voided = (done_at n a d).voided; emptied = (done_at n a d).emptied; delivered = ap (λ b. (a.number == n) || b) (done_at n a d).delivered; admits = (done_at n a d).admits }
-executed_at n AtArrival a d = record { receives = (done_at n a d).receives; voided = (done_at n a d).voided; emptied = (done_at n a d).emptied; delivered = (done_at n a d).delivered; admits = (done_at n a d).admits }
-executed_at n AfterWaiting a d = record { receives = (done_at n a d).receives; voided = (done_at n a d).voided; emptied = (done_at n a d).emptied; delivered = (done_at n a d).delivered; admits = (done_at n a d).admits }
+executed_at n start a d = grind (arith, done_at n a d)
 
 -- ---- where they may be
 
 -- a number that is voided wasn't received
 void_new : (t : Trace) (n : ℕ) (x : Option ℕ) → Each (λ k. is_received t k ≡ false) x → list_any (voids_number n) (if_some Voids x) ≡ true → is_received t n ≡ false
-void_new t n None new h = absurd (false≢true h)
-void_new t n (Some k) new h = ap (is_received t) (sym (eqb-true k n (sym (or_false (k == n)) ∙ h))) ∙ new
+void_new t n x new h = grind arith
 
 -- the request that is taken out at a number
 record TakenOut (n : ℕ) (bs : List Arrival) : Type 0 where
@@ -203,11 +124,7 @@ record TakenOut (n : ℕ) (bs : List Arrival) : Type 0 where
 
 taken_at : (n : ℕ) (bs : List Arrival) → list_any (λ (b : Arrival). b.number == n) bs ≡ true → TakenOut n bs
 taken_at n [] h = absurd (false≢true h)
-taken_at n (b ∷ bs) h = by_test (b.number == n) refl (taken_at n bs) h
-  where
-    by_test : (v : Bool) → (b.number == n) ≡ v → (list_any (λ (x : Arrival). x.number == n) bs ≡ true → TakenOut n bs) → (v || list_any (λ (x : Arrival). x.number == n) bs) ≡ true → TakenOut n (b ∷ bs)
-    by_test true is later k = record { request = b; there = inl refl; number = eqb-true b.number n is }
-    by_test false is later k = let rest : TakenOut n bs = later k in record { request = rest.request; there = inr rest.there; number = rest.number }
+taken_at n (b ∷ bs) h = grind (arith, taken_at n bs)
 
 -- what is held once a request executes was held before, at another number
 record HeldBefore (t : Trace) (n : ℕ) (start : Start) (a b : Arrival) : Type 0 where
@@ -215,19 +132,12 @@ record HeldBefore (t : Trace) (n : ℕ) (start : Start) (a b : Arrival) : Type 0
   apart : delivered_at n start a ≡ false
 
 held_before : (t : Trace) (n : ℕ) (start : Start) (a b : Arrival) → held (begun start a t) n ≡ Some b → HeldBefore t n start a b
-held_before t n AtTurn a b h = by_test (a.number == n) refl
-  where
-    by_test : (v : Bool) → (a.number == n) ≡ v → HeldBefore t n AtTurn a b
-    by_test true is = absurd (none_some b (sym (held_by (begun AtTurn a t) n (is_emptied t n) true (admitted (begun AtTurn a t) n) refl (ap (λ x. (x || false) || is_delivered t n) is) refl) ∙ h))
-    by_test false is = record { before = sym (held-kept t n (Delivers a ∷ []) refl (ap (λ x. x || false) is) refl) ∙ h; apart = ap (λ x. x || false) is }
-held_before t n AtArrival a b h = record { before = sym (held-kept t n (Executes a ∷ []) refl refl refl) ∙ h; apart = refl }
-held_before t n AfterWaiting a b h = record { before = sym (held-kept t n (Executes a ∷ []) refl refl refl) ∙ h; apart = refl }
+held_before t n start a b h = grind arith
 
 -- a request that is delivered was held
 delivered_held : (now : ℕ) (t : Trace) (n : ℕ) (start : Start) (a : Arrival) → Starts now t start a → delivered_at n start a ≡ true → held t n ≡ Some a
 delivered_held now t n AtTurn a starts h = ap (held t) (sym (eqb-true a.number n (sym (or_false (a.number == n)) ∙ h))) ∙ starts
-delivered_held now t n AtArrival a starts h = absurd (false≢true h)
-delivered_held now t n AfterWaiting a starts h = absurd (false≢true h)
+delivered_held now t n start a starts h = absurd (false≢true h)
 
 -- a request that executes does one thing to a number at the most
 touch_executed : (o : Setting) (now : ℕ) (t : Trace) (n : ℕ) (start : Start) (a : Arrival) (d : Deeds) → Starts now t start a → IsDone o t start a d → Touch t n (start_mark start a ∷ marks_done a d)
@@ -253,16 +163,13 @@ touch_executed o now t n start a d starts x = by_tests (void_at n d) (emptied_at
 
 -- so does an item of any form
 pub touch_form : (o : Setting) (now : ℕ) (t : Trace) (n : ℕ) (form : Form) → IsFormed o now t form → Touch t n (marks_of_form form)
-touch_form o now t n (Ignored why) x = NotTouched (record { receives = refl; voided = refl; emptied = refl; delivered = refl; admits = refl })
-touch_form o now t n (Rejected a) x = NotTouched (record { receives = refl; voided = refl; emptied = refl; delivered = refl; admits = refl })
 touch_form o now t n (Received a) x = by_test (a.number == n) refl
   where
     by_test : (v : Bool) → (a.number == n) ≡ v → Touch t n (Admits a ∷ [])
     by_test true is = AdmitsNow a (ap (is_received t) (sym (eqb-true a.number n is)) ∙ x.1) (record { receives = ap (λ b. b || false) is; voided = refl; emptied = refl; delivered = refl; admits = ap (λ b. cons_option (cond b (Some a) None) []) is })
     by_test false is = NotTouched (record { receives = ap (λ b. b || false) is; voided = refl; emptied = refl; delivered = refl; admits = ap (λ b. cons_option (cond b (Some a) None) []) is })
-touch_form o now t n (Postponed a) x = NotTouched (record { receives = refl; voided = refl; emptied = refl; delivered = refl; admits = refl })
-touch_form o now t n (Completed c status) x = NotTouched (record { receives = refl; voided = refl; emptied = refl; delivered = refl; admits = refl })
 touch_form o now t n (Executed start a d) x = touch_executed o now t n start a d x.0 x.1
+touch_form o now t n form x = NotTouched (record { receives = refl; voided = refl; emptied = refl; delivered = refl; admits = refl })
 
 -- ---- the whole trace
 
@@ -272,18 +179,5 @@ fate o n (item ∷ t) next x =
     let f : HasForm o x.0 t item = x.1.1.0 in
     next_fate t n item (fate o n t _ x.1.1.1) (subst (Touch t n) (sym f.is) (touch_form o x.0 t n f.form f.formed))
 
--- counted: one fate of a received number, none of any other
-counted : (t : Trace) (n : ℕ) (r v e d : Bool) (h : Option Arrival) → NumberIs t n r v e d h → count_by (λ b. b) (is_some h ∷ v ∷ e ∷ d ∷ []) ≡ cond r 1 0 → count_by (λ b. b) (fates_of t n) ≡ cond (is_received t n) 1 0
-counted t n r v e d h s is =
-    ap (λ b. count_by (λ x. x) (b ∷ has (voids_number n) t ∷ is_emptied t n ∷ is_delivered t n ∷ [])) (ap is_some s.holds)
-    ∙ ap (λ b. count_by (λ x. x) (is_some h ∷ b ∷ is_emptied t n ∷ is_delivered t n ∷ [])) s.voided
-    ∙ ap (λ b. count_by (λ x. x) (is_some h ∷ v ∷ b ∷ is_delivered t n ∷ [])) s.emptied
-    ∙ ap (λ b. count_by (λ x. x) (is_some h ∷ v ∷ e ∷ b ∷ [])) s.delivered
-    ∙ is ∙ sym (ap (λ b. cond b 1 0) s.received)
-
 pub one_fate : (t : Trace) (n : ℕ) → Fate t n → count_by (λ b. b) (fates_of t n) ≡ cond (is_received t n) 1 0
-one_fate t n (Unreceived s) = counted t n false false false false None s refl
-one_fate t n (Held a s) = counted t n true false false false (Some a) s refl
-one_fate t n (Voided s) = counted t n true true false false None s refl
-one_fate t n (Emptied s) = counted t n true false true false None s refl
-one_fate t n (Delivered s) = counted t n true false false true None s refl
+one_fate t n fate = grind arith

@@ -1,5 +1,5 @@
 -- Items one after the other: their effects, the agenda in two halves, and ExpCmdSN, which doesn't go back.
-use Rattle.std.proofs.Common.{◌++◌, List, [], ap, append_assoc, refl, sym, ◌∙◌, ◌∷◌, ◌≡◌, length, ◌+◌, suc, zero, ℕ, ◌-◌, ◌<◌, arith, ◌==◌, inl, inr, true, ◌≤◌, ⊎_elim, ◌⊎◌, subst}
+use Rattle.std.proofs.Common.{◌++◌, List, [], ap, append_assoc, refl, sym, ◌∙◌, ◌∷◌, ◌≡◌, length, ◌+◌, suc, zero, ℕ, ◌-◌, ◌<◌, arith, inl, inr, true, ◌≤◌, ⊎_elim, ◌⊎◌}
 use Rattle.std.specs.List.{list_all}
 use Rattle.std.proofs.lemmas.List.{append-nil}
 use Rattle.std.proofs.lemmas.List.Folds.{list_any-append}
@@ -14,7 +14,7 @@ use Rattle.iscsi_history.specs.promises.Flow.{HasOneMore, FlowsThrough, Flows}
 use Rattle.iscsi_history.specs.declared.event.Event.{Event}
 use Rattle.iscsi_history.specs.rules.Agenda.{belongs}
 use Rattle.iscsi_history.proofs.TraceLemmas.{after_items-append}
-use Rattle.iscsi_history.proofs.BoolLemmas.{or_first, and_both, and_parts}
+use Rattle.iscsi_history.proofs.BoolLemmas.{and_both}
 use Rattle.iscsi_history.proofs.Missing.{expected_below, expected_gone, expected_low}
 
 -- ---- lists of items
@@ -34,13 +34,7 @@ turns o n zero t = []
 turns o n (suc more) t = let now = turn_at o n t in now ++ agenda o (n + 1) more (after_items now t)
 
 pub agenda-halves : (o : Setting) (n m : ℕ) (t : Trace) → agenda o n m t ≡ functions_at o n t ++ turns o n m (after_items (functions_at o n t) t)
-agenda-halves o n zero t = sym (append-nil (functions_at o n t))
-agenda-halves o n (suc m) t =
-    let before : List (List Mark) = functions_at o n t in
-    let t' : Trace = after_items before t in
-    let turn : List (List Mark) = turn_at o n t' in
-    append_assoc before turn (agenda o (n + 1) m (after_items (before ++ turn) t))
-    ∙ ap (λ u. before ++ (turn ++ agenda o (n + 1) m u)) (after_items-append before turn t)
+agenda-halves o n m t = grind (arith, append-nil, append_assoc, after_items-append)
 
 pub turns-more : (o : Setting) (e f : ℕ) (t : Trace) → e < f → turns o e (f - e) t ≡ turn_at o e t ++ agenda o (e + 1) (f - (e + 1)) (after_items (turn_at o e t) t)
 turns-more o e f t past = ap (λ n. turns o e n t) (let z : f - e ≡ suc (f - (e + 1)) = omega arith in z)
@@ -48,8 +42,7 @@ turns-more o e f t past = ap (λ n. turns o e n t) (let z : f - e ≡ suc (f - (
 -- ---- ExpCmdSN doesn't go back
 
 still_received : (ns ns' : List ℕ) (n : ℕ) → HasOneMore ns ns' → contains ns n ≡ true → contains ns' n ≡ true
-still_received ns ns' n (inl same) there = ap (λ ms. contains ms n) same ∙ there
-still_received ns ns' n (inr more) there = ap (λ ms. contains ms n) more.1 ∙ list_any-append (λ k. k == n) ns (more.0 ∷ []) ∙ or_first (contains ns n) (contains (more.0 ∷ []) n) there
+still_received ns ns' n more there = grind (arith, list_any-append)
 
 pub exp_stays : (o : Setting) (t t' : Trace) → HasOneMore (received t) (received t') → exp_of o t ≤ exp_of o t'
 exp_stays o t t' more =
@@ -77,22 +70,12 @@ split_last [] e (b ∷ before) after event is = absurd (two before (let z : [] �
     two [] z = cc
     two (x ∷ before) z = cc
 split_last (x ∷ h) e [] after event is = inr (h, cc)
-split_last (x ∷ h) e (b ∷ before) after event is =
-    let head : x ≡ b = cc in
-    let tail : h ++ e ∷ [] ≡ before ++ event ∷ after = cc in
-    ⊎_elim (λ last. inl (ap (λ es. b ∷ es) last.0 ∙ ap (λ y. y ∷ h) (sym head), last.1))
-    (λ inner. inr (inner.0, ap (λ es. x ∷ es) inner.1 ∙ ap (λ y. y ∷ before ++ event ∷ inner.0) head))
-    (split_last h e before after event tail)
+split_last (x ∷ h) e (b ∷ before) after event is = grind (arith, split_last h e before after event)
 
 pub FlowsThrough-push : (o : Setting) (h : List Event) (e : Event) → FlowsThrough o h → Flows o (trace_of o h) (trace_of o (h ++ e ∷ [])) → FlowsThrough o (h ++ e ∷ [])
-FlowsThrough-push o h e all now = λ before after event is.
-    ⊎_elim (λ last. subst (λ es. Flows o (trace_of o es) (trace_of o (es ++ event ∷ []))) (sym last.0) (subst (λ x. Flows o (trace_of o h) (trace_of o (h ++ x ∷ []))) (sym last.1) now))
-    (λ inner. all before inner.0 event inner.1)
-    (split_last h e before after event is)
+FlowsThrough-push o h e all now = grind (arith, split_last)
 
 -- so do the events with it
 pub belong_more : (o : Setting) (h : List Event) (e : Event) → list_all (belongs o) h ≡ true → belongs o e ≡ true → list_all (belongs o) (h ++ e ∷ []) ≡ true
 belong_more o [] e before here = and_both (belongs o e) true here refl
-belong_more o (d ∷ h) e before here =
-    let parts = and_parts (belongs o d) (list_all (belongs o) h) before in
-    and_both (belongs o d) (list_all (belongs o) (h ++ e ∷ [])) parts.0 (belong_more o h e parts.1 here)
+belong_more o (d ∷ h) e before here = grind (arith, belong_more o h e)

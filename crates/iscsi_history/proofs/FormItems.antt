@@ -1,99 +1,79 @@
 -- Each item has a form: what a request does that executes.
-use Rattle.std.proofs.Common.{◌≡◌, ℕ, zero, suc, ◌+◌, ◌<◌, ◌≤◌, ◌==◌, ◌&&◌, ◌||◌, not, ⊎_elim, cond, Bool, true, false, List, [], ◌∷◌, ◌++◌, length, filter, count_by, Option, Some, None, option_map, refl, ap, sym, subst, ◌∙◌, arith, nat_lt, nat_le, append_assoc, eq-eqb}
-use Rattle.std.specs.List.{list_any, list_all, flat_map, range_with_len}
-use Rattle.std.proofs.lemmas.Bool.{false≢true, eqb-true}
+use Rattle.std.proofs.Common.{◌≡◌, ℕ, zero, suc, ◌+◌, ◌<◌, ◌≤◌, ◌==◌, ◌&&◌, ◌||◌, not, ⊎_elim, cond, Bool, true, false, List, [], ◌∷◌, ◌++◌, length, filter, count_by, Option, Some, None, refl, ap, sym, subst, ◌∙◌, arith, nat_lt, nat_le, append_assoc, eq-eqb}
+use Rattle.std.specs.List.{list_all, flat_map, range_with_len}
+use Rattle.std.proofs.lemmas.Bool.{false≢true}
 use Rattle.std.proofs.lemmas.Bool.Decides.{nat_tests}
 use Rattle.std.proofs.lemmas.List.{append-nil}
-use Rattle.std.proofs.lemmas.List.Sums.{sum_by-cons, sum_by-append}
+use Rattle.std.proofs.lemmas.List.Sums.{sum_by-append}
 use Rattle.iscsi_wire.specs.declared.reply.Reply.{Reply}
 use Rattle.iscsi_wire.specs.declared.request.Request.{Request}
 use Rattle.iscsi_wire.specs.declared.reply.Reply.TheVariants.{Task, Logout}
 use Rattle.iscsi_wire.specs.Serial.{lift}
-use Rattle.iscsi_wire.specs.Fields.{attr_code, connection_of, is_immediate, opcode, function, itt, rtt, ref_cmd_sn}
+use Rattle.iscsi_wire.specs.Fields.{attr_code, connection_of, is_immediate, function, itt, rtt, ref_cmd_sn}
 use Rattle.iscsi_history.specs.declared.deed.Answer.{Answer}
-use Rattle.iscsi_history.specs.declared.deed.Answer.TheVariants.{Reject, Pong, NoUnit, Full, Respond, LogOut}
+use Rattle.iscsi_history.specs.declared.deed.Answer.TheVariants.{Respond}
 use Rattle.iscsi_history.specs.declared.deed.Deed.{Deed}
 use Rattle.iscsi_history.specs.declared.deed.Deed.TheVariants.{Nothing, Wait, Reply as Replies, Enter, Void, Empty, Abort, AbortEarlier, AbortAll, CloseConn, CloseSession}
 use Rattle.iscsi_history.specs.rules.Settings.{Setting, is_known}
-use Rattle.iscsi_history.specs.rules.Trace.{Arrival, Command, Mark, Delivers, Executes, Voids, Empties, Leaves, Enters, Trace, first_of, received, is_received, held, held_among, entered, live, live_in, is_closed}
+use Rattle.iscsi_history.specs.rules.Trace.{Arrival, Command, Mark, Voids, Empties, Leaves, Enters, Trace, first_of, received, is_received, held, held_among, entered, live, live_in, is_closed}
 use Rattle.iscsi_history.specs.rules.Execution.{attr_of, exp_of, max_of, unit_named, reply_on, next_command, reply_of}
 use Rattle.iscsi_history.specs.rules.Management.{refusal_of_function, answer, held_requests, held_command, live_with_tag, is_before, abort_all, refusal}
 use Rattle.iscsi_history.specs.rules.Logout.{is_open, is_last_open, live_of_units, all_held, end_session, close_conn}
 use Rattle.iscsi_history.specs.rules.Deeds.{Facts, function_deed, deed_of, facts_of, if_found, deed_marks, marks_after, function_marks}
 use Rattle.iscsi_history.specs.promises.Aborts.{is_set_abort, is_abort, is_complete}
 use Rattle.iscsi_history.specs.promises.Answers.{Answers}
-use Rattle.iscsi_history.proofs.BoolLemmas.{and_first, and_second, and_parts, not_true, or_false}
+use Rattle.iscsi_history.proofs.BoolLemmas.{and_first, and_parts, not_true, or_false}
 use Rattle.iscsi_history.proofs.ListLemmas.{fewer_counted}
+use Rattle.iscsi_history.proofs.CountLemmas.{one, count-cons, count-filter}
 use Rattle.iscsi_history.proofs.ElementLemmas.{In, in-filter, first-in}
 use Rattle.iscsi_history.proofs.TraceLemmas.{live-quiet}
 use Rattle.iscsi_history.proofs.HeldLemmas.{held-number}
-use Rattle.iscsi_history.proofs.DeedTable.{named_below, Befits, unset, befits_function, befits_deed, refused_otherwise, through_function}
-use Rattle.iscsi_history.proofs.Forms.{Start, AtTurn, AtArrival, AfterWaiting, Deeds, idle, marks_done, begun, Each, is_closing, is_completed_by, Sweeps, IsDone}
+use Rattle.iscsi_history.proofs.DeedTable.{named_below, Befits, unset, befits_function, befits_deed, through_function}
+use Rattle.iscsi_history.proofs.Forms.{Start, Deeds, idle, marks_done, begun, Each, is_closing, is_completed_by, Sweeps, IsDone}
 
 -- ---- the mark by which a request executes changes nothing else
 
 pub live-begun : (start : Start) (a : Arrival) (t : Trace) → live (begun start a t) ≡ live t
-live-begun AtTurn a t = live-quiet (Delivers a ∷ []) t refl (λ k. refl)
-live-begun AtArrival a t = live-quiet (Executes a ∷ []) t refl (λ k. refl)
-live-begun AfterWaiting a t = live-quiet (Executes a ∷ []) t refl (λ k. refl)
+live-begun start a t = grind (arith, live-quiet)
 
 entered-begun : (start : Start) (a : Arrival) (t : Trace) → entered (begun start a t) ≡ entered t
-entered-begun AtTurn a t = append-nil (entered t)
-entered-begun AtArrival a t = append-nil (entered t)
-entered-begun AfterWaiting a t = append-nil (entered t)
+entered-begun start a t = grind (arith, append-nil)
 
 received-begun : (start : Start) (a : Arrival) (t : Trace) → received (begun start a t) ≡ received t
-received-begun AtTurn a t = append-nil (received t)
-received-begun AtArrival a t = append-nil (received t)
-received-begun AfterWaiting a t = append-nil (received t)
+received-begun start a t = grind (arith, append-nil)
 
 -- ---- what is counted of a part
 
 first_counted : (p : Command → Bool) (cs : List Command) (c : Command) → first_of cs ≡ Some c → count_by p (c ∷ []) ≤ count_by p cs
 first_counted p [] c h = absurd cc
-first_counted p (x ∷ cs) c h =
-    let same : x ≡ c = cc in
-    let all : count_by p (x ∷ cs) ≡ cond (p x) 1 0 + count_by p cs = sum_by-cons (λ y. cond (p y) 1 0) x cs in
-    let one : count_by p (c ∷ []) ≡ cond (p c) 1 0 + 0 = sum_by-cons (λ y. cond (p y) 1 0) c [] in
-    omega (arith, all, one, ap {B = ℕ} (λ (d : Command). cond (p d) 1 0) same)
+first_counted p (x ∷ cs) c h = grind (arith, count-cons)
 
 -- those of a unit, and those of the units after it
+one_of_units : (n u : ℕ) (b : Bool) → one ((n == u) && b) + one (nat_le (u + 1) n && b) ≡ one (nat_le u n && b)
+one_of_units n u b = grind arith
+
 of_units : (p : Command → Bool) (u : ℕ) (cs : List Command)
     → count_by p (filter (λ c. c.unit == u) cs) + count_by p (filter (λ c. nat_le (u + 1) c.unit) cs) ≡ count_by p (filter (λ c. nat_le u c.unit) cs)
-of_units p u [] = refl
-of_units p u (c ∷ cs) =
-    let rest = of_units p u cs in
-    let here : List Command = filter (λ d. d.unit == u) cs in
-    let after : List Command = filter (λ d. nat_le (u + 1) d.unit) cs in
-    let all : List Command = filter (λ d. nat_le u d.unit) cs in
-    let n : ℕ = cond (p c) 1 0 in
-    let a : count_by p (c ∷ here) ≡ n + count_by p here = sum_by-cons (λ y. cond (p y) 1 0) c here in
-    let b : count_by p (c ∷ after) ≡ n + count_by p after = sum_by-cons (λ y. cond (p y) 1 0) c after in
-    let d : count_by p (c ∷ all) ≡ n + count_by p all = sum_by-cons (λ y. cond (p y) 1 0) c all in
-    by_tests (c.unit == u) (nat_le (u + 1) c.unit) (nat_le u c.unit) refl refl refl rest a b d
+of_units p u cs =
+    omega (arith, count-filter p (λ c. c.unit == u) cs, count-filter p (λ c. nat_le (u + 1) c.unit) cs, count-filter p (λ c. nat_le u c.unit) cs, counts cs)
   where
-    by_tests : (v w x : Bool) → (c.unit == u) ≡ v → nat_le (u + 1) c.unit ≡ w → nat_le u c.unit ≡ x
-        → count_by p (filter (λ d. d.unit == u) cs) + count_by p (filter (λ d. nat_le (u + 1) d.unit) cs) ≡ count_by p (filter (λ d. nat_le u d.unit) cs)
-        → count_by p (c ∷ filter (λ d. d.unit == u) cs) ≡ cond (p c) 1 0 + count_by p (filter (λ d. d.unit == u) cs)
-        → count_by p (c ∷ filter (λ d. nat_le (u + 1) d.unit) cs) ≡ cond (p c) 1 0 + count_by p (filter (λ d. nat_le (u + 1) d.unit) cs)
-        → count_by p (c ∷ filter (λ d. nat_le u d.unit) cs) ≡ cond (p c) 1 0 + count_by p (filter (λ d. nat_le u d.unit) cs)
-        → count_by p (cond v (c ∷ filter (λ d. d.unit == u) cs) (filter (λ d. d.unit == u) cs)) + count_by p (cond w (c ∷ filter (λ d. nat_le (u + 1) d.unit) cs) (filter (λ d. nat_le (u + 1) d.unit) cs))
-        ≡ count_by p (cond x (c ∷ filter (λ d. nat_le u d.unit) cs) (filter (λ d. nat_le u d.unit) cs))
-    by_tests true true x i j k rest a b d = absurd (let z : ⊥ = grind (arith, nat_tests) in z)
-    by_tests true false true i j k rest a b d = omega arith
-    by_tests true false false i j k rest a b d = absurd (let z : ⊥ = grind (arith, nat_tests) in z)
-    by_tests false true true i j k rest a b d = omega arith
-    by_tests false true false i j k rest a b d = absurd (let z : ⊥ = grind (arith, nat_tests) in z)
-    by_tests false false true i j k rest a b d = absurd (let z : ⊥ = grind (arith, nat_tests) in z)
-    by_tests false false false i j k rest a b d = rest
+    counts : (cs : List Command)
+        → count_by (λ c. (c.unit == u) && p c) cs + count_by (λ c. nat_le (u + 1) c.unit && p c) cs ≡ count_by (λ c. nat_le u c.unit && p c) cs
+    counts [] = refl
+    counts (c ∷ cs) =
+        omega (
+          arith,
+          counts cs,
+          one_of_units c.unit u (p c),
+          count-cons (λ c. (c.unit == u) && p c) c cs,
+          count-cons (λ c. nat_le (u + 1) c.unit && p c) c cs,
+          count-cons (λ c. nat_le u c.unit && p c) c cs,
+        )
 
 -- the commands of units are no more than all
 units_counted : (p : Command → Bool) (cs : List Command) (u n : ℕ) → count_by p (flat_map (λ v. filter (λ c. c.unit == v) cs) (range_with_len u n)) ≤ count_by p (filter (λ c. nat_le u c.unit) cs)
 units_counted p cs u zero = omega arith
-units_counted p cs u (suc n) =
-    let here : List Command = filter (λ c. c.unit == u) cs in
-    let later : List Command = flat_map (λ v. filter (λ c. c.unit == v) cs) (range_with_len (u + 1) n) in
-    omega (arith, sum_by-append (λ y. cond (p y) 1 0) here later, units_counted p cs (u + 1) n, of_units p u cs)
+units_counted p cs u (suc n) = grind (arith, units_counted p cs (u + 1) n, sum_by-append, of_units)
 
 -- ---- what is held
 
@@ -114,12 +94,7 @@ in-held_among t (n ∷ ns) b h = by_held (in-held_among t ns b) (held t n) refl 
 -- the connection that is closed with the last others
 known_last : (t : Trace) (closing k : ℕ) (conns : List (ℕ × ℕ)) → list_all (λ (c : ℕ × ℕ). (c.0 == closing) || is_closed c.0 t) conns ≡ true → is_known k conns ≡ true → ((k == closing) || is_closed k t) ≡ true
 known_last t closing k [] all known = absurd (false≢true known)
-known_last t closing k (c ∷ conns) all known =
-    let parts = and_parts ((c.0 == closing) || is_closed c.0 t) (list_all (λ (x : ℕ × ℕ). (x.0 == closing) || is_closed x.0 t) conns) all in
-    elim (c.0 == k) as (λ b. (c.0 == k) ≡ b → (b || is_known k conns) ≡ true → ((k == closing) || is_closed k t) ≡ true) [
-      | true ↦ λ is found. subst (λ n. ((n == closing) || is_closed n t) ≡ true) (eqb-true c.0 k is) parts.0
-      | false ↦ λ is found. known_last t closing k conns parts.1 found
-    ] refl known
+known_last t closing k (c ∷ conns) all known = grind (arith, known_last t closing k conns)
 
 pub record Does (o : Setting) (t : Trace) (start : Start) (a : Arrival) (ms : List Mark) : Type 0 where
   pub deeds : Deeds
@@ -137,6 +112,18 @@ pub record DoesAny (o : Setting) (t : Trace) (start : Start) (a : Arrival) (ms :
   pub does : Does o t start a ms
   pub accepted : is_abort a.request ≡ true → is_completed_by a does.deeds ≡ true → refusal_of_function o a.request ≡ None
   pub sweeps : is_abort a.request ≡ true → is_set_abort a.request ≡ true → is_completed_by a does.deeds ≡ true → Sweeps o (begun start a t) a does.deeds
+
+-- what is done where there is taken out what there is of these connections
+abbrev parted : Setting → Trace → Arrival → (ℕ → Bool) → Option ℕ → Bool → Deeds
+parted o t a of_these closing ending = record {
+  void = None;
+  leaving = filter (λ (c : Command). of_these (connection_of c.arrival.request)) (live_of_units o t);
+  emptied = filter (λ (b : Arrival). of_these (connection_of b.request)) (all_held o t);
+  entering = None;
+  reply = Some (Logout (itt a.request) 0);
+  closing = closing;
+  ending = ending;
+}
 
 -- it closes something
 abbrev closes : Deed → Bool
@@ -189,15 +176,7 @@ module _ (o : Setting) (t : Trace) (start : Start) (a : Arrival) where
 
   leave_done : (cs : List Command) → ((p : Command → Bool) → count_by p cs ≤ count_by p (live t')) → IsDone o t start a (record idle { leaving = cs; reply = Some (Task (itt a.request) 0) })
   unfolding t'
-  leave_done cs few = record {
-    voids = tt;
-    missing = tt;
-    leaves = λ p. omega (arith, few p, ap (count_by p) (live-begun start a t));
-    empties = λ b h. absurd h;
-    enters = tt;
-    answers = refl;
-    takes_out = λ h. absurd (false≢true h);
-  }
+  leave_done cs few = grind (arith, live-begun)
 
   empty_done : (b : Arrival) → held t' b.number ≡ Some b → IsDone o t start a (record idle { emptied = b ∷ []; reply = Some (Task (itt a.request) 0) })
   unfolding t'
@@ -214,40 +193,16 @@ module _ (o : Setting) (t : Trace) (start : Start) (a : Arrival) where
   -- a number is voided, if it wasn't received before
   void_done : (n : ℕ) → is_received t' n ≡ false → is_immediate a.request ≡ true → (function a.request == 1) ≡ true → IsDone o t start a (record idle { void = Some n; reply = Some (Task (itt a.request) 0) })
   unfolding t'
-  void_done n new immediate one = record {
-    voids = ap (λ ns. list_any (λ k. k == n) ns) (sym (received-begun start a t)) ∙ new;
-    missing = (immediate, one);
-    leaves = λ p. omega arith;
-    empties = λ b h. absurd h;
-    enters = tt;
-    answers = refl;
-    takes_out = λ h. absurd (false≢true h);
-  }
+  void_done n new immediate one = grind (arith, received-begun)
 
   -- ---- Logout
 
   -- it takes out what there is of these connections
   does_part : (of_these : ℕ → Bool) (closing : Option ℕ) (ending : Bool) → Each (λ conn. of_these conn ≡ true) closing → (ending ≡ true → (conn : ℕ) → is_open o t' conn ≡ true → of_these conn ≡ true)
-      → Does o t start a (marks_done a (record {
-        void = None;
-        leaving = filter (λ (c : Command). of_these (connection_of c.arrival.request)) (live_of_units o t');
-        emptied = filter (λ (b : Arrival). of_these (connection_of b.request)) (all_held o t');
-        entering = None;
-        reply = Some (Logout (itt a.request) 0);
-        closing = closing;
-        ending = ending;
-      }))
+      → Does o t start a (marks_done a (parted o t' a of_these closing ending))
   unfolding t'
   does_part of_these closing ending closes ends = record {
-    deeds = record {
-      void = None;
-      leaving = filter (λ (c : Command). of_these (connection_of c.arrival.request)) (live_of_units o t');
-      emptied = filter (λ (b : Arrival). of_these (connection_of b.request)) (all_held o t');
-      entering = None;
-      reply = Some (Logout (itt a.request) 0);
-      closing = closing;
-      ending = ending;
-    };
+    deeds = parted o t' a of_these closing ending;
     is = refl;
     done = record {
       voids = tt;
@@ -260,22 +215,31 @@ module _ (o : Setting) (t : Trace) (start : Start) (a : Arrival) where
     };
   }
 
-  -- it is answered by a Logout Response
-  closes_well : (d : Deed) (ms : List Mark) → closes d ≡ true → is_refused d ≡ false → (does : Does o t start a ms) → is_completed_by a does.deeds ≡ false → DoesWell o t start a d ms
-  closes_well d ms closing not_refused does none = record {
-    does = does;
-    stays = λ h. absurd (false≢true (sym h ∙ closing));
-    sweeps = λ set h. absurd (false≢true (sym none ∙ h));
-    accepted = λ x is. absurd (false≢true (sym not_refused ∙ ap is_refused is));
-  }
+  -- it is done well, where it isn't an answer alone
+  does_well : (d : Deed) (ms : List Mark) (does : Does o t start a ms) → (closes d ≡ false → is_closing does.deeds ≡ false)
+      → (is_set_abort a.request ≡ true → is_completed_by a does.deeds ≡ true → Sweeps o (begun start a t) a does.deeds)
+      → is_refused d ≡ false → DoesWell o t start a d ms
+  does_well d ms does stays sweeps not_refused =
+      record { does = does; stays = stays; sweeps = sweeps; accepted = λ x is. absurd (false≢true (sym not_refused ∙ ap is_refused is)) }
+
+  -- it closes something, or a command enters, or nothing happens: no function is completed by that
+  does_other : (d : Deed) (ms : List Mark) (does : Does o t start a ms) → (closes d ≡ false → is_closing does.deeds ≡ false)
+      → is_completed_by a does.deeds ≡ false → is_refused d ≡ false → DoesWell o t start a d ms
+  does_other d ms does stays none not_refused = does_well d ms does stays (λ set h. absurd (false≢true (sym none ∙ h))) not_refused
 
   does_end : DoesWell o t start a CloseSession (end_session o t' a)
   unfolding t' does_part
-  does_end = subst (DoesWell o t start a CloseSession) (simp append_assoc) (closes_well CloseSession _ refl refl (does_part (λ conn. true) None true tt (λ ends conn here. refl)) refl)
+  does_end =
+      subst (DoesWell o t start a CloseSession) (simp append_assoc)
+      (does_other CloseSession _ (does_part (λ conn. true) None true tt (λ ends conn here. refl)) (λ h. absurd (false≢true (sym h))) refl refl)
 
   does_close : (closing : ℕ) → DoesWell o t start a (CloseConn closing) (close_conn o t' a closing)
   unfolding t' does_part
-  does_close closing = subst (DoesWell o t start a (CloseConn closing)) (simp append_assoc) (closes_well (CloseConn closing) _ refl refl (does_part (λ conn. conn == closing) (Some closing) (is_last_open o t' closing) (eq-eqb closing closing refl) last) refl)
+  does_close closing =
+      subst (DoesWell o t start a (CloseConn closing)) (simp append_assoc)
+      (does_other (CloseConn closing) _
+      (does_part (λ conn. conn == closing) (Some closing) (is_last_open o t' closing) (eq-eqb closing closing refl) last)
+      (λ h. absurd (false≢true (sym h))) refl refl)
     where
       last : is_last_open o t' closing ≡ true → (conn : ℕ) → is_open o t' conn ≡ true → (conn == closing) ≡ true
       last ends conn here =
@@ -286,32 +250,19 @@ module _ (o : Setting) (t : Trace) (start : Start) (a : Arrival) where
 
   -- a reply has the request's tag, or its header
   reply_answers : (x : Answer) → Answers a.request (reply_of a.request x)
-  reply_answers (Reject reason) = refl
-  reply_answers Pong = refl
-  reply_answers NoUnit = refl
-  reply_answers Full = refl
-  reply_answers (Respond response) = refl
-  reply_answers (LogOut response) = refl
+  reply_answers x = grind arith
 
   completed_is : (x : Answer) → is_complete (itt a.request) (reply_of a.request x) ≡ true → x ≡ Respond 0
-  completed_is (Respond response) h = ap Respond (eqb-true response 0 (and_second (itt a.request == itt a.request) (response == 0) h))
-  completed_is (Reject reason) h = absurd (false≢true h)
-  completed_is Pong h = absurd (false≢true h)
-  completed_is NoUnit h = absurd (false≢true h)
-  completed_is Full h = absurd (false≢true h)
-  completed_is (LogOut response) h = absurd (false≢true h)
+  completed_is x h = grind arith
 
   abbrev DoesDeed : Deed → Type 0
   DoesDeed d = DoesWell o t start a d (deed_marks o t' a d)
 
   -- a function that is no abort of a whole set takes this out, or nothing
   does_single : (d : Deed) (ds : Deeds) → IsDone o t start a ds → is_closing ds ≡ false → (function a.request == 1) ≡ true → is_refused d ≡ false → DoesWell o t start a d (marks_done a ds)
-  does_single d ds done stays one not_refused = record {
-    does = record { deeds = ds; is = refl; done = done };
-    stays = λ h. stays;
-    sweeps = λ set h. absurd (false≢true (sym (unset a.request 1 one refl) ∙ set));
-    accepted = λ x is. absurd (false≢true (sym not_refused ∙ ap is_refused is));
-  }
+  does_single d ds done stays one not_refused =
+      does_well d _ (record { deeds = ds; is = refl; done = done }) (λ h. stays)
+      (λ set h. absurd (false≢true (sym (unset a.request 1 one refl) ∙ set))) not_refused
 
   does_void : Befits (facts_of o t' a) a.request Void → DoesDeed Void
   unfolding t'
@@ -345,25 +296,12 @@ module _ (o : Setting) (t : Trace) (start : Start) (a : Arrival) where
   does_all : (d : Deed) → is_refused d ≡ false → (unit : ℕ) → unit_named o.units a.request ≡ Some unit → (covers : Command → Bool) → ((c : Command) → is_before a c ≡ true → covers c ≡ true) → ((function a.request == 5) ≡ true → (c : Command) → covers c ≡ true)
       → DoesWell o t start a d (abort_all t' a unit covers)
   unfolding t'
-  does_all d not_refused unit named covers early whole = record {
-    does = record {
-      deeds = record idle { leaving = filter covers (live_in unit t'); reply = Some (Task (itt a.request) 0) };
-      is = refl;
-      done = leave_done (filter covers (live_in unit t')) (λ p. omega (arith, fewer_counted p covers (live_in unit t'), fewer_counted p (λ (c : Command). c.unit == unit) (live t')));
-    };
-    stays = λ h. refl;
-    sweeps = λ set h. record { unit = unit; named = named; covers = covers; early = early; whole = whole; is = refl };
-    accepted = λ x is. absurd (false≢true (sym not_refused ∙ ap is_refused is));
-  }
-
-  -- it closes something, or a command enters, or nothing happens: no function is completed by that
-  does_other : (d : Deed) (ms : List Mark) (does : Does o t start a ms) → (closes d ≡ false → is_closing does.deeds ≡ false) → is_completed_by a does.deeds ≡ false → is_refused d ≡ false → DoesWell o t start a d ms
-  does_other d ms does stays none not_refused = record {
-    does = does;
-    stays = stays;
-    sweeps = λ set h. absurd (false≢true (sym none ∙ h));
-    accepted = λ x is. absurd (false≢true (sym not_refused ∙ ap is_refused is));
-  }
+  does_all d not_refused unit named covers early whole =
+      let cs : List Command = filter covers (live_in unit t') in
+      let few : (p : Command → Bool) → count_by p cs ≤ count_by p (live t') =
+      λ p. omega (arith, fewer_counted p covers (live_in unit t'), fewer_counted p (λ (c : Command). c.unit == unit) (live t')) in
+      does_well d _ (record { deeds = record idle { leaving = cs; reply = Some (Task (itt a.request) 0) }; is = refl; done = leave_done cs few }) (λ h. refl)
+      (λ set h. record { unit = unit; named = named; covers = covers; early = early; whole = whole; is = refl }) not_refused
 
   does_deed : (d : Deed) → Befits (facts_of o t' a) a.request d → DoesDeed d
   unfolding t' does_nothing does_reply does_enter
@@ -407,11 +345,7 @@ module _ (o : Setting) (t : Trace) (start : Start) (a : Arrival) where
     where
       -- a function that is completed isn't refused
       unrefused : (x : DoesDeed (deed_of (facts_of o t' a) a.request)) → is_abort a.request ≡ true → is_completed_by a x.does.deeds ≡ true → (y : Option Answer) → refusal o.level (unit_named o.units a.request) a.request ≡ y → refusal_of_function o a.request ≡ None
-      unrefused x aborts h None is = ap (option_map (reply_of a.request)) is
-      unrefused x aborts h (Some y) is =
-          let one : (opcode a.request == 0x02) ≡ true = and_first (opcode a.request == 0x02) (function a.request == 1 || is_set_abort a.request) aborts in
-          let refused : deed_of (facts_of o t' a) a.request ≡ Replies y = rw (one, is) in
-          absurd (refused_otherwise (facts_of o t' a) a.request y is (x.accepted y refused h))
+      unrefused x aborts h y is = grind (arith, nat_tests)
 
   pub does_after : Does o t start a (marks_after o (begun start a t) a)
   does_after = any_does.does

@@ -1,7 +1,6 @@
 -- In the trace of a list of events each item has a form, and stands where it is due: the one walk over the agenda.
 use Rattle.std.proofs.Common.{◌≡◌, ℕ, zero, suc, ◌+◌, ◌-◌, ◌<◌, ◌≤◌, ◌==◌, ◌&&◌, ◌||◌, inl, inr, not, cond, Bool, true, false, List, [], ◌∷◌, ◌++◌, filter, length, Option, Some, None, refl, ap, sym, subst, ◌∙◌, arith, nat_lt, nat_le}
-use Rattle.std.proofs.lemmas.Bool.{eqb-true, false≢true}
-use Rattle.std.proofs.lemmas.Bool.Decides.{nat_tests}
+use Rattle.std.proofs.lemmas.Bool.{eqb-true, false≢true, cond_both}
 use Rattle.iscsi_wire.specs.Fields.{connection_of, function, header_of, is_immediate, opcode, itt, request_of}
 use Rattle.iscsi_wire.specs.declared.reply.Reply.{Reply}
 use Rattle.iscsi_wire.specs.declared.reply.Reply.TheVariants.{Task, Reject}
@@ -16,11 +15,11 @@ use Rattle.iscsi_history.specs.rules.Trace.{Arrival, Command, Mark, Admits, Exec
 use Rattle.iscsi_history.specs.rules.Execution.{exp_of, max_of, rejected, ignored, completion, reply_on}
 use Rattle.iscsi_history.specs.rules.Items.{execution, waiting_item, immediate_item, function_item, item_of, is_waiting, functions, functions_at, turn_at, at_number, agenda}
 use Rattle.iscsi_history.specs.rules.Management.{may_wait, refusal_of_function, MOST_WAITING, waiting_on}
-use Rattle.iscsi_history.specs.rules.Agenda.{with_turns, numbered, kind_of, arrival_as, arrival_open, arrival, arrival_of, command_of, items_of}
+use Rattle.iscsi_history.specs.rules.Agenda.{with_turns, numbered, kind_of, arrival_as, arrival, arrival_of, command_of, items_of}
 use Rattle.iscsi_history.specs.rules.Run.{after_event, after_events, trace_of}
 use Rattle.iscsi_history.specs.promises.Aborts.{is_set_abort, is_abort, is_complete}
 use Rattle.iscsi_history.specs.promises.Answers.{Answers}
-use Rattle.iscsi_history.proofs.BoolLemmas.{and_both, and_false, and_first, or_none}
+use Rattle.iscsi_history.proofs.BoolLemmas.{and_both, and_false, and_first}
 use Rattle.iscsi_history.proofs.ElementLemmas.{In, in-filter, first-in}
 use Rattle.iscsi_history.proofs.HeldLemmas.{held-number}
 use Rattle.iscsi_history.proofs.Missing.{exp_item}
@@ -127,20 +126,12 @@ module _ (Q : Trace → Arrival → Type 0) (o : Setting) (now : ℕ) where
 
   numbered_stands : (t : Trace) (a : Arrival) → a.event ≡ now → Q t a → TurnsOf t (numbered o t a)
   numbered_stands t a here q =
-      elim (nat_lt a.number (exp_of o t) || nat_lt (max_of o t) a.number) as (λ b. (nat_lt a.number (exp_of o t) || nat_lt (max_of o t) a.number) ≡ b
-      → TurnsOf t (cond b (ignored Outside) (cond (is_received t a.number) (ignored Duplicate) (with_turns o t (Admits a ∷ []))))) [
-        | true ↦ λ outside. ignored_stands t Outside
-        | false ↦ λ outside. elim (is_received t a.number) as (λ b. is_received t a.number ≡ b → TurnsOf t (cond b (ignored Duplicate) (with_turns o t (Admits a ∷ [])))) [
-          | true ↦ λ is. ignored_stands t Duplicate
-          | false ↦ λ is.
-              let tests = or_none (nat_lt a.number (exp_of o t)) (nat_lt (max_of o t) a.number) outside in
-              let below : nat_lt a.number (exp_of o t) ≡ false = tests.0 in
-              let above : nat_lt (max_of o t) a.number ≡ false = tests.1 in
-              let low : exp_of o t ≤ a.number = grind (arith, nat_tests) in
-              let high : a.number ≤ max_of o t = grind (arith, nat_tests) in
-              turns_stand t (Admits a ∷ []) (record { has = record { form = Received a; is = refl; formed = (here, is) }; at = (q, (low, high)) })
-        ] refl
-      ] refl
+      cond_both (nat_lt a.number (exp_of o t) || nat_lt (max_of o t) a.number) _ _ (TurnsOf t) (λ outside. ignored_stands t Outside) (λ inside.
+      cond_both (is_received t a.number) _ _ (TurnsOf t) (λ is. ignored_stands t Duplicate) (λ new.
+      turns_stand t (Admits a ∷ []) (record { has = record { form = Received a; is = refl; formed = (here, new) }; at = (q, in_window inside) })))
+    where
+      in_window : (nat_lt a.number (exp_of o t) || nat_lt (max_of o t) a.number) ≡ false → (exp_of o t ≤ a.number) × (a.number ≤ max_of o t)
+      in_window inside = grind arith
 
   -- a request that executes as it arrives
   starts_at_once : (t : Trace) (a : Arrival) → a.event ≡ now → Q t a → (is_abort a.request ≡ true → is_set_abort a.request ≡ true → is_completed_by a (any_does o t AtArrival a).does.deeds ≡ true → a.number ≤ exp_of o t) → Stands (exp_of o t) t (execution o t (Executes a) a)
@@ -156,7 +147,7 @@ module _ (Q : Trace → Arrival → Type 0) (o : Setting) (now : ℕ) where
       by_tests : (b c : Bool) → nat_lt (exp_of o t) a.number ≡ c → (d : Bool)
           → Stands (exp_of o t) t (cond b (Executes a ∷ reply_on a (Task (itt a.request) 255)) (cond (not c) (execution o t (Executes a) a) (cond d (Executes a ∷ reply_on a (Reject 6 (header_of a.request))) (Waits a ∷ []))))
       by_tests true c is d = refused_stands t a (Task (itt a.request) 255) here q refl (and_false (itt a.request == itt a.request))
-      by_tests false false is d = starts_at_once t a here q (λ aborts set done. let by : a.number ≤ exp_of o t = grind (arith, nat_tests) in by)
+      by_tests false false is d = starts_at_once t a here q (λ aborts set done. let by : a.number ≤ exp_of o t = grind arith in by)
       by_tests false true is true = refused_stands t a (Reject 6 (header_of a.request)) here q refl refl
       by_tests false true is false = record { has = record { form = Postponed a; is = refl; formed = here }; at = q }
 
@@ -172,19 +163,14 @@ module _ (Q : Trace → Arrival → Type 0) (o : Setting) (now : ℕ) where
 
   arrival_stands : (t : Trace) (a : Arrival) → a.event ≡ now → (is_closed (connection_of a.request) t ≡ false → Q t a) → TurnsOf t (arrival o t a)
   arrival_stands t a here comes =
-      elim (is_closed (connection_of a.request) t) as (λ b. is_closed (connection_of a.request) t ≡ b → TurnsOf t (cond b (ignored Closed) (arrival_open o t a))) [
-        | true ↦ λ is. ignored_stands t Closed
-        | false ↦ λ is. by_kind (comes is) (kind_of a.request)
-      ] refl
+      cond_both (is_closed (connection_of a.request) t) _ _ (TurnsOf t) (λ is. ignored_stands t Closed) (λ is. by_kind (comes is) (kind_of a.request))
     where
       by_kind : Q t a → (k : Kind) → TurnsOf t (arrival_as o t a k)
       by_kind q PassedOver = ignored_stands t Data
       by_kind q Unknown = alone t (rejected a) (record { has = record { form = Rejected a; is = refl; formed = tt }; at = q })
       by_kind q ExecutesKind =
-          elim (is_immediate a.request) as (λ b. is_immediate a.request ≡ b → TurnsOf t (cond b (with_turns o t (immediate_item o t a)) (numbered o t a))) [
-            | true ↦ λ is. turns_stand t (immediate_item o t a) (immediate_stands t a here q is)
-            | false ↦ λ is. numbered_stands t a here q
-          ] refl
+          cond_both (is_immediate a.request) _ _ (TurnsOf t)
+          (λ is. turns_stand t (immediate_item o t a) (immediate_stands t a here q is)) (λ is. numbered_stands t a here q)
 
   completion_stands : (t : Trace) (ticket status : ℕ) → TurnsOf t (completion status (command_of t ticket))
   completion_stands t ticket status = by_command (command_of t ticket) refl
@@ -210,8 +196,7 @@ abbrev pub AnyArrival : Trace → Arrival → Type 0
 AnyArrival t a = Unit {0}
 
 pub any_brought : (o : Setting) (now : ℕ) (t : Trace) (e : Event) → Brings AnyArrival o now t e
-any_brought o now t (Arrive conn header) = λ h. tt
-any_brought o now t (Done ticket status) = tt
+any_brought o now t e = grind arith
 
 HaveForms-on : (o : Setting) (p q : ℕ) (t : Trace) → p ≤ q → HaveForms o p t → HaveForms o q t
 HaveForms-on o p q [] on x = tt
@@ -219,14 +204,7 @@ HaveForms-on o p q (item ∷ t) on x = (x.0, ((let z : x.0 < q = omega (arith, x
 
 -- an item that has its turn begins no arrival
 turn_arrives_not : (form : Form) → is_turn form ≡ true → is_arrival form ≡ false
-turn_arrives_not (Ignored why) h = refl
-turn_arrives_not (Rejected a) h = refl
-turn_arrives_not (Received a) h = absurd (false≢true h)
-turn_arrives_not (Postponed a) h = absurd (false≢true h)
-turn_arrives_not (Completed c status) h = refl
-turn_arrives_not (Executed AtTurn a d) h = refl
-turn_arrives_not (Executed AtArrival a d) h = absurd (false≢true h)
-turn_arrives_not (Executed AfterWaiting a d) h = refl
+turn_arrives_not form h = grind arith
 
 -- one item more: the first of its event, or one that has its turn
 HaveForms-more : (o : Setting) (now : ℕ) (t : Trace) (item : List Mark) (f : HasForm o now t item) → HaveForms o (cond (is_arrival f.form) now (now + 1)) t → HaveForms o (now + 1) (item ∷ t)
@@ -242,18 +220,11 @@ pub event_going : (o : Setting) (now : ℕ) (t : Trace) (e : Event) → HaveForm
 event_going o now t e x = by_items (items_of o now t e) (event_stands AnyArrival o now t e (any_brought o now t e))
   where
     by_items : (items : List (List Mark)) → TurnsOf AnyArrival o now t items → HaveForms o (now + 1) (after_items items t)
-    by_items [] s = absurd s
-    by_items (item ∷ items) s = turns_going o now _ _ (item ∷ t) items s.1 (HaveForms-more o now t item s.0.has (by_arrival (is_arrival s.0.has.form)))
-      where
-        by_arrival : (b : Bool) → HaveForms o (cond b now (now + 1)) t
-        by_arrival true = x
-        by_arrival false = HaveForms-on o now (now + 1) t (omega arith) x
+    by_items items s = grind (arith, turns_going, HaveForms-on)
 
 events_have_forms : (o : Setting) (now : ℕ) (t : Trace) (h : List Event) → HaveForms o now t → HaveForms o (now + length h) (after_events o now t h)
 events_have_forms o now t [] x = HaveForms-on o now (now + 0) t (omega arith) x
-events_have_forms o now t (e ∷ h) x =
-    HaveForms-on o ((now + 1) + length h) (now + suc (length h)) (after_events o (now + 1) (after_event o now t e) h) (omega arith)
-    (events_have_forms o (now + 1) (after_event o now t e) h (event_going o now t e x))
+events_have_forms o now t (e ∷ h) x = grind (arith, events_have_forms o (now + 1) (after_event o now t e) h, event_going)
 
 -- each item of the trace of these events has a form
 pub trace_has_forms : (o : Setting) (h : List Event) → HaveForms o (length h) (trace_of o h)

@@ -1,49 +1,30 @@
 -- Which requests are held, and which are due.
-use Rattle.std.proofs.Common.{◌≡◌, ℕ, ◌==◌, ◌||◌, ◌⊎◌, inl, inr, ⊎_elim, cond, Bool, true, false, List, [], ◌∷◌, ◌++◌, Option, Some, None, option_map, refl, ap, sym, ◌∙◌, eq-eqb, ◌&&◌, ◌<◌, ◌≤◌, ◌+◌, zero, suc, filter, arith, nat_lt, subst}
-use Rattle.std.specs.List.{list_any, filter_map, cons_option, range_with_len}
-use Rattle.std.proofs.lemmas.Bool.{eqb-true}
+use Rattle.std.proofs.Common.{◌≡◌, ℕ, ◌==◌, ◌||◌, ◌⊎◌, ⊎_elim, cond, Bool, true, false, List, [], ◌∷◌, ◌++◌, Option, Some, None, option_map, refl, ap, ◌∙◌, ◌&&◌, ◌<◌, ◌≤◌, ◌+◌, zero, suc, filter, arith, nat_lt, subst}
+use Rattle.std.specs.List.{filter_map, cons_option, range_with_len}
 use Rattle.std.proofs.lemmas.List.{append-nil}
-use Rattle.iscsi_history.specs.rules.Trace.{Arrival, Mark, Admits, Delivers, Executes, Voids, Empties, Waits, Leaves, Enters, Sends, ClosesConn, ClosesSession, Ignores, Trace, shown, first_of, is_received, is_delivered, is_emptied, held, admitted, admits_at, delivers_number, received, empties_number, held_among}
+use Rattle.iscsi_history.specs.rules.Trace.{Arrival, Mark, Admits, Delivers, Trace, shown, first_of, is_received, is_delivered, is_emptied, held, admitted, admits_at, received, held_among}
 use Rattle.iscsi_history.specs.promises.Executed.{request_at}
 use Rattle.iscsi_history.proofs.TraceLemmas.{unadmitted}
 use Rattle.iscsi_history.proofs.DeliveryLemmas.{IsQuiet}
 use Rattle.std.proofs.lemmas.List.Folds.{list_any-append}
-use Rattle.iscsi_history.proofs.BoolLemmas.{or_false, and_first}
+use Rattle.iscsi_history.proofs.BoolLemmas.{or_false}
 use Rattle.iscsi_wire.specs.declared.request.Request.{Request}
 use Rattle.iscsi_history.specs.rules.Settings.{Setting}
 use Rattle.iscsi_history.proofs.ListLemmas.{first_itself}
-use Rattle.iscsi_history.specs.rules.Management.{held_command, held_requests, is_to}
+use Rattle.iscsi_history.specs.rules.Management.{held_command, is_to}
 use Rattle.iscsi_wire.specs.Fields.{itt, opcode}
-use Rattle.std.proofs.lemmas.Bool.Decides.{nat_tests}
 use Rattle.iscsi_history.specs.rules.Execution.{exp_of}
 
 -- ---- who was admitted at a number
 
 pub first_of-append : {A : Type 0} (xs ys : List A) (x : A) → first_of (xs ++ ys) ≡ Some x → (first_of xs ≡ Some x) ⊎ (first_of ys ≡ Some x)
-first_of-append [] ys x h = inr h
-first_of-append (z ∷ xs) ys x h = inl h
+first_of-append xs ys x h = grind arith
 
 mark_number : (n : ℕ) (m : Mark) (a : Arrival) → admits_at n m ≡ Some a → a.number ≡ n
-mark_number n (Admits b) a h =
-    elim (b.number == n) as (λ v. (b.number == n) ≡ v → cond v (Some b) None ≡ Some a → a.number ≡ n) [
-      | true ↦ λ is found. let same : b ≡ a = cc in ap (λ (x : Arrival). x.number) (sym same) ∙ eqb-true b.number n is
-      | false ↦ λ is found. absurd cc
-    ] refl h
-mark_number n (Delivers b) a h = absurd cc
-mark_number n (Executes b) a h = absurd cc
-mark_number n (Voids k) a h = absurd cc
-mark_number n (Empties b) a h = absurd cc
-mark_number n (Waits b) a h = absurd cc
-mark_number n (Leaves c) a h = absurd cc
-mark_number n (Enters c) a h = absurd cc
-mark_number n (Sends conn reply) a h = absurd cc
-mark_number n (ClosesConn conn) a h = absurd cc
-mark_number n ClosesSession a h = absurd cc
-mark_number n (Ignores why) a h = absurd cc
+mark_number n m a h = grind arith
 
 pub first_of-cons : {A : Type 0} (x : Option A) (xs : List A) (y : A) → first_of (cons_option x xs) ≡ Some y → (x ≡ Some y) ⊎ (first_of xs ≡ Some y)
-first_of-cons None xs y h = inr h
-first_of-cons (Some x) xs y h = inl h
+first_of-cons x xs y h = grind arith
 
 item_number : (n : ℕ) (item : List Mark) (a : Arrival) → first_of (filter_map (admits_at n) item) ≡ Some a → a.number ≡ n
 item_number n [] a h = absurd cc
@@ -63,20 +44,11 @@ held-number t n a h =
 
 -- and was admitted
 pub admitted_of_held : (t : Trace) (n : ℕ) (a : Arrival) → held t n ≡ Some a → admitted t n ≡ Some a
-admitted_of_held t n a h =
-    elim (is_delivered t n || is_emptied t n) as (λ b. cond b None (admitted t n) ≡ Some a → admitted t n ≡ Some a) [
-      | true ↦ λ found. absurd cc
-      | false ↦ λ found. found
-    ] h
+admitted_of_held t n a h = grind arith
 
 -- and isn't taken out
 pub held_unemptied : (t : Trace) (n : ℕ) (a : Arrival) → held t n ≡ Some a → is_emptied t n ≡ false
-held_unemptied t n a h = by_tests (is_delivered t n) (is_emptied t n) h
-  where
-    by_tests : (d e : Bool) → cond (d || e) None (admitted t n) ≡ Some a → e ≡ false
-    by_tests true e found = absurd cc
-    by_tests false true found = absurd cc
-    by_tests false false found = refl
+held_unemptied t n a h = grind arith
 
 -- ---- one item more
 
@@ -87,55 +59,31 @@ pub held-admits : (t : Trace) (a : Arrival) (n : ℕ) → (a.number == n) ≡ fa
 held-admits t a n apart = ap (λ x. cond (is_delivered t n || is_emptied t n) None x) (admitted-admits t a n apart)
 
 pub held-here : (t : Trace) (a : Arrival) → is_received t a.number ≡ false → is_delivered t a.number ≡ false → is_emptied t a.number ≡ false → held ((Admits a ∷ []) ∷ t) a.number ≡ Some a
-held-here t a new undelivered unemptied =
-    ap (λ b. cond (b || is_emptied t a.number) None (admitted ((Admits a ∷ []) ∷ t) a.number)) undelivered
-    ∙ ap (λ b. cond b None (admitted ((Admits a ∷ []) ∷ t) a.number)) unemptied
-    ∙ ap (λ xs. first_of (xs ++ cons_option (cond (a.number == a.number) (Some a) None) [])) (unadmitted a.number t new)
-    ∙ ap (λ b. first_of (cons_option (cond b (Some a) None) [])) (eq-eqb a.number a.number refl)
+held-here t a new undelivered unemptied = grind (arith, unadmitted)
 
 -- a request's turn: others are held as before
 pub held-turned : (t : Trace) (a : Arrival) (ms : List Mark) (n : ℕ) → IsQuiet ms → (a.number == n) ≡ false → held ((Delivers a ∷ ms) ∷ t) n ≡ held t n
-held-turned t a ms n q apart =
-    ap (λ b. cond (((b || list_any (delivers_number n) ms) || is_delivered t n) || is_emptied ((Delivers a ∷ ms) ∷ t) n) None (admitted ((Delivers a ∷ ms) ∷ t) n)) apart
-    ∙ ap (λ b. cond ((b || is_delivered t n) || is_emptied ((Delivers a ∷ ms) ∷ t) n) None (admitted ((Delivers a ∷ ms) ∷ t) n)) (q.delivers_no n)
-    ∙ ap (λ b. cond (is_delivered t n || (b || is_emptied t n)) None (admitted ((Delivers a ∷ ms) ∷ t) n)) (q.empties_no n)
-    ∙ ap (λ xs. cond (is_delivered t n || is_emptied t n) None (first_of (shown (admits_at n) t ++ xs))) (q.admits n)
-    ∙ ap (λ xs. cond (is_delivered t n || is_emptied t n) None (first_of xs)) (append-nil (shown (admits_at n) t))
+held-turned t a ms n q apart = grind (arith, q.delivers_no n, q.empties_no n, q.admits n)
 
 -- the request itself isn't held any more
 pub held-delivered : (t : Trace) (a : Arrival) (ms : List Mark) (n : ℕ) → a.number ≡ n → held ((Delivers a ∷ ms) ∷ t) n ≡ None
-held-delivered t a ms n here =
-    ap (λ b. cond (((b || list_any (delivers_number n) ms) || is_delivered t n) || is_emptied ((Delivers a ∷ ms) ∷ t) n) None (admitted ((Delivers a ∷ ms) ∷ t) n)) (eq-eqb a.number n here)
+held-delivered t a ms n here = grind arith
 
 pub request_at-turned : (t : Trace) (a : Arrival) (ms : List Mark) (n : ℕ) → IsQuiet ms → request_at ((Delivers a ∷ ms) ∷ t) n ≡ request_at t n
-request_at-turned t a ms n q =
-    ap (λ b. cond (b || is_emptied t n) None (option_map (λ (b : Arrival). b.request) (admitted ((Delivers a ∷ ms) ∷ t) n))) (q.empties_no n)
-    ∙ ap (λ xs. cond (is_emptied t n) None (option_map (λ (b : Arrival). b.request) (first_of (shown (admits_at n) t ++ xs)))) (q.admits n)
-    ∙ ap (λ xs. cond (is_emptied t n) None (option_map (λ (b : Arrival). b.request) (first_of xs))) (append-nil (shown (admits_at n) t))
+request_at-turned t a ms n q = grind (arith, q.empties_no n, q.admits n)
 
 -- who is admitted after an admission
 pub admitted-cases : (t : Trace) (a : Arrival) (n : ℕ) (b : Arrival) → admitted ((Admits a ∷ []) ∷ t) n ≡ Some b → (admitted t n ≡ Some b) ⊎ (a ≡ b)
-admitted-cases t a n b h =
-    ⊎_elim (λ before. inl before) (λ now. inr (this (a.number == n) now)) (first_of-append (shown (admits_at n) t) (filter_map (admits_at n) (Admits a ∷ [])) b h)
-  where
-    this : (v : Bool) → first_of (cons_option (cond v (Some a) None) []) ≡ Some b → a ≡ b
-    this true h = cc
-    this false h = absurd cc
+admitted-cases t a n b h = grind arith
 
 -- ---- what is held was received
 
 pub held_received : (t : Trace) (n : ℕ) (h : Arrival) → held t n ≡ Some h → is_received t n ≡ true
-held_received t n h is = by_test (is_received t n) refl
-  where
-    by_test : (b : Bool) → is_received t n ≡ b → is_received t n ≡ true
-    by_test true said = said
-    by_test false said = absurd (let none : None ≡ Some h = sym (ap first_of (unadmitted n t said)) ∙ admitted_of_held t n h is in cc)
+held_received t n h is = grind (arith, unadmitted)
 
 -- what isn't received isn't held
 pub unreceived_unheld : (t : Trace) (n : ℕ) → is_received t n ≡ false → held t n ≡ None
-unreceived_unheld t n gone =
-    ap (λ xs. cond (is_delivered t n || is_emptied t n) None (first_of xs)) (unadmitted n t gone)
-    ∙ elim (is_delivered t n || is_emptied t n) as (λ b. (let x : Option Arrival = cond b None None in x) ≡ None) [ true ↦ refl | false ↦ refl ]
+unreceived_unheld t n gone = grind (arith, unadmitted)
 
 -- ---- an admission, and an item without one
 
@@ -148,22 +96,12 @@ request_at-admits t a k apart = ap (λ x. cond (is_emptied t k) None (option_map
 
 -- what is held after an item that admits nothing was held before
 pub held_before : (item : List Mark) (t : Trace) (n : ℕ) (h : Arrival) → filter_map (admits_at n) item ≡ [] → held (item ∷ t) n ≡ Some h → held t n ≡ Some h
-held_before item t n h none found = by_tests (list_any (delivers_number n) item) (is_delivered t n) (list_any (empties_number n) item) (is_emptied t n)
-    (sym (ap (λ xs. cond (is_delivered (item ∷ t) n || is_emptied (item ∷ t) n) None (first_of (shown (admits_at n) t ++ xs))) none ∙ ap (λ xs. cond (is_delivered (item ∷ t) n || is_emptied (item ∷ t) n) None (first_of xs)) (append-nil (shown (admits_at n) t))) ∙ found)
-  where
-    by_tests : (d d' f f' : Bool) → cond ((d || d') || (f || f')) None (admitted t n) ≡ Some h → cond (d' || f') None (admitted t n) ≡ Some h
-    by_tests true d' f f' k = absurd cc
-    by_tests false true f f' k = absurd cc
-    by_tests false false true f' k = absurd cc
-    by_tests false false false true k = absurd cc
-    by_tests false false false false k = k
+held_before item t n h none found = grind arith
 
 -- ---- by what the window sees of a number
 
 pub some_held : (b : Bool) (x : Option Arrival) (r : Request) → cond b (Some (option_map (λ (a : Arrival). a.request) x)) None ≡ Some (Some r) → (b ≡ true) × ((a : Arrival) × ((x ≡ Some a) × (a.request ≡ r)))
-some_held true None r h = absurd (let z : Some None ≡ Some (Some r) = h in cc)
-some_held true (Some a) r h = (refl, (a, (refl, cc)))
-some_held false x r h = absurd cc
+some_held b x r h = grind arith
 
 -- ---- the held command that a function asks for
 
@@ -175,19 +113,7 @@ module _ (o : Setting) (t : Trace) (tag unit below : ℕ) where
   -- none from the number below on
   pub none_below : (count e : ℕ) → below ≤ e → filter (is_sought o tag unit below) (held_among t (range_with_len e count)) ≡ []
   none_below zero e past = refl
-  none_below (suc count) e past = by_held (none_below count (e + 1) (omega arith)) (held t e) refl
-    where
-      rest : List Arrival
-      rest = held_among t (range_with_len (e + 1) count)
-
-      by_held : filter (is_sought o tag unit below) rest ≡ [] → (x : Option Arrival) → held t e ≡ x → filter (is_sought o tag unit below) (elim (held t e) [ Some a ↦ a ∷ [] | None ↦ [] ] ++ rest) ≡ []
-      by_held none None is = ap (λ y. filter (is_sought o tag unit below) ((let l : List Arrival = elim y [ Some a ↦ a ∷ [] | None ↦ [] ] in l) ++ rest)) is ∙ none
-      by_held none (Some a) is =
-          let number : a.number ≡ e = held-number t e a is in
-          let no : nat_lt a.number below ≡ false = grind (arith, nat_tests) in
-          ap (λ y. filter (is_sought o tag unit below) ((let l : List Arrival = elim y [ Some b ↦ b ∷ [] | None ↦ [] ] in l) ++ rest)) is
-          ∙ ap (λ b. cond (b && opcode a.request == 0x01 && itt a.request == tag && is_to o unit a.request) (a ∷ filter (is_sought o tag unit below) rest) (filter (is_sought o tag unit below) rest)) no
-          ∙ none
+  none_below (suc count) e past = grind (arith, none_below count (e + 1), held-number t e)
 
   -- the one that is found is held, at a number of the range
   pub found_held : (count e : ℕ) (h : Arrival) → first_of (filter (is_sought o tag unit below) (held_among t (range_with_len e count))) ≡ Some h
@@ -212,12 +138,7 @@ module _ (o : Setting) (t : Trace) (tag unit below : ℕ) where
 
 -- it is below the function's number
 pub held_command-below : (o : Setting) (t : Trace) (tag unit below : ℕ) (h : Arrival) → held_command o t tag unit below ≡ Some h → h.number < below
-held_command-below o t tag unit below h found =
-    let passes : (nat_lt h.number below && opcode h.request == 0x01 && itt h.request == tag && is_to o unit h.request) ≡ true = first_itself (λ x. nat_lt x.number below && opcode x.request == 0x01 && itt x.request == tag && is_to o unit x.request) (held_requests o t) h found in
-    by_test (and_first (nat_lt h.number below) (opcode h.request == 0x01) (and_first (nat_lt h.number below && opcode h.request == 0x01) (itt h.request == tag) (and_first (nat_lt h.number below && opcode h.request == 0x01 && itt h.request == tag) (is_to o unit h.request) passes)))
-  where
-    by_test : nat_lt h.number below ≡ true → h.number < below
-    by_test test = let lt : h.number < below = grind (arith, nat_tests) in lt
+held_command-below o t tag unit below h found = grind (arith, first_itself)
 
 -- and is held at a place of the window
 pub held_command-held : (o : Setting) (t : Trace) (tag unit below : ℕ) (h : Arrival) → held_command o t tag unit below ≡ Some h → (held t h.number ≡ Some h) × ((exp_of o t ≤ h.number) × (h.number < exp_of o t + o.window))

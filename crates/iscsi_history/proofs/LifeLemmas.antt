@@ -1,67 +1,37 @@
 -- Each command is started at most once.
 use Rattle.std.proofs.Common.{◌≡◌, ℕ, zero, suc, ◌+◌, ◌<◌, ◌≤◌, ◌==◌, ◌&&◌, ◌||◌, not, ⊎_elim, cond, Bool, true, false, List, [], ◌∷◌, ◌++◌, map, filter, length, count_by, Option, Some, None, refl, ap, sym, ◌∙◌, arith, eq-eqb, length-append}
+use Rattle.std.proofs.lemmas.Grind.{common_steps}
 use Rattle.std.specs.List.{list_any, filter_map, flat_map, range_with_len}
-use Rattle.std.proofs.lemmas.Bool.{false≢true, cases_eq}
-use Rattle.std.proofs.lemmas.Bool.Decides.{nat_tests}
+use Rattle.std.proofs.lemmas.Bool.{cases_eq}
 use Rattle.std.proofs.lemmas.List.{append-nil, map-append}
 use Rattle.std.proofs.lemmas.List.Elements.{filter-append}
-use Rattle.std.proofs.lemmas.List.Sums.{sum_by-cons}
+use Rattle.iscsi_history.proofs.ListLemmas.{none_left}
 use Rattle.iscsi_history.specs.rules.Settings.{Setting}
 use Rattle.iscsi_history.specs.rules.Trace.{Command, Mark, Trace, enters, entered, live, is_among, was_free}
 use Rattle.iscsi_history.specs.rules.Run.{newly_enabled}
 use Rattle.iscsi_history.proofs.DeliveryLemmas.{range_more}
 use Rattle.iscsi_history.proofs.Forms.{Each, HasForm, HaveForms}
-use Rattle.iscsi_history.proofs.NumberingLemmas.{to_list}
+use Rattle.iscsi_history.proofs.ListLemmas.{filter-swap}
+use Rattle.iscsi_history.proofs.DeedLemmas.{to_list}
 use Rattle.iscsi_history.proofs.TouchLemmas.{mine, entering_in, enters_form, EntersNext, entering_next}
 
 -- ---- lists of commands
 
-pub filter-swap : (p q : Command → Bool) (cs : List Command) → filter p (filter q cs) ≡ filter q (filter p cs)
-filter-swap p q [] = refl
-filter-swap p q (c ∷ cs) = by_tests (p c) (q c) refl refl (filter-swap p q cs)
-  where
-    by_tests : (a b : Bool) → p c ≡ a → q c ≡ b → filter p (filter q cs) ≡ filter q (filter p cs)
-        → filter p (cond b (c ∷ filter q cs) (filter q cs)) ≡ filter q (cond a (c ∷ filter p cs) (filter p cs))
-    by_tests true true i j rest = ap (λ v. cond v (c ∷ filter p (filter q cs)) (filter p (filter q cs))) i ∙ ap (λ ds. c ∷ ds) rest ∙ sym (ap (λ v. cond v (c ∷ filter q (filter p cs)) (filter q (filter p cs))) j)
-    by_tests true false i j rest = rest ∙ sym (ap (λ v. cond v (c ∷ filter q (filter p cs)) (filter q (filter p cs))) j)
-    by_tests false true i j rest = ap (λ v. cond v (c ∷ filter p (filter q cs)) (filter p (filter q cs))) i ∙ rest
-    by_tests false false i j rest = rest
-
 -- no command has the ticket just where none is among them
 pub mine-none : (k : ℕ) (cs : List Command) → is_among k cs ≡ false → mine k cs ≡ []
-mine-none k [] h = refl
-mine-none k (c ∷ cs) h = by_test (c.ticket == k) h (mine-none k cs)
-  where
-    by_test : (b : Bool) → (b || is_among k cs) ≡ false → (is_among k cs ≡ false → mine k cs ≡ []) → cond b (c ∷ mine k cs) (mine k cs) ≡ []
-    by_test true h rest = absurd (false≢true (sym h))
-    by_test false h rest = rest h
+mine-none k cs h = none_left (λ (c : Command). c.ticket == k) cs h
 
 pub among-mine : (k : ℕ) (cs : List Command) → mine k cs ≡ [] → is_among k cs ≡ false
 among-mine k [] h = refl
-among-mine k (c ∷ cs) h = by_test (c.ticket == k) h (among-mine k cs)
-  where
-    by_test : (b : Bool) → cond b (c ∷ mine k cs) (mine k cs) ≡ [] → (mine k cs ≡ [] → is_among k cs ≡ false) → (b || is_among k cs) ≡ false
-    by_test true h rest = absurd cc
-    by_test false h rest = rest h
+among-mine k (c ∷ cs) h = grind (arith, among-mine k cs)
 
 pub mine-none_counted : (k : ℕ) (cs : List Command) → count_by (λ c. c.ticket == k) cs ≤ 0 → mine k cs ≡ []
 mine-none_counted k [] h = refl
-mine-none_counted k (c ∷ cs) h =
-    let all : count_by (λ c. c.ticket == k) (c ∷ cs) ≡ cond (c.ticket == k) 1 0 + count_by (λ c. c.ticket == k) cs = sum_by-cons (λ d. cond (d.ticket == k) 1 0) c cs in
-    by_test (c.ticket == k) all (mine-none_counted k cs)
-  where
-    by_test : (b : Bool) → count_by (λ c. c.ticket == k) (c ∷ cs) ≡ cond b 1 0 + count_by (λ c. c.ticket == k) cs → (count_by (λ c. c.ticket == k) cs ≤ 0 → mine k cs ≡ []) → cond b (c ∷ mine k cs) (mine k cs) ≡ []
-    by_test true all rest = absurd (let z : ⊥ = omega arith in z)
-    by_test false all rest = rest (omega arith)
+mine-none_counted k (c ∷ cs) h = grind (arith, common_steps, mine-none_counted k cs)
 
 pub count-mine : (p : Command → Bool) (k : ℕ) (cs : List Command) → count_by (λ c. c.ticket == k && p c) cs ≡ count_by p (mine k cs)
 count-mine p k [] = refl
-count-mine p k (c ∷ cs) =
-    sum_by-cons (λ d. cond (d.ticket == k && p d) 1 0) c cs ∙ ap (λ n. cond (c.ticket == k && p c) 1 0 + n) (count-mine p k cs) ∙ by_test (c.ticket == k)
-  where
-    by_test : (b : Bool) → cond (b && p c) 1 0 + count_by p (mine k cs) ≡ count_by p (cond b (c ∷ mine k cs) (mine k cs))
-    by_test true = sym (sum_by-cons (λ d. cond (p d) 1 0) c (mine k cs))
-    by_test false = (let z : 0 + count_by p (mine k cs) ≡ count_by p (mine k cs) = omega arith in z)
+count-mine p k (c ∷ cs) = grind (arith, common_steps, count-mine p k cs)
 
 -- ---- tickets are 1, 2, 3, ..
 
@@ -75,11 +45,7 @@ tickets_count o (item ∷ t) next x =
   where
     one_more : (y : Option Command) → filter_map enters item ≡ to_list y → Each (EntersNext o t x.1.1.0.form) y → map (λ (c : Command). c.ticket) (entered t) ≡ range_with_len 1 (length (entered t))
         → map (λ (c : Command). c.ticket) (entered t ++ filter_map enters item) ≡ range_with_len 1 (length (entered t ++ filter_map enters item))
-    one_more None is e before =
-        ap (λ cs. map (λ (c : Command). c.ticket) (entered t ++ cs)) is
-        ∙ ap (map (λ (c : Command). c.ticket)) (append-nil (entered t)) ∙ before
-        ∙ ap (λ cs. range_with_len 1 (length cs)) (sym (append-nil (entered t)))
-        ∙ ap (λ cs. range_with_len 1 (length (entered t ++ cs))) (sym is)
+    one_more None is e before = grind (arith, append-nil)
     one_more (Some c) is e before =
         ap (λ cs. map (λ (d : Command). d.ticket) (entered t ++ cs)) is
         ∙ map-append (λ (d : Command). d.ticket) (entered t) (c ∷ [])
@@ -92,15 +58,14 @@ tickets_count o (item ∷ t) next x =
 -- a ticket that is yet to come is nobody's
 beyond_range : (a n k : ℕ) → a + n ≤ k → list_any (λ j. j == k) (range_with_len a n) ≡ false
 beyond_range a zero k h = refl
-beyond_range a (suc n) k h = ap (λ b. b || list_any (λ j. j == k) (range_with_len (a + 1) n)) (let z : (a == k) ≡ false = grind (arith, nat_tests) in z) ∙ beyond_range (a + 1) n k (omega arith)
+beyond_range a (suc n) k h = ap (λ b. b || list_any (λ j. j == k) (range_with_len (a + 1) n)) (let z : (a == k) ≡ false = grind arith in z) ∙ beyond_range (a + 1) n k (omega arith)
 
 among_tickets : (k : ℕ) (cs : List Command) → is_among k cs ≡ list_any (λ j. j == k) (map (λ (c : Command). c.ticket) cs)
 among_tickets k [] = refl
 among_tickets k (c ∷ cs) = ap (λ b. (c.ticket == k) || b) (among_tickets k cs)
 
 pub beyond_entered : (o : Setting) (t : Trace) (next : ℕ) → HaveForms o next t → (k : ℕ) → length (entered t) < k → is_among k (entered t) ≡ false
-beyond_entered o t next x k h =
-    among_tickets k (entered t) ∙ ap (list_any (λ j. j == k)) (tickets_count o t next x) ∙ beyond_range 1 (length (entered t)) k (omega arith)
+beyond_entered o t next x k h = grind (arith, among_tickets, tickets_count, beyond_range)
 
 -- ---- what an item enables
 
@@ -113,17 +78,11 @@ abbrev newly_in : List Mark → Trace → List Command → ℕ → List Command
 newly_in item t cs unit = filter (λ c. not (was_free c t)) (filter (λ c. was_free c (item ∷ t)) (filter (λ c. c.unit == unit) cs))
 
 mine-newly_in : (item : List Mark) (t : Trace) (cs : List Command) (k unit : ℕ) → mine k (newly_in item t cs unit) ≡ newly_in item t (mine k cs) unit
-mine-newly_in item t cs k unit =
-    filter-swap (λ c. c.ticket == k) (λ c. not (was_free c t)) (filter (λ c. was_free c (item ∷ t)) (filter (λ c. c.unit == unit) cs))
-    ∙ ap (filter (λ c. not (was_free c t))) (filter-swap (λ c. c.ticket == k) (λ c. was_free c (item ∷ t)) (filter (λ c. c.unit == unit) cs)
-    ∙ ap (filter (λ c. was_free c (item ∷ t))) (filter-swap (λ c. c.ticket == k) (λ c. c.unit == unit) cs))
+mine-newly_in item t cs k unit = grind (arith, filter-swap)
 
 mine-units : (item : List Mark) (t : Trace) (cs : List Command) (k : ℕ) (units : List ℕ) → mine k (flat_map (newly_in item t cs) units) ≡ flat_map (newly_in item t (mine k cs)) units
 mine-units item t cs k [] = refl
-mine-units item t cs k (unit ∷ units) =
-    filter-append (λ c. c.ticket == k) (newly_in item t cs unit) (flat_map (newly_in item t cs) units)
-    ∙ ap (λ ds. ds ++ mine k (flat_map (newly_in item t cs) units)) (mine-newly_in item t cs k unit)
-    ∙ ap (λ ds. newly_in item t (mine k cs) unit ++ ds) (mine-units item t cs k units)
+mine-units item t cs k (unit ∷ units) = grind (arith, mine-units item t cs k units, filter-append, mine-newly_in)
 
 -- where no command is there, none becomes enabled
 no_units : (item : List Mark) (t : Trace) (units : List ℕ) → flat_map (newly_in item t []) units ≡ []
@@ -134,11 +93,7 @@ other_unit : (item : List Mark) (t : Trace) (c : Command) (unit : ℕ) → (c.un
 other_unit item t c unit h = ap (λ b. filter (λ d. not (was_free d t)) (filter (λ d. was_free d (item ∷ t)) (cond b (c ∷ []) []))) h
 
 own_unit : (item : List Mark) (t : Trace) (c : Command) (unit : ℕ) → (c.unit == unit) ≡ true → newly_in item t (c ∷ []) unit ≡ cond (becomes_free item t c) (c ∷ []) []
-own_unit item t c unit h = ap (λ b. filter (λ d. not (was_free d t)) (filter (λ d. was_free d (item ∷ t)) (cond b (c ∷ []) []))) h ∙ by_tests (was_free c (item ∷ t)) (was_free c t) refl
-  where
-    by_tests : (a b : Bool) → was_free c t ≡ b → filter (λ d. not (was_free d t)) (cond a (c ∷ []) []) ≡ cond (a && not b) (c ∷ []) []
-    by_tests true b is = ap (λ v. cond (not v) (c ∷ []) []) is
-    by_tests false b is = refl
+own_unit item t c unit h = grind arith
 
 -- one command becomes enabled in its own unit alone
 one_unit_of : (item : List Mark) (t : Trace) (c : Command) (a n : ℕ) → a ≤ c.unit → c.unit < a + n → flat_map (newly_in item t (c ∷ [])) (range_with_len a n) ≡ cond (becomes_free item t c) (c ∷ []) []
@@ -150,21 +105,18 @@ one_unit_of item t c a (suc n) low high =
     ∙ ap (λ ds. cond (becomes_free item t c) (c ∷ []) [] ++ ds) (none_after (a + 1) n (omega (arith, same)))
     ∙ append-nil (cond (becomes_free item t c) (c ∷ []) []))
     (λ apart.
-    ap (λ ds. ds ++ flat_map (newly_in item t (c ∷ [])) (range_with_len (a + 1) n)) (other_unit item t c a (let z : (c.unit == a) ≡ false = grind (arith, nat_tests) in z))
+    ap (λ ds. ds ++ flat_map (newly_in item t (c ∷ [])) (range_with_len (a + 1) n)) (other_unit item t c a (let z : (c.unit == a) ≡ false = grind arith in z))
     ∙ one_unit_of item t c (a + 1) n (omega (arith, apart)) (omega arith))
     (cases_eq c.unit a)
   where
     none_after : (b m : ℕ) → c.unit < b → flat_map (newly_in item t (c ∷ [])) (range_with_len b m) ≡ []
     none_after b zero low = refl
-    none_after b (suc m) low = ap (λ ds. ds ++ flat_map (newly_in item t (c ∷ [])) (range_with_len (b + 1) m)) (other_unit item t c b (let z : (c.unit == b) ≡ false = grind (arith, nat_tests) in z)) ∙ none_after (b + 1) m (omega arith)
+    none_after b (suc m) low = ap (λ ds. ds ++ flat_map (newly_in item t (c ∷ [])) (range_with_len (b + 1) m)) (other_unit item t c b (let z : (c.unit == b) ≡ false = grind arith in z)) ∙ none_after (b + 1) m (omega arith)
 
 -- what becomes enabled of a ticket: nothing where it isn't live
 pub newly_none : (o : Setting) (t : Trace) (item : List Mark) (k : ℕ) → mine k (live (item ∷ t)) ≡ [] → mine k (newly_enabled o t item) ≡ []
-newly_none o t item k none =
-    mine-units item t (live (item ∷ t)) k (range_with_len 0 o.units)
-    ∙ ap (λ cs. flat_map (newly_in item t cs) (range_with_len 0 o.units)) none ∙ no_units item t (range_with_len 0 o.units)
+newly_none o t item k none = grind (arith, mine-units item t (live (item ∷ t)) k (range_with_len 0 o.units), no_units item t (range_with_len 0 o.units))
 
 pub newly_one : (o : Setting) (t : Trace) (item : List Mark) (k : ℕ) (c : Command) → mine k (live (item ∷ t)) ≡ c ∷ [] → c.unit < o.units → mine k (newly_enabled o t item) ≡ cond (becomes_free item t c) (c ∷ []) []
 newly_one o t item k c one below =
-    mine-units item t (live (item ∷ t)) k (range_with_len 0 o.units)
-    ∙ ap (λ cs. flat_map (newly_in item t cs) (range_with_len 0 o.units)) one ∙ one_unit_of item t c 0 o.units (omega arith) (omega arith)
+    grind (arith, mine-units item t (live (item ∷ t)) k (range_with_len 0 o.units), one_unit_of item t c 0 o.units (omega arith) (omega arith))

@@ -1,27 +1,27 @@
 -- What a log shows of each ticket is a life.
-use Rattle.std.proofs.Common.{◌≡◌, ℕ, ◌+◌, ◌<◌, ◌≤◌, ◌==◌, ◌&&◌, ◌||◌, ◌⊎◌, ◌≢◌, inl, inr, not, ⊎_elim, cond, Bool, true, false, List, [], ◌∷◌, ◌++◌, map, filter, length, count_by, Option, Some, None, refl, ap, sym, subst, ◌∙◌, arith, eq-eqb, length-append}
+use Rattle.std.proofs.Common.{◌≡◌, ℕ, ◌+◌, ◌<◌, ◌≤◌, ◌==◌, ◌&&◌, ◌||◌, ◌⊎◌, inl, inr, not, ⊎_elim, cond, Bool, true, false, List, [], ◌∷◌, ◌++◌, map, filter, length, count_by, Option, Some, None, refl, ap, sym, subst, ◌∙◌, arith, length-append}
 use Rattle.std.specs.List.{list_any, filter_map, flat_map, range_with_len}
-use Rattle.std.proofs.lemmas.Bool.{false≢true, eqb-true, cases_eq}
-use Rattle.std.proofs.lemmas.Bool.Decides.{nat_tests}
+use Rattle.std.proofs.lemmas.Bool.{eqb-true}
 use Rattle.std.proofs.lemmas.List.{append-nil, length-map, map-append}
 use Rattle.std.proofs.lemmas.List.Elements.{filter-append, filter_map-append}
 use Rattle.std.proofs.lemmas.List.Sums.{sum_by-cons}
 use Rattle.iscsi_history.specs.declared.effect.Effect.{Effect}
 use Rattle.iscsi_history.specs.declared.event.Event.{Event}
 use Rattle.iscsi_history.specs.rules.Settings.{Setting}
-use Rattle.iscsi_history.specs.rules.Trace.{Command, Mark, Admits, Delivers, Executes, Voids, Empties, Waits, Leaves, Enters, Sends, ClosesConn, ClosesSession, Ignores, Trace, has, enters, entered, leaves_ticket, live, is_among, was_free, is_free_at}
+use Rattle.iscsi_history.specs.rules.Trace.{Command, Mark, Enters, Trace, has, enters, entered, leaves_ticket, live, is_among, was_free}
 use Rattle.iscsi_history.specs.rules.Run.{effects_of_mark, newly_enabled, effects_of_item, trace_of, run_of}
 use Rattle.iscsi_history.specs.promises.Enabling.{effects_so_far, effects_in}
-use Rattle.iscsi_history.specs.promises.Lives.{ticket_entered, tickets_entered, names_ticket, life_of, is_life, StartsOnce}
+use Rattle.iscsi_history.specs.promises.Lives.{ticket_entered, tickets_entered, life_of, is_life, StartsOnce}
 use Rattle.iscsi_history.proofs.ElementLemmas.{In, in-filter}
+use Rattle.iscsi_history.proofs.ListLemmas.{filter-swap}
 use Rattle.iscsi_history.proofs.TraceLemmas.{live-item}
 use Rattle.iscsi_history.proofs.NewlyLemmas.{never_free}
 use Rattle.iscsi_history.proofs.MomentLemmas.{log_effects}
 use Rattle.iscsi_history.proofs.Forms.{Form, marks_of_form, Each, IsFormed, HasForm, HaveForms}
 use Rattle.iscsi_history.proofs.FormRuns.{trace_has_forms}
-use Rattle.iscsi_history.proofs.NumberingLemmas.{to_list}
-use Rattle.iscsi_history.proofs.TouchLemmas.{mine, leave_effect, enter_effect, enable_effect, leaving_in, entering_in, enters_form, leaves_form, life_item, leaving_few, EntersNext, entering_next}
-use Rattle.iscsi_history.proofs.LifeLemmas.{filter-swap, mine-none, among-mine, count-mine, tickets_count, beyond_entered, newly_none, newly_one}
+use Rattle.iscsi_history.proofs.DeedLemmas.{to_list}
+use Rattle.iscsi_history.proofs.TouchLemmas.{mine, leave_effect, enter_effect, enable_effect, leaving_in, entering_in, enters_form, leaves_form, life_item, leaving_few, leaving_live, EntersNext, entering_next}
+use Rattle.iscsi_history.proofs.LifeLemmas.{mine-none, among-mine, count-mine, tickets_count, beyond_entered, newly_none, newly_one}
 
 -- ---- the state of a ticket
 
@@ -62,11 +62,7 @@ data State (o : Setting) (t : Trace) (k : ℕ) : Type 0 where
 -- what of the ticket is live after the item
 live_more : (item : List Mark) (t : Trace) (k : ℕ)
     → mine k (live (item ∷ t)) ≡ filter (λ c. not (list_any (leaves_ticket c.ticket) item)) (mine k (live t)) ++ filter (λ c. not (has (leaves_ticket c.ticket) (item ∷ t))) (mine k (filter_map enters item))
-live_more item t k =
-    ap (mine k) (live-item item t)
-    ∙ filter-append (λ c. c.ticket == k) (filter (λ c. not (list_any (leaves_ticket c.ticket) item)) (live t)) (filter (λ c. not (has (leaves_ticket c.ticket) (item ∷ t))) (filter_map enters item))
-    ∙ ap (λ cs. cs ++ mine k (filter (λ c. not (has (leaves_ticket c.ticket) (item ∷ t))) (filter_map enters item))) (filter-swap (λ c. c.ticket == k) (λ c. not (list_any (leaves_ticket c.ticket) item)) (live t))
-    ∙ ap (λ cs. filter (λ c. not (list_any (leaves_ticket c.ticket) item)) (mine k (live t)) ++ cs) (filter-swap (λ c. c.ticket == k) (λ c. not (has (leaves_ticket c.ticket) (item ∷ t))) (filter_map enters item))
+live_more item t k = grind (arith, live-item, filter-append, filter-swap)
 
 -- the command of a ticket has it
 mine-ticket : (k : ℕ) (cs : List Command) (c : Command) → mine k cs ≡ c ∷ [] → (c.ticket == k) ≡ true
@@ -76,46 +72,27 @@ module _ (o : Setting) (now : ℕ) (t : Trace) (next : ℕ) (x : HaveForms o nex
   -- what the item shows of the ticket
   shown_more : life_of k (effects_so_far o (marks_of_form form ∷ t))
       ≡ life_of k (effects_so_far o t) ++ ((map leave_effect (mine k (leaving_in form)) ++ map enter_effect (mine k (to_list (entering_in form)))) ++ map enable_effect (mine k (newly_enabled o t (marks_of_form form))))
-  shown_more =
-      filter-append (names_ticket k) (effects_so_far o t) (effects_of_item o t (marks_of_form form))
-      ∙ ap (λ es. life_of k (effects_so_far o t) ++ es) (life_item o t k form)
+  shown_more = grind (arith, filter-append, life_item)
 
   -- ---- it doesn't enter in the item
 
   live_unentered : mine k (to_list (entering_in form)) ≡ [] → mine k (live (marks_of_form form ∷ t)) ≡ filter (λ c. not (list_any (leaves_ticket c.ticket) (marks_of_form form))) (mine k (live t))
-  live_unentered none =
-      live_more (marks_of_form form) t k
-      ∙ ap (λ cs. filter (λ c. not (list_any (leaves_ticket c.ticket) (marks_of_form form))) (mine k (live t)) ++ filter (λ c. not (has (leaves_ticket c.ticket) (marks_of_form form ∷ t))) cs) (ap (mine k) (enters_form form) ∙ none)
-      ∙ append-nil (filter (λ c. not (list_any (leaves_ticket c.ticket) (marks_of_form form))) (mine k (live t)))
+  live_unentered none = grind (arith, live_more, enters_form, append-nil)
 
   shown_unentered : mine k (to_list (entering_in form)) ≡ [] → life_of k (effects_so_far o (marks_of_form form ∷ t))
       ≡ life_of k (effects_so_far o t) ++ (map leave_effect (mine k (leaving_in form)) ++ map enable_effect (mine k (newly_enabled o t (marks_of_form form))))
-  shown_unentered none =
-      shown_more
-      ∙ ap (λ cs. life_of k (effects_so_far o t) ++ ((map leave_effect (mine k (leaving_in form)) ++ map enter_effect cs) ++ map enable_effect (mine k (newly_enabled o t (marks_of_form form))))) none
-      ∙ ap (λ es. life_of k (effects_so_far o t) ++ (es ++ map enable_effect (mine k (newly_enabled o t (marks_of_form form))))) (append-nil (map leave_effect (mine k (leaving_in form))))
+  shown_unentered none = grind (arith, shown_more, append-nil)
 
   -- nothing of it is live: nothing leaves, and nothing becomes enabled
   unlive_leaving : mine k (live t) ≡ [] → mine k (leaving_in form) ≡ []
-  unlive_leaving none =
-      let live_none : count_by (λ c. c.ticket == k && true) (live t) ≡ 0 = count-mine (λ c. true) k (live t) ∙ ap (count_by (λ c. true)) none in
-      let few : count_by (λ c. c.ticket == k && true) (leaving_in form) ≤ count_by (λ c. c.ticket == k && true) (live t) = leaving_few o now t form formed (λ c. c.ticket == k && true) in
-      let counted : count_by (λ c. true) (mine k (leaving_in form)) ≤ 0 = omega (arith, few, live_none, count-mine (λ c. true) k (leaving_in form)) in
-      nothing (mine k (leaving_in form)) counted
-    where
-      nothing : (cs : List Command) → count_by (λ c. true) cs ≤ 0 → cs ≡ []
-      nothing [] h = refl
-      nothing (c ∷ cs) h = absurd (let all : count_by (λ d. true) (c ∷ cs) ≡ 1 + count_by (λ d. true) cs = sum_by-cons (λ d. 1) c cs in let z : ⊥ = omega arith in z)
+  unlive_leaving none = grind (arith, mine-none, among-mine, leaving_live, leaves_form)
 
   unlive_after : mine k (live t) ≡ [] → mine k (to_list (entering_in form)) ≡ [] → mine k (live (marks_of_form form ∷ t)) ≡ []
   unlive_after unlive none = live_unentered none ∙ ap (filter (λ c. not (list_any (leaves_ticket c.ticket) (marks_of_form form)))) unlive
 
   unlive_shown : mine k (live t) ≡ [] → mine k (to_list (entering_in form)) ≡ [] → life_of k (effects_so_far o (marks_of_form form ∷ t)) ≡ life_of k (effects_so_far o t)
   unlive_shown unlive none =
-      shown_unentered none
-      ∙ ap (λ cs. life_of k (effects_so_far o t) ++ (map leave_effect cs ++ map enable_effect (mine k (newly_enabled o t (marks_of_form form))))) (unlive_leaving unlive)
-      ∙ ap (λ cs. life_of k (effects_so_far o t) ++ map enable_effect cs) (newly_none o t (marks_of_form form) k (unlive_after unlive none))
-      ∙ append-nil (life_of k (effects_so_far o t))
+      grind (arith, shown_unentered, unlive_leaving, newly_none, unlive_after, append-nil)
 
   -- ---- a command that is live
 
@@ -127,12 +104,7 @@ module _ (o : Setting) (now : ℕ) (t : Trace) (next : ℕ) (x : HaveForms o nex
     command = g.command;
     live_one = still;
     below = g.below;
-    shown =
-        shown_unentered none
-        ∙ ap (λ cs. life_of k (effects_so_far o t) ++ (map leave_effect cs ++ map enable_effect (mine k (newly_enabled o t (marks_of_form form))))) unleft
-        ∙ ap (λ es. es ++ map enable_effect (mine k (newly_enabled o t (marks_of_form form)))) g.shown
-        ∙ ap (λ cs. going_on g.command (was_free g.command t) ++ map enable_effect cs) (newly_one o t (marks_of_form form) k g.command still g.below)
-        ∙ by_tests (is_free_at g.command (marks_of_form form ∷ t)) (was_free g.command t);
+    shown = grind (arith, shown_unentered none, newly_one o t (marks_of_form form) k g.command still g.below);
   }
     where
       same : (g.command.ticket == k) ≡ true
@@ -142,15 +114,7 @@ module _ (o : Setting) (now : ℕ) (t : Trace) (next : ℕ) (x : HaveForms o nex
       here = ap (λ n. list_any (leaves_ticket n) (marks_of_form form)) (eqb-true g.command.ticket k same) ∙ leaves_form k form ∙ among-mine k (leaving_in form) unleft
 
       still : mine k (live (marks_of_form form ∷ t)) ≡ g.command ∷ []
-      still =
-          live_unentered none ∙ ap (filter (λ c. not (list_any (leaves_ticket c.ticket) (marks_of_form form)))) g.live_one
-          ∙ ap (λ b. cond (not b) (g.command ∷ []) []) here
-
-      by_tests : (a b : Bool) → going_on g.command b ++ map enable_effect (cond ((a || b) && not b) (g.command ∷ []) []) ≡ going_on g.command (a || b)
-      by_tests true true = refl
-      by_tests true false = refl
-      by_tests false true = refl
-      by_tests false false = refl
+      still = grind (arith, live_unentered none, here)
 
   -- it leaves, alone and from its own unit
   record LeavesAlone (c : Command) : Type 0 where
@@ -172,29 +136,14 @@ module _ (o : Setting) (now : ℕ) (t : Trace) (next : ℕ) (x : HaveForms o nex
           let all : count_by (λ c. true) (d ∷ e ∷ es) ≡ 1 + count_by (λ c. true) (e ∷ es) = sum_by-cons (λ c. 1) d (e ∷ es) in
           let rest : count_by (λ c. true) (e ∷ es) ≡ 1 + count_by (λ c. true) es = sum_by-cons (λ c. 1) e es in
           let z : ⊥ = omega (arith, all, rest, few (λ c. true), ap (count_by (λ c. true)) is) in z)
-      by_rest [] is = record { leaver = d; only = is; unit = by_unit (d.unit == g.command.unit) refl }
-        where
-          by_unit : (b : Bool) → (d.unit == g.command.unit) ≡ b → (d.unit == g.command.unit) ≡ true
-          by_unit true h = h
-          by_unit false h = absurd (
-              let p : Command → Bool = λ c. not (c.unit == g.command.unit) in
-              let one : count_by p (d ∷ []) ≡ cond (p d) 1 0 + 0 = sum_by-cons (λ c. cond (p c) 1 0) d [] in
-              let here : cond (p d) 1 0 ≡ 1 = ap {B = ℕ} (λ b. cond (not b) 1 0) h in
-              let there : cond (p g.command) 1 0 ≡ 0 = ap {B = ℕ} (λ b. cond (not b) 1 0) (eq-eqb g.command.unit g.command.unit refl) in
-              let z : ⊥ = omega (arith, one, here, there, few p, ap (count_by p) is) in z)
+      by_rest [] is = grind (arith, few (λ c. not (c.unit == g.command.unit)))
 
   going_leaves : (g : IsGoing o t k) → mine k (to_list (entering_in form)) ≡ [] → LeavesAlone g.command → length (entered t) ≤ length (entered (marks_of_form form ∷ t)) → IsGone o (marks_of_form form ∷ t) k
   going_leaves g none l more = record {
     some = g.some;
     past = omega (arith, g.past, more);
     unlive = over;
-    shown =
-        ap is_life
-        (shown_unentered none
-        ∙ ap (λ cs. life_of k (effects_so_far o t) ++ (map leave_effect cs ++ map enable_effect (mine k (newly_enabled o t (marks_of_form form))))) l.only
-        ∙ ap (λ cs. life_of k (effects_so_far o t) ++ (leave_effect l.leaver ∷ map enable_effect cs)) (newly_none o t (marks_of_form form) k over)
-        ∙ ap (λ es. es ++ leave_effect l.leaver ∷ []) g.shown)
-        ∙ by_test (was_free g.command t);
+    shown = grind (arith, shown_unentered none, newly_none o t (marks_of_form form) k over);
   }
     where
       leaves : list_any (leaves_ticket g.command.ticket) (marks_of_form form) ≡ true
@@ -203,17 +152,10 @@ module _ (o : Setting) (now : ℕ) (t : Trace) (next : ℕ) (x : HaveForms o nex
           ∙ leaves_form k form ∙ among (is_among k (leaving_in form)) refl
         where
           among : (b : Bool) → is_among k (leaving_in form) ≡ b → is_among k (leaving_in form) ≡ true
-          among true h = h
-          among false h = absurd (let z : mine k (leaving_in form) ≡ [] = mine-none k (leaving_in form) h in let y : l.leaver ∷ [] ≡ [] = sym l.only ∙ z in cc)
+          among b h = grind (arith, mine-none)
 
       over : mine k (live (marks_of_form form ∷ t)) ≡ []
-      over =
-          live_unentered none ∙ ap (filter (λ c. not (list_any (leaves_ticket c.ticket) (marks_of_form form)))) g.live_one
-          ∙ ap (λ b. cond (not b) (g.command ∷ []) []) leaves
-
-      by_test : (b : Bool) → is_life (going_on g.command b ++ leave_effect l.leaver ∷ []) ≡ true
-      by_test true = ap (λ b. b && (l.leaver.unit == g.command.unit)) (eq-eqb g.command.unit g.command.unit refl) ∙ l.unit
-      by_test false = l.unit
+      over = grind (arith, live_unentered none, leaves)
 
   -- ---- a command that enters
 
@@ -224,20 +166,11 @@ module _ (o : Setting) (now : ℕ) (t : Trace) (next : ℕ) (x : HaveForms o nex
     command = c;
     live_one = there;
     below = e.below;
-    shown =
-        shown_more
-        ∙ ap (λ es. es ++ ((map leave_effect (mine k (leaving_in form)) ++ map enter_effect (mine k (to_list (entering_in form)))) ++ map enable_effect (mine k (newly_enabled o t (marks_of_form form))))) s.shown
-        ∙ ap (λ cs. (map leave_effect (mine k cs) ++ map enter_effect (mine k (to_list (entering_in form)))) ++ map enable_effect (mine k (newly_enabled o t (marks_of_form form)))) e.stays
-        ∙ ap (λ cs. map enter_effect cs ++ map enable_effect (mine k (newly_enabled o t (marks_of_form form)))) (ap (λ y. mine k (to_list y)) is ∙ one)
-        ∙ ap (λ cs. enter_effect c ∷ map enable_effect cs) (newly_one o t (marks_of_form form) k c there e.below)
-        ∙ by_test (is_free_at c (marks_of_form form ∷ t)) (was_free c t) unfree;
+    shown = grind (arith, shown_more, newly_one o t (marks_of_form form) k c there e.below, unfree);
   }
     where
       number : c.ticket ≡ k
       number = eqb-true c.ticket k same
-
-      one : mine k (c ∷ []) ≡ c ∷ []
-      one = ap (λ b. cond b (c ∷ []) []) same
 
       entered_is : filter_map enters (marks_of_form form) ≡ c ∷ []
       entered_is = enters_form form ∙ ap (λ y. to_list y) is
@@ -246,26 +179,13 @@ module _ (o : Setting) (now : ℕ) (t : Trace) (next : ℕ) (x : HaveForms o nex
       long = ap (λ cs. length (entered t ++ cs)) entered_is ∙ length-append (entered t) (c ∷ [])
 
       unleft : has (leaves_ticket c.ticket) (marks_of_form form ∷ t) ≡ false
-      unleft =
-          ap (λ b. b || has (leaves_ticket c.ticket) t) (leaves_form c.ticket form ∙ ap (is_among c.ticket) e.stays)
-          ∙ ap (λ n. has (leaves_ticket n) t) number ∙ s.unleft
+      unleft = grind (arith, leaves_form c.ticket form)
 
       there : mine k (live (marks_of_form form ∷ t)) ≡ c ∷ []
-      there =
-          live_more (marks_of_form form) t k
-          ∙ ap (λ cs. filter (λ d. not (list_any (leaves_ticket d.ticket) (marks_of_form form))) cs ++ filter (λ d. not (has (leaves_ticket d.ticket) (marks_of_form form ∷ t))) (mine k (filter_map enters (marks_of_form form)))) s.unlive
-          ∙ ap (λ cs. filter (λ d. not (has (leaves_ticket d.ticket) (marks_of_form form ∷ t))) (mine k cs)) entered_is
-          ∙ ap (filter (λ d. not (has (leaves_ticket d.ticket) (marks_of_form form ∷ t)))) one
-          ∙ ap (λ b. cond (not b) (c ∷ []) []) unleft
+      there = grind (arith, live_more (marks_of_form form) t k, entered_is, unleft)
 
       unfree : was_free c t ≡ false
       unfree = never_free c t (beyond_entered o t next x c.ticket (omega (arith, e.next)))
-
-      by_test : (a b : Bool) → b ≡ false → enter_effect c ∷ map enable_effect (cond ((a || b) && not b) (c ∷ []) []) ≡ going_on c (a || b)
-      by_test true true h = absurd (false≢true (sym h))
-      by_test false true h = absurd (false≢true (sym h))
-      by_test true false h = refl
-      by_test false false h = refl
 
   -- ---- any state
 
@@ -288,12 +208,7 @@ module _ (o : Setting) (now : ℕ) (t : Trace) (next : ℕ) (x : HaveForms o nex
               by_leaving : (cs : List Command) → mine k (leaving_in form) ≡ cs → State o (marks_of_form form ∷ t) k
               by_leaving [] h = Going (going_stays g none h (omega (arith, long, more)))
               by_leaving (d ∷ ds) h = Gone (going_leaves g none (leaves_alone g d ds h) (omega (arith, long, more)))
-          by_state (Gone q) = Gone (record {
-            some = q.some;
-            past = omega (arith, q.past, long, more);
-            unlive = unlive_after q.unlive none;
-            shown = ap is_life (unlive_shown q.unlive none) ∙ q.shown;
-          })
+          by_state (Gone q) = grind (arith, unlive_after, unlive_shown)
 
       by_entering : (y : Option Command) → entering_in form ≡ y → Each (EntersNext o t form) y → State o (marks_of_form form ∷ t) k
       by_entering None is e =
@@ -311,13 +226,10 @@ module _ (o : Setting) (now : ℕ) (t : Trace) (next : ℕ) (x : HaveForms o nex
           by_ticket true same (Gone q) = absurd (let number : c.ticket ≡ k = eqb-true c.ticket k same in let z : ⊥ = omega (arith, q.past, e.next, number) in z)
           by_ticket false apart q =
               not_entered (ap (λ z. mine k (to_list z)) is ∙ ap (λ b. cond b (c ∷ []) []) apart) (length (entered t) + 1) long (omega arith)
-              (λ h. ⊎_elim (λ zeroth. inl zeroth) (λ later. inr (let z : length (entered t) + 1 < k = grind (arith, nat_tests, e.next) in z)) h)
+              (λ h. ⊎_elim (λ zeroth. inl zeroth) (λ later. inr (let z : length (entered t) + 1 < k = grind arith in z)) h)
 
 state_more : (o : Setting) (k : ℕ) (t : Trace) (next : ℕ) → HaveForms o next t → State o t k
-state_more o k [] next x = ToCome (record { not_yet = by_number (cases_eq k 0); unlive = refl; unleft = refl; shown = refl })
-  where
-    by_number : (k ≡ 0) ⊎ (k ≢ 0) → (k ≡ 0) ⊎ (0 < k)
-    by_number h = ⊎_elim (λ zeroth. inl zeroth) (λ apart. inr (let z : 0 < k = omega (arith, apart) in z)) h
+state_more o k [] next x = grind arith
 state_more o k (item ∷ t) next x =
     let f : HasForm o x.0 t item = x.1.1.0 in
     subst (λ i. State o (i ∷ t) k) (sym f.is) (other_enters o x.0 t _ x.1.1.1 f.form f.formed k (entering_in f.form) refl (entering_next o x.0 t f.form f.formed) (state_more o k t _ x.1.1.1))
@@ -325,29 +237,13 @@ state_more o k (item ∷ t) next x =
 -- ---- the log
 
 state_life : (o : Setting) (t : Trace) (k : ℕ) → State o t k → is_life (life_of k (effects_so_far o t)) ≡ true
-state_life o t k (ToCome q) = ap is_life q.shown
-state_life o t k (Going g) = ap is_life g.shown ∙ by_test (was_free g.command t)
-  where
-    by_test : (b : Bool) → is_life (going_on g.command b) ≡ true
-    by_test true = ap (λ b. b && true) (eq-eqb g.command.unit g.command.unit refl)
-    by_test false = refl
-state_life o t k (Gone q) = q.shown
+state_life o t k state = grind arith
 
 -- the tickets that effects show as entering are those of the commands that entered
 tickets_of_marks : (o : Setting) (t : Trace) (ms : List Mark) → tickets_entered (flat_map (effects_of_mark o t) ms) ≡ map (λ (c : Command). c.ticket) (filter_map enters ms)
 tickets_of_marks o t [] = refl
-tickets_of_marks o t (Admits a ∷ ms) = tickets_of_marks o t ms
-tickets_of_marks o t (Delivers a ∷ ms) = tickets_of_marks o t ms
-tickets_of_marks o t (Executes a ∷ ms) = tickets_of_marks o t ms
-tickets_of_marks o t (Voids n ∷ ms) = tickets_of_marks o t ms
-tickets_of_marks o t (Empties a ∷ ms) = tickets_of_marks o t ms
-tickets_of_marks o t (Waits a ∷ ms) = tickets_of_marks o t ms
-tickets_of_marks o t (Leaves c ∷ ms) = tickets_of_marks o t ms
 tickets_of_marks o t (Enters c ∷ ms) = ap (λ ns. c.ticket ∷ ns) (tickets_of_marks o t ms)
-tickets_of_marks o t (Sends conn reply ∷ ms) = tickets_of_marks o t ms
-tickets_of_marks o t (ClosesConn conn ∷ ms) = tickets_of_marks o t ms
-tickets_of_marks o t (ClosesSession ∷ ms) = tickets_of_marks o t ms
-tickets_of_marks o t (Ignores why ∷ ms) = tickets_of_marks o t ms
+tickets_of_marks o t (m ∷ ms) = tickets_of_marks o t ms
 
 tickets_of_enables : (cs : List Command) → tickets_entered (map enable_effect cs) ≡ []
 tickets_of_enables [] = refl

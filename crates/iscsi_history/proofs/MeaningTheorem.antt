@@ -1,15 +1,15 @@
 -- What the definitions mean, said once more in other words, holds of every trace.
-use Rattle.std.proofs.Common.{◌≡◌, ℕ, ◌==◌, ◌&&◌, ◌||◌, not, Bool, true, false, List, [], ◌∷◌, length, refl, ap, sym, ◌∙◌}
+use Rattle.std.proofs.Common.{arith, ◌≡◌, ℕ, ◌==◌, ◌&&◌, ◌||◌, not, Bool, true, false, List, [], ◌∷◌, length, ap, sym, ◌∙◌}
 use Rattle.std.specs.List.{list_any, filter_map}
-use Rattle.std.proofs.lemmas.Bool.{false≢true, eqb-true}
+use Rattle.std.proofs.lemmas.Bool.{false≢true}
 use Rattle.std.proofs.lemmas.List.Folds.{list_any-append}
 use Rattle.iscsi_history.specs.declared.event.Event.{Event}
 use Rattle.iscsi_history.specs.rules.Settings.{Setting}
 use Rattle.iscsi_history.specs.rules.Trace.{Command, Trace, has, enters, entered, leaves_ticket, live, is_among}
 use Rattle.iscsi_history.specs.rules.Run.{trace_of}
 use Rattle.iscsi_history.specs.promises.Meaning.{MeansWhatItSays}
-use Rattle.iscsi_history.proofs.ListLemmas.{any_filter}
-use Rattle.iscsi_history.proofs.BoolLemmas.{or_first, and_first, and_true, and_false}
+use Rattle.iscsi_history.proofs.BoolLemmas.{or_first}
+use Rattle.iscsi_history.proofs.MomentLemmas.{live_among}
 use Rattle.iscsi_history.proofs.Missing.{expected_low, expected_gone, expected_below}
 use Rattle.iscsi_history.proofs.Forms.{HasForm, HaveForms}
 use Rattle.iscsi_history.proofs.FormRuns.{trace_has_forms}
@@ -17,28 +17,6 @@ use Rattle.iscsi_history.proofs.TouchLemmas.{leaving_live}
 use Rattle.iscsi_history.proofs.FateLemmas.{fate, one_fate}
 
 -- ---- commands that entered
-
--- a command is live where it entered and hasn't left
-live_among : (k : ℕ) (t : Trace) → is_among k (live t) ≡ (is_among k (entered t) && not (has (leaves_ticket k) t))
-live_among k t = any_filter (λ (c : Command). c.ticket == k) (λ (c : Command). not (has (leaves_ticket c.ticket) t)) (entered t) ∙ by_ticket (entered t)
-  where
-    same : (c : Command) → (v : Bool) → (c.ticket == k) ≡ v → (not (has (leaves_ticket c.ticket) t) && v) ≡ (v && not (has (leaves_ticket k) t))
-    same c true is = and_true (not (has (leaves_ticket c.ticket) t)) ∙ ap (λ j. not (has (leaves_ticket j) t)) (eqb-true c.ticket k is)
-    same c false is = and_false (not (has (leaves_ticket c.ticket) t))
-
-    apart_or : (a b c : Bool) → ((a && c) || (b && c)) ≡ ((a || b) && c)
-    apart_or true true true = refl
-    apart_or true true false = refl
-    apart_or true false true = refl
-    apart_or true false false = refl
-    apart_or false b c = refl
-
-    by_ticket : (cs : List Command) → list_any (λ c. not (has (leaves_ticket c.ticket) t) && (c.ticket == k)) cs ≡ (is_among k cs && not (has (leaves_ticket k) t))
-    by_ticket [] = refl
-    by_ticket (c ∷ cs) =
-        ap (λ b. b || list_any (λ x. not (has (leaves_ticket x.ticket) t) && (x.ticket == k)) cs) (same c (c.ticket == k) refl)
-        ∙ ap (λ b. ((c.ticket == k) && not (has (leaves_ticket k) t)) || b) (by_ticket cs)
-        ∙ apart_or (c.ticket == k) (is_among k cs) (not (has (leaves_ticket k) t))
 
 -- nothing leaves that didn't enter
 left_entered : (o : Setting) (k : ℕ) (t : Trace) (next : ℕ) → HaveForms o next t → has (leaves_ticket k) t ≡ true → is_among k (entered t) ≡ true
@@ -50,19 +28,13 @@ left_entered o k (item ∷ t) next x h =
     (by_item (list_any (leaves_ticket k) item) (λ here. leaving_live o x.0 t f.form f.formed k (sym (ap (list_any (leaves_ticket k)) f.is) ∙ here)) (left_entered o k t _ x.1.1.1) h)
   where
     by_item : (v : Bool) → (v ≡ true → is_among k (live t) ≡ true) → (has (leaves_ticket k) t ≡ true → is_among k (entered t) ≡ true) → (v || has (leaves_ticket k) t) ≡ true → is_among k (entered t) ≡ true
-    by_item true lives before h = and_first (is_among k (entered t)) (not (has (leaves_ticket k) t)) (sym (live_among k t) ∙ lives refl)
-    by_item false lives before h = before h
+    by_item v lives before h = grind (arith, live_among)
 
 entered_parted : (a l : Bool) → (l ≡ true → a ≡ true) → a ≡ ((a && not l) || l)
-entered_parted true true h = refl
-entered_parted true false h = refl
-entered_parted false true h = h refl
-entered_parted false false h = refl
+entered_parted a l h = grind arith
 
 live_apart : (a l : Bool) → ((a && not l) && l) ≡ false
-live_apart true true = refl
-live_apart true false = refl
-live_apart false l = refl
+live_apart a l = grind arith
 
 -- for every list of events
 pub means_what_it_says : (o : Setting) (h : List Event) → MeansWhatItSays o (trace_of o h)

@@ -1,8 +1,7 @@
 -- The least number that isn't among some.
-use Rattle.std.proofs.Common.{◌≡◌, ℕ, zero, suc, ◌+◌, ◌-◌, ◌<◌, ◌≤◌, ◌==◌, ◌||◌, ◌⊎◌, inl, inr, ⊎_elim, cond, Bool, true, false, List, [], ◌∷◌, length, map, refl, ap, sym, ◌∙◌, arith, eqb, eq-eqb}
+use Rattle.std.proofs.Common.{◌≡◌, ℕ, zero, suc, ◌+◌, ◌-◌, ◌<◌, ◌≤◌, ◌⊎◌, inl, inr, ⊎_elim, cond, true, false, List, [], ◌∷◌, length, map, refl, ap, sym, ◌∙◌, arith, eqb}
 use Rattle.std.proofs.lemmas.Bool.{cases_eq, cases_lt, false≢true}
 use Rattle.std.proofs.lemmas.Map.Steps.{le-length_from_below}
-use Rattle.std.proofs.lemmas.Bool.Decides.{nat_tests}
 use Rattle.std.proofs.lemmas.List.{length-map}
 use Rattle.std.specs.List.{list_any, filter_map}
 use Rattle.iscsi_wire.specs.Serial.{number_of_first}
@@ -16,11 +15,7 @@ module _ (ns : List ℕ) where
   -- all numbers before the answer are in the list
   pub least_missing_below : (fuel n k : ℕ) → n ≤ k → k < least_missing ns fuel n → contains ns k ≡ true
   least_missing_below zero n k low high = absurd (omega arith)
-  least_missing_below (suc fuel) n k low high =
-      elim (contains ns n) as (λ b. contains ns n ≡ b → k < cond b (least_missing ns fuel (n + 1)) n → contains ns k ≡ true) [
-        | true ↦ λ there h. ⊎_elim (λ same. ap (contains ns) same ∙ there) (λ apart. least_missing_below fuel (n + 1) k (omega arith) h) (cases_eq k n)
-        | false ↦ λ gone h. absurd (omega arith)
-      ] refl high
+  least_missing_below (suc fuel) n k low high = grind (arith, least_missing_below fuel (n + 1) k)
 
   pub least_missing_low : (fuel n : ℕ) → n ≤ least_missing ns fuel n
   least_missing_low zero n = omega arith
@@ -29,21 +24,11 @@ module _ (ns : List ℕ) where
   -- where the numbers from n on are in the list as far as m, and m isn't, the answer is m
   pub least_missing_is : (fuel n m : ℕ) → n ≤ m → ((k : ℕ) → n ≤ k → k < m → contains ns k ≡ true) → contains ns m ≡ false → m ≤ n + fuel → least_missing ns fuel n ≡ m
   least_missing_is zero n m low all gone short = omega arith
-  least_missing_is (suc fuel) n m low all gone short =
-      ⊎_elim (λ same. ap (λ b. cond b (least_missing ns fuel (n + 1)) n) (ap (contains ns) (sym same) ∙ gone) ∙ sym same)
-      (λ apart. ap (λ b. cond b (least_missing ns fuel (n + 1)) n) (all n (omega arith) (omega arith)) ∙ least_missing_is fuel (n + 1) m (omega arith) (λ k l h. all k (omega arith) h) gone (omega arith))
-      (cases_eq m n)
-
-or_true : (b : Bool) → (b || true) ≡ true
-or_true true = refl
-or_true false = refl
+  least_missing_is (suc fuel) n m low all gone short = grind (arith, least_missing_is fuel (n + 1) m)
 
 shift_in : (ns : List ℕ) (first q : ℕ) → contains ns (first + q) ≡ true → list_any (eqb q) (map (λ x. x - first) ns) ≡ true
 shift_in [] first q h = absurd (false≢true h)
-shift_in (x ∷ ns) first q h =
-    ⊎_elim (λ same. ap (λ b. b || list_any (eqb q) (map (λ y. y - first) ns)) (eq-eqb q (x - first) (omega (arith, same))))
-    (λ apart. ap (λ b. eqb q (x - first) || b) (shift_in ns first q (sym (ap (λ b. b || contains ns (first + q)) (let no : (x == first + q) ≡ false = grind (arith, nat_tests) in no)) ∙ h)) ∙ or_true (eqb q (x - first)))
-    (cases_eq x (first + q))
+shift_in (x ∷ ns) first q h = grind (arith, shift_in ns first q)
 
 -- as many numbers as a list has in a row
 as_many : (ns : List ℕ) (first count : ℕ) → ((k : ℕ) → first ≤ k → k < first + count → contains ns k ≡ true) → count ≤ length ns

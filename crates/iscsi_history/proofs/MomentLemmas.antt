@@ -1,19 +1,18 @@
 -- Moments: what the log shows of enabled commands, and the rule as a law.
-use Rattle.std.proofs.Common.{◌≡◌, ℕ, ◌+◌, ◌==◌, ◌||◌, not, cond, Bool, true, false, List, [], ◌∷◌, ◌++◌, map, filter, refl, ap, sym, ◌∙◌, ◌↔◌, append_assoc}
+use Rattle.std.proofs.Common.{arith, ◌≡◌, ℕ, ◌+◌, ◌==◌, ◌||◌, ◌&&◌, not, Bool, true, false, List, [], ◌∷◌, ◌++◌, map, refl, ap, sym, ◌∙◌, ◌↔◌, append_assoc}
 use Rattle.std.specs.List.{list_any, flat_map}
-use Rattle.std.proofs.lemmas.Bool.{false≢true, eqb-true}
+use Rattle.std.proofs.lemmas.Bool.{false≢true}
 use Rattle.std.proofs.lemmas.List.{append-nil}
 use Rattle.std.proofs.lemmas.List.Folds.{list_any-append}
 use Rattle.iscsi_history.specs.declared.effect.Effect.{Effect}
 use Rattle.iscsi_history.specs.declared.effect.Effect.TheVariants.{Enable}
 use Rattle.iscsi_history.specs.rules.Settings.{Setting}
-use Rattle.iscsi_history.specs.rules.Trace.{Command, Mark, Trace, has, entered, leaves_ticket, live, is_among, is_free_at, was_free, Admits, Delivers, Executes, Voids, Empties, Waits, Leaves, Enters, Sends, ClosesConn, ClosesSession, Ignores, after_items}
+use Rattle.iscsi_history.specs.rules.Trace.{Command, Mark, Trace, has, entered, leaves_ticket, live, is_among, is_free_at, was_free, after_items}
 use Rattle.iscsi_history.specs.rules.Run.{newly_enabled, after_event, after_events, effects_of_mark, effects_of_item, effects_of, entries_from}
 use Rattle.iscsi_history.proofs.BoolLemmas.{or_first, or_second}
 use Rattle.iscsi_history.specs.declared.event.Event.{Event}
-use Rattle.iscsi_history.specs.rules.Agenda.{items_of}
 use Rattle.iscsi_history.specs.promises.Enabling.{effects_so_far, is_enable, FreeMoment, effects_in}
-use Rattle.iscsi_history.proofs.ListLemmas.{list_any-map}
+use Rattle.iscsi_history.proofs.ListLemmas.{list_any-map, any_filter}
 
 -- one that is in its set and free now was free at some moment so far
 pub free_now : (c : Command) (t : Trace) → is_free_at c t ≡ true → was_free c t ≡ true
@@ -25,41 +24,42 @@ enables cs = map (λ (c : Command). Enable c.ticket c.unit) cs
 
 -- ---- what an item shows
 
-enabled_marks : (o : Setting) (t : Trace) (k : ℕ) (item : List Mark) → list_any (is_enable k) (flat_map (effects_of_mark o t) item) ≡ false
-enabled_marks o t k [] = refl
-enabled_marks o t k (Admits a ∷ ms) = enabled_marks o t k ms
-enabled_marks o t k (Delivers a ∷ ms) = enabled_marks o t k ms
-enabled_marks o t k (Executes a ∷ ms) = enabled_marks o t k ms
-enabled_marks o t k (Voids n ∷ ms) = enabled_marks o t k ms
-enabled_marks o t k (Empties a ∷ ms) = enabled_marks o t k ms
-enabled_marks o t k (Waits a ∷ ms) = enabled_marks o t k ms
-enabled_marks o t k (Leaves c ∷ ms) = enabled_marks o t k ms
-enabled_marks o t k (Enters c ∷ ms) = enabled_marks o t k ms
-enabled_marks o t k (Sends conn reply ∷ ms) = enabled_marks o t k ms
-enabled_marks o t k (ClosesConn conn ∷ ms) = enabled_marks o t k ms
-enabled_marks o t k (ClosesSession ∷ ms) = enabled_marks o t k ms
-enabled_marks o t k (Ignores why ∷ ms) = enabled_marks o t k ms
+-- a test of effects, by what it is of marks
+pub enables_none : (p : Effect → Bool) → ((ticket unit : ℕ) → p (Enable ticket unit) ≡ false) → (cs : List Command) → list_any p (map (λ (c : Command). Enable c.ticket c.unit) cs) ≡ false
+enables_none p none [] = refl
+enables_none p none (c ∷ cs) = ap (λ b. b || list_any p (map (λ (d : Command). Enable d.ticket d.unit) cs)) (none c.ticket c.unit) ∙ enables_none p none cs
+
+module _ (o : Setting) (p : Effect → Bool) (q : Mark → Bool) (none : (ticket unit : ℕ) → p (Enable ticket unit) ≡ false) (same : (t : Trace) (m : Mark) → list_any p (effects_of_mark o t m) ≡ q m) where
+  pub shown_marks : (t : Trace) (ms : List Mark) → list_any p (flat_map (effects_of_mark o t) ms) ≡ list_any q ms
+  shown_marks t [] = refl
+  shown_marks t (m ∷ ms) = grind (arith, shown_marks t ms)
+
+  pub shown_item : (t : Trace) (item : List Mark) → list_any p (effects_of_item o t item) ≡ list_any q item
+  shown_item t item = grind (arith, list_any-append p (flat_map (effects_of_mark o t) item), enables_none p none (newly_enabled o t item), shown_marks t item)
+
+  pub shown_so_far : (t : Trace) → list_any p (effects_so_far o t) ≡ has q t
+  shown_so_far [] = refl
+  shown_so_far (item ∷ t) = grind (arith, shown_so_far t, list_any-append, shown_item)
 
 pub item_enables : (o : Setting) (t : Trace) (item : List Mark) (k : ℕ) → list_any (is_enable k) (effects_of_item o t item) ≡ is_among k (newly_enabled o t item)
 item_enables o t item k =
-    list_any-append (is_enable k) (flat_map (effects_of_mark o t) item) (enables (newly_enabled o t item))
-    ∙ ap (λ b. b || list_any (is_enable k) (enables (newly_enabled o t item))) (enabled_marks o t k item)
-    ∙ list_any-map (is_enable k) (λ (c : Command). Enable c.ticket c.unit) (newly_enabled o t item)
+    grind (arith, list_any-append, enabled_marks item, list_any-map (is_enable k) (λ (c : Command). Enable c.ticket c.unit) (newly_enabled o t item))
+  where
+    enabled_marks : (ms : List Mark) → list_any (is_enable k) (flat_map (effects_of_mark o t) ms) ≡ false
+    enabled_marks [] = refl
+    enabled_marks (m ∷ ms) = grind (arith, enabled_marks ms)
+
+-- a command is live where it entered and hasn't left
+pub live_among : (k : ℕ) (t : Trace) → is_among k (live t) ≡ (is_among k (entered t) && not (has (leaves_ticket k) t))
+live_among k t = any_filter (λ (c : Command). c.ticket == k) (λ (c : Command). not (has (leaves_ticket c.ticket) t)) (entered t) ∙ by_ticket (entered t)
+  where
+    by_ticket : (cs : List Command) → list_any (λ c. not (has (leaves_ticket c.ticket) t) && (c.ticket == k)) cs ≡ (is_among k cs && not (has (leaves_ticket k) t))
+    by_ticket [] = refl
+    by_ticket (c ∷ cs) = grind (arith, by_ticket cs)
 
 -- nothing that left is live
 pub left_unlive : (t : Trace) (k : ℕ) → has (leaves_ticket k) t ≡ true → is_among k (live t) ≡ false
-left_unlive t k left = none (entered t)
-  where
-    none : (cs : List Command) → is_among k (filter (λ (c : Command). not (has (leaves_ticket c.ticket) t)) cs) ≡ false
-    none [] = refl
-    none (c ∷ cs) =
-        elim (c.ticket == k) as (λ b. (c.ticket == k) ≡ b → is_among k (filter (λ (d : Command). not (has (leaves_ticket d.ticket) t)) (c ∷ cs)) ≡ false) [
-          | true ↦ λ is. ap (λ b. is_among k (cond (not b) (c ∷ filter (λ (d : Command). not (has (leaves_ticket d.ticket) t)) cs) (filter (λ (d : Command). not (has (leaves_ticket d.ticket) t)) cs))) (ap (λ n. has (leaves_ticket n) t) (eqb-true c.ticket k is) ∙ left) ∙ none cs
-          | false ↦ λ is. elim (has (leaves_ticket c.ticket) t) as (λ b. is_among k (cond (not b) (c ∷ filter (λ (d : Command). not (has (leaves_ticket d.ticket) t)) cs) (filter (λ (d : Command). not (has (leaves_ticket d.ticket) t)) cs)) ≡ false) [
-            | true ↦ none cs
-            | false ↦ ap (λ b. b || is_among k (filter (λ (d : Command). not (has (leaves_ticket d.ticket) t)) cs)) is ∙ none cs
-          ]
-        ] refl
+left_unlive t k left = grind (arith, live_among k t)
 
 -- ---- the log
 
@@ -69,16 +69,12 @@ items_effects o t (item ∷ items) = items_effects o (item ∷ t) items ∙ appe
 
 pub log_effects : (o : Setting) (event : ℕ) (t : Trace) (h : List Event) → effects_so_far o (after_events o event t h) ≡ effects_so_far o t ++ effects_in (entries_from o event t h)
 log_effects o event t [] = sym (append-nil (effects_so_far o t))
-log_effects o event t (e ∷ h) =
-    log_effects o (event + 1) (after_event o event t e) h
-    ∙ ap (λ es. es ++ effects_in (entries_from o (event + 1) (after_event o event t e) h)) (items_effects o t (items_of o event t e))
-    ∙ append_assoc (effects_so_far o t) (effects_of o t (items_of o event t e)) (effects_in (entries_from o (event + 1) (after_event o event t e) h))
+log_effects o event t (e ∷ h) = grind (arith, log_effects o (event + 1) (after_event o event t e) h, items_effects, append_assoc)
 
 -- ---- the rule
 
 or_cases : (a b : Bool) (P : Type 0) → (a ≡ true → P) → (b ≡ true → P) → (a || b) ≡ true → P
-or_cases true b P f g h = f refl
-or_cases false b P f g h = g h
+or_cases a b P f g h = grind arith
 
 moment_of : (c : Command) (t : Trace) → was_free c t ≡ true → FreeMoment c t
 moment_of c [] h = absurd (false≢true h)

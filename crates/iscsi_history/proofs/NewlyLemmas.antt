@@ -1,26 +1,23 @@
 -- Which commands an item enables.
-use Rattle.std.proofs.Common.{◌≡◌, ℕ, zero, suc, ◌+◌, ◌<◌, ◌≤◌, ◌==◌, ◌&&◌, ◌||◌, not, ⊎_elim, cond, Bool, true, false, List, [], ◌∷◌, ◌++◌, map, filter, refl, ap, sym, ◌∙◌, arith, eq-eqb, nat_lt}
+use Rattle.std.proofs.Common.{◌≡◌, ℕ, zero, suc, ◌+◌, ◌<◌, ◌≤◌, ◌==◌, ◌&&◌, ◌||◌, not, cond, Bool, true, false, List, [], ◌∷◌, ◌++◌, filter, refl, ap, sym, ◌∙◌, arith, nat_lt}
 use Rattle.std.specs.List.{list_any, list_all, filter_map, flat_map, range_with_len}
-use Rattle.std.proofs.lemmas.Bool.{cases_eq, eqb-true}
-use Rattle.std.proofs.lemmas.Bool.Decides.{nat_tests}
 use Rattle.std.proofs.lemmas.List.{append-nil, map-append}
 use Rattle.std.proofs.lemmas.List.Elements.{filter-append}
 use Rattle.std.proofs.lemmas.List.Folds.{list_any-append}
 use Rattle.iscsi_tasks.specs.Sets.{Queued, bars, is_free}
 use Rattle.iscsi_history.specs.rules.Settings.{Setting}
-use Rattle.iscsi_history.specs.rules.Trace.{Command, Mark, Trace, has, enters, entered, leaves_ticket, live, live_in, is_among, queued_of, is_free_at, was_free, enabled_in}
+use Rattle.iscsi_history.specs.rules.Trace.{Command, Mark, Trace, enters, entered, leaves_ticket, live, live_in, is_among, was_free, enabled_in}
 use Rattle.iscsi_history.specs.rules.Run.{newly_enabled}
-use Rattle.iscsi_history.proofs.BoolLemmas.{and_parts, and_both, or_none, not_true, or_first, or_second, and_false, and_comm, and_true}
+use Rattle.iscsi_history.proofs.BoolLemmas.{and_parts, or_none, not_true, and_false, and_comm, and_true}
 use Rattle.iscsi_history.proofs.ApartLemmas.{unamong-filter}
 use Rattle.iscsi_history.proofs.TraceLemmas.{all_among, live-quiet}
 use Rattle.iscsi_history.proofs.ListLemmas.{all_of_filter, any_filter, any_flat_map, any_same}
+use Rattle.iscsi_history.proofs.DeedLemmas.{any-none}
 use Rattle.iscsi_history.proofs.MomentLemmas.{free_now}
 
 pub filter_all : {A : Type 0} (f g : A → Bool) (p : A → Bool) (xs : List A) → list_all p xs ≡ true → ((x : A) → p x ≡ true → f x ≡ g x) → filter f xs ≡ filter g xs
 filter_all f g p [] all same = refl
-filter_all f g p (x ∷ xs) all same =
-    let parts = and_parts (p x) (list_all p xs) all in
-    ap (λ b. cond b (x ∷ filter f xs) (filter f xs)) (same x parts.0) ∙ ap (λ ys. cond (g x) (x ∷ ys) ys) (filter_all f g p xs parts.1 same)
+filter_all f g p (x ∷ xs) all same = grind (arith, filter_all f g p xs)
 
 pub filter-none : {A : Type 0} (f : A → Bool) (xs : List A) → ((x : A) → f x ≡ false) → filter f xs ≡ []
 filter-none f [] none = refl
@@ -28,18 +25,11 @@ filter-none f (x ∷ xs) none = ap (λ b. cond b (x ∷ filter f xs) (filter f x
 
 pub filter-twice : {A : Type 0} (f g : A → Bool) (xs : List A) → filter f (filter g xs) ≡ filter (λ x. g x && f x) xs
 filter-twice f g [] = refl
-filter-twice f g (x ∷ xs) =
-    elim (g x) as (λ b. filter f (cond b (x ∷ filter g xs) (filter g xs)) ≡ cond (b && f x) (x ∷ filter (λ y. g y && f y) xs) (filter (λ y. g y && f y) xs)) [
-      | true ↦ ap (λ ys. cond (f x) (x ∷ ys) ys) (filter-twice f g xs)
-      | false ↦ filter-twice f g xs
-    ]
+filter-twice f g (x ∷ xs) = grind (arith, filter-twice f g xs)
 
 pub both_all : {A : Type 0} (p q : A → Bool) (xs : List A) → list_all p xs ≡ true → list_all q xs ≡ true → list_all (λ x. p x && q x) xs ≡ true
 both_all p q [] h k = refl
-both_all p q (x ∷ xs) h k =
-    let a = and_parts (p x) (list_all p xs) h in
-    let b = and_parts (q x) (list_all q xs) k in
-    and_both (p x && q x) (list_all (λ y. p y && q y) xs) (and_both (p x) (q x) a.0 b.0) (both_all p q xs a.1 b.1)
+both_all p q (x ∷ xs) h k = grind (arith, both_all p q xs)
 
 -- ---- the live commands of a unit
 
@@ -53,10 +43,7 @@ all_here unit t = both_all (λ c. c.unit == unit) (λ c. is_among c.ticket (live
 -- a command that never entered was never free
 pub never_free : (c : Command) (t : Trace) → is_among c.ticket (entered t) ≡ false → was_free c t ≡ false
 never_free c [] gone = refl
-never_free c (item ∷ t) gone =
-    let parts = or_none (is_among c.ticket (entered t)) (is_among c.ticket (filter_map enters item)) (sym (list_any-append (λ (d : Command). d.ticket == c.ticket) (entered t) (filter_map enters item)) ∙ gone) in
-    let out : is_among c.ticket (live_in c.unit (item ∷ t)) ≡ false = unamong-filter (λ (d : Command). d.unit == c.unit) c.ticket (live (item ∷ t)) (unamong-filter (λ (d : Command). not (has (leaves_ticket d.ticket) (item ∷ t))) c.ticket (entered (item ∷ t)) gone) in
-    ap (λ b. (b && is_free (queued_of c) (map queued_of (live_in c.unit (item ∷ t)))) || was_free c t) out ∙ never_free c t parts.0
+never_free c (item ∷ t) gone = grind (arith, never_free c t, list_any-append, unamong-filter)
 
 -- who is free among more is free among fewer
 free_among_fewer : (q : Queued) (xs ys : List Queued) → is_free q (xs ++ ys) ≡ true → is_free q xs ≡ true
@@ -64,18 +51,7 @@ free_among_fewer q xs ys h = ap not (or_none (list_any (bars q) xs) (list_any (b
 
 -- nothing changes for a command of a unit that others enter, or that nothing enters or leaves
 pub was_free-stays : (item : List Mark) (t : Trace) (unit : ℕ) (more : List Command) (c : Command) → live_in unit (item ∷ t) ≡ live_in unit t ++ more → is_here unit (live_in unit t) c ≡ true → was_free c (item ∷ t) ≡ was_free c t
-was_free-stays item t unit more c now here =
-    let parts = and_parts (c.unit == unit) (is_among c.ticket (live_in unit t)) here in
-    let at : live_in c.unit (item ∷ t) ≡ live_in unit t ++ more = ap (λ u. live_in u (item ∷ t)) (eqb-true c.unit unit parts.0) ∙ now in
-    let before : live_in c.unit t ≡ live_in unit t = ap (λ u. live_in u t) (eqb-true c.unit unit parts.0) in
-    elim (is_free_at c (item ∷ t)) as (λ b. is_free_at c (item ∷ t) ≡ b → (b || was_free c t) ≡ was_free c t) [
-      | false ↦ λ is. refl
-      | true ↦ λ is.
-          let free : is_free (queued_of c) (map queued_of (live_in unit t ++ more)) ≡ true = ap (λ cs. is_free (queued_of c) (map queued_of cs)) (sym at) ∙ (and_parts (is_among c.ticket (live_in c.unit (item ∷ t))) (is_free (queued_of c) (map queued_of (live_in c.unit (item ∷ t)))) is).1 in
-          let fewer : is_free (queued_of c) (map queued_of (live_in unit t)) ≡ true = free_among_fewer (queued_of c) (map queued_of (live_in unit t)) (map queued_of more) (ap (is_free (queued_of c)) (sym (map-append queued_of (live_in unit t) more)) ∙ free) in
-          let then : is_free_at c t ≡ true = and_both (is_among c.ticket (live_in c.unit t)) (is_free (queued_of c) (map queued_of (live_in c.unit t))) (ap (is_among c.ticket) before ∙ parts.1) (ap (λ cs. is_free (queued_of c) (map queued_of cs)) before ∙ fewer) in
-          sym (free_now c t then)
-    ] refl
+was_free-stays item t unit more c now here = grind (arith, free_among_fewer, map-append, free_now)
 
 -- the commands of a unit that an item enables
 abbrev pub new_in : Trace → List Mark → ℕ → List Command
@@ -89,8 +65,7 @@ none_of_before item t unit more now =
     ∙ filter-none (λ (c : Command). false) (live_in unit t) (λ c. refl)
   where
     never : (b : Bool) → (b && not b) ≡ false
-    never true = refl
-    never false = refl
+    never b = grind arith
 
 pub new_in-more : (item : List Mark) (t : Trace) (unit : ℕ) (more : List Command) → live_in unit (item ∷ t) ≡ live_in unit t ++ more → new_in t item unit ≡ filter (λ c. was_free c (item ∷ t) && not (was_free c t)) more
 new_in-more item t unit more now =
@@ -135,31 +110,17 @@ is_new item t c = was_free c (item ∷ t) && not (was_free c t)
 
 pub any_or : {A : Type 0} (f g h : A → Bool) (xs : List A) → ((x : A) → f x ≡ (g x || h x)) → list_any f xs ≡ (list_any g xs || list_any h xs)
 any_or f g h [] same = refl
-any_or f g h (x ∷ xs) same = ap (λ b. b || list_any f xs) (same x) ∙ ap (λ b. (g x || h x) || b) (any_or f g h xs same) ∙ swap (g x) (h x) (list_any g xs) (list_any h xs)
-  where
-    swap : (a b c d : Bool) → ((a || b) || (c || d)) ≡ ((a || c) || (b || d))
-    swap true b c d = refl
-    swap false true true d = refl
-    swap false true false d = refl
-    swap false false true d = refl
-    swap false false false d = refl
+any_or f g h (x ∷ xs) same = grind (arith, any_or f g h xs)
 
 -- ---- what an item enables, of all units
-
-any_never : {A : Type 0} (xs : List A) → list_any (λ x. false) xs ≡ false
-any_never [] = refl
-any_never (x ∷ xs) = any_never xs
 
 -- some unit is that of the command, where it is one of the session's
 unit_among : (n from unit : ℕ) → from ≤ unit → unit < from + n → list_any (λ u. unit == u) (range_with_len from n) ≡ true
 unit_among zero from unit low high = absurd (omega arith)
-unit_among (suc n) from unit low high =
-    ⊎_elim (λ here. or_first (unit == from) (list_any (λ u. unit == u) (range_with_len (from + 1) n)) (eq-eqb unit from here))
-    (λ apart. or_second (unit == from) (list_any (λ u. unit == u) (range_with_len (from + 1) n)) (unit_among n (from + 1) unit (omega arith) (omega arith)))
-    (cases_eq unit from)
+unit_among (suc n) from unit low high = grind (arith, unit_among n (from + 1) unit)
 
-any_in_units : (n : ℕ) (g : Command → Bool) (cs : List Command) → list_all (λ d. nat_lt d.unit n) cs ≡ true → list_any (λ u. list_any (λ d. (d.unit == u) && g d) cs) (range_with_len 0 n) ≡ list_any g cs
-any_in_units n g [] all = any_never (range_with_len 0 n)
+pub any_in_units : (n : ℕ) (g : Command → Bool) (cs : List Command) → list_all (λ d. nat_lt d.unit n) cs ≡ true → list_any (λ u. list_any (λ d. (d.unit == u) && g d) cs) (range_with_len 0 n) ≡ list_any g cs
+any_in_units n g [] all = any-none (range_with_len 0 n)
 any_in_units n g (x ∷ cs) all =
     let parts = and_parts (nat_lt x.unit n) (list_all (λ d. nat_lt d.unit n) cs) all in
     let inside : x.unit < 0 + n = below x.unit parts.0 in
@@ -168,20 +129,14 @@ any_in_units n g (x ∷ cs) all =
     ∙ ap (λ b. g x || b) (any_in_units n g cs parts.1)
   where
     below : (u : ℕ) → nat_lt u n ≡ true → u < 0 + n
-    below u test = let lt : u < n = grind (arith, nat_tests) in omega (arith, lt)
+    below u test = let lt : u < n = grind arith in omega (arith, lt)
 
     either : (b : Bool) (us : List ℕ) → list_any (λ u. x.unit == u) us ≡ true → list_any (λ u. (x.unit == u) && b) us ≡ b
     either true us h = any_same (λ u. (x.unit == u) && true) (λ u. x.unit == u) us (λ u. and_true (x.unit == u)) ∙ h
-    either false us h = any_same (λ u. (x.unit == u) && false) (λ u. false) us (λ u. and_false (x.unit == u)) ∙ any_never us
+    either false us h = any_same (λ u. (x.unit == u) && false) (λ u. false) us (λ u. and_false (x.unit == u)) ∙ any-none us
 
 pub was_or_new : (item : List Mark) (t : Trace) (d : Command) → was_free d (item ∷ t) ≡ (was_free d t || is_new item t d)
-was_or_new item t d = bools (is_free_at d (item ∷ t)) (was_free d t)
-  where
-    bools : (f g : Bool) → (f || g) ≡ (g || ((f || g) && not g))
-    bools true true = refl
-    bools true false = refl
-    bools false true = refl
-    bools false false = refl
+was_or_new item t d = grind arith
 
 -- the live commands that an item enables
 pub newly_among : (o : Setting) (item : List Mark) (t : Trace) (k : ℕ) → list_all (λ d. nat_lt d.unit o.units) (live (item ∷ t)) ≡ true → is_among k (newly_enabled o t item) ≡ list_any (λ d. d.ticket == k && is_new item t d) (live (item ∷ t))

@@ -1,28 +1,11 @@
 -- Numbers, as the wire shows them, and how they compare.
-use Rattle.std.proofs.Common.{◌<◌, ◌==◌, ◌^◌, arith, eq-eqb, false, sym, ℕ, ◌∙◌, ◌≡◌, ◌≤◌, ⊎_elim, ◌+◌, ◌-◌, nat_le, nat_lt, true, ◌%◌, ◌-ℤ◌, Bool, int_lt, pos, refl, Decides, ap, List, [], ◌||◌, ◌∷◌, cond}
+use Rattle.std.proofs.Common.{◌<◌, ◌==◌, ◌^◌, arith, false, ℕ, ◌≡◌, ◌≤◌, ◌+◌, ◌-◌, nat_le, nat_lt, true, ◌%◌, ◌-ℤ◌, int_lt, pos, refl, List, [], ◌∷◌, cond}
 use Rattle.std.specs.Ordering.{int_eq}
 use Rattle.std.specs.List.{list_all, list_any}
-use Rattle.std.proofs.lemmas.Bool.{cases_eq, cases_lt, false≢true}
-use Rattle.std.proofs.lemmas.Bool.Decides.{nat_tests, Decides-int_eq}
-use Rattle.std.proofs.lemmas.Int.{ints}
+use Rattle.std.proofs.lemmas.Bool.Decides.{nat_tests}
 use Rattle.iscsi_wire.specs.Serial.{lift, wire}
-use Rattle.iscsi_history.proofs.BoolLemmas.{and_parts}
 
 -- ---- on the wire
-
--- a number is the next one just where the wire shows it as the next one
-pub is_next_number : (e w : ℕ) → 2 ^ 32 ≤ e → w < 2 ^ 32 → (lift e w == e) ≡ (w == wire e)
-is_next_number e w big fits =
-    ⊎_elim (λ same. let there : lift e w ≡ e = omega (arith, same) in eq-eqb (lift e w) e there ∙ sym (eq-eqb w (wire e) same))
-    (λ apart. let there : (lift e w == e) ≡ false = grind (arith, nat_tests) in there ∙ (let not_shown : (w == wire e) ≡ false = grind (arith, nat_tests) in sym not_shown))
-    (cases_eq w (wire e))
-
--- the next number is within the window just where the window isn't shut
-pub is_window_open : (e window unfinished : ℕ) → 1 ≤ e → nat_le e (e + window - 1 - unfinished) ≡ nat_lt unfinished window
-is_window_open e window unfinished some =
-    ⊎_elim (λ room. (let a : nat_le e (e + window - 1 - unfinished) ≡ true = grind (arith, nat_tests) in a) ∙ (let b : nat_lt unfinished window ≡ true = grind (arith, nat_tests) in sym b))
-    (λ shut. (let a : nat_le e (e + window - 1 - unfinished) ≡ false = grind (arith, nat_tests) in a) ∙ (let b : nat_lt unfinished window ≡ false = grind (arith, nat_tests) in sym b))
-    (cases_lt unfinished window)
 
 -- a number is shown as what it was lifted from
 pub wire-lift : (e w : ℕ) → wire (lift e w) ≡ wire w
@@ -36,10 +19,7 @@ wire-next n = omega arith
 
 -- the numbers up to MaxCmdSN
 pub within_window : (e n long unfinished : ℕ) → 1 ≤ e → unfinished ≤ long → nat_le n (e + long - 1 - unfinished) ≡ nat_lt n (e + (long - unfinished))
-within_window e n long unfinished some few = ⊎_elim
-    (λ inside. (let x : nat_le n (e + long - 1 - unfinished) ≡ true = grind (arith, nat_tests) in x) ∙ (let y : nat_lt n (e + (long - unfinished)) ≡ true = grind (arith, nat_tests) in sym y))
-    (λ beyond. (let x : nat_le n (e + long - 1 - unfinished) ≡ false = grind (arith, nat_tests) in x) ∙ (let y : nat_lt n (e + (long - unfinished)) ≡ false = grind (arith, nat_tests) in sym y))
-    (cases_lt n (e + (long - unfinished)))
+within_window e n long unfinished some few = grind arith
 
 -- the number of the request that turned last, by what the wire shows
 pub last_number : (e n sn : ℕ) → 2 ^ 32 ≤ e → n + 1 ≡ e → wire sn ≡ wire n → lift e sn ≡ n
@@ -50,58 +30,18 @@ pub ahead_by : (e w : ℕ) → 2 ^ 32 ≤ e → e < lift e w → (w + (2 ^ 32 - 
 ahead_by e w big ahead = omega (arith, big, ahead)
 
 pub position_lt : (x y f : ℕ) → int_lt (pos x -ℤ pos f) (pos y -ℤ pos f) ≡ nat_lt x y
-position_lt x y f = by_test (int_lt (pos x -ℤ pos f) (pos y -ℤ pos f)) refl
-  where
-    by_test : (b : Bool) → int_lt (pos x -ℤ pos f) (pos y -ℤ pos f) ≡ b → int_lt (pos x -ℤ pos f) (pos y -ℤ pos f) ≡ nat_lt x y
-    by_test true is = is ∙ (let lt : x < y = omega (arith, ints, is) in let z : nat_lt x y ≡ true = grind (arith, nat_tests) in sym z)
-    by_test false is = is ∙ (let le : y ≤ x = omega (arith, ints, is) in let z : nat_lt x y ≡ false = grind (arith, nat_tests) in sym z)
+position_lt x y f = grind arith
 
 pub position_eq : (x y f : ℕ) → int_eq (pos x -ℤ pos f) (pos y -ℤ pos f) ≡ (x == y)
-position_eq x y f = by_test (int_eq (pos x -ℤ pos f) (pos y -ℤ pos f)) refl
-  where
-    decides : Decides (int_eq (pos x -ℤ pos f) (pos y -ℤ pos f)) ((pos x -ℤ pos f) ≡ (pos y -ℤ pos f))
-    decides = Decides-int_eq (pos x -ℤ pos f) (pos y -ℤ pos f)
-
-    by_test : (b : Bool) → int_eq (pos x -ℤ pos f) (pos y -ℤ pos f) ≡ b → int_eq (pos x -ℤ pos f) (pos y -ℤ pos f) ≡ (x == y)
-    by_test true is = is ∙ (let same : x ≡ y = omega (arith, ints, decides.0 is) in sym (eq-eqb x y same))
-    by_test false is = is ∙ ⊎_elim
-        (λ same. absurd (false≢true (sym is ∙ decides.1 (ap (λ n. pos n -ℤ pos f) same))))
-        (λ apart. let no : (x == y) ≡ false = grind (arith, nat_tests) in sym no)
-        (cases_eq x y)
-
--- a later ticket is another
-pub later_apart : (k t : ℕ) → nat_lt k t ≡ true → (t == k) ≡ false
-later_apart k t test = let lt : k < t = grind (arith, nat_tests) in let no : (t == k) ≡ false = grind (arith, nat_tests) in no
+position_eq x y f = grind arith
 
 pub none_above : (k : ℕ) (ts : List ℕ) → list_all (λ u. nat_lt k u) ts ≡ true → list_any (λ t. t == k) ts ≡ false
 none_above k [] h = refl
-none_above k (t ∷ ts) h =
-    let parts = and_parts (nat_lt k t) (list_all (λ u. nat_lt k u) ts) h in
-    ap (λ b. b || list_any (λ u. u == k) ts) (later_apart k t parts.0) ∙ none_above k ts parts.1
+none_above k (t ∷ ts) h = grind (arith, none_above k ts)
 
 pub one_unit : (n u : ℕ) → cond (n == u) 1 0 + cond (nat_le (u + 1) n) 1 0 ≤ cond (nat_le u n) 1 0
-one_unit n u =
-    ⊎_elim (λ below.
-    let x : (n == u) ≡ false = grind (arith, nat_tests) in
-    let y : nat_le (u + 1) n ≡ false = grind (arith, nat_tests) in
-    omega (arith, ap {B = ℕ} (λ b. cond b 1 0) x, ap {B = ℕ} (λ b. cond b 1 0) y))
-    (λ from. ⊎_elim (λ at.
-    let y : nat_le (u + 1) n ≡ false = grind (arith, nat_tests) in
-    let z : nat_le u n ≡ true = grind (arith, nat_tests) in
-    omega (arith, at_most (n == u), ap {B = ℕ} (λ b. cond b 1 0) y, ap {B = ℕ} (λ b. cond b 1 0) z))
-    (λ above.
-    let x : (n == u) ≡ false = grind (arith, nat_tests) in
-    let z : nat_le u n ≡ true = grind (arith, nat_tests) in
-    omega (arith, ap {B = ℕ} (λ b. cond b 1 0) x, at_most (nat_le (u + 1) n), ap {B = ℕ} (λ b. cond b 1 0) z))
-    (cases_lt n (u + 1)))
-    (cases_lt n u)
-  where
-    at_most : (b : Bool) → cond b 1 0 ≤ 1
-    at_most true = omega arith
-    at_most false = omega arith
+one_unit n u = grind arith
 
 -- what arrived before did so before the next event too
 pub later_event : (event taken : ℕ) → nat_lt event taken ≡ true → nat_lt event (taken + 1) ≡ true
-later_event event taken before =
-    let lt : event < taken = grind (arith, nat_tests) in
-    grind (arith, nat_tests)
+later_event event taken before = grind arith

@@ -1,21 +1,20 @@
 -- The effects of an item stand in order.
 use Rattle.std.proofs.Common.{◌≡◌, ℕ, ◌≤◌, ◌||◌, cond, Bool, true, false, List, [], ◌∷◌, ◌++◌, map, count_by, Option, Some, None, refl, ap, sym, subst, ◌∙◌, arith, nat_le}
+use Rattle.std.proofs.lemmas.Grind.{common_steps}
 use Rattle.std.specs.List.{list_any, list_all, flat_map}
-use Rattle.std.proofs.lemmas.Bool.{false≢true}
-use Rattle.std.proofs.lemmas.Bool.Decides.{nat_tests}
 use Rattle.std.proofs.lemmas.List.Sums.{sum_by-cons}
 use Rattle.iscsi_wire.specs.declared.reply.Reply.{Reply}
 use Rattle.iscsi_wire.specs.Fields.{connection_of}
 use Rattle.iscsi_history.specs.declared.effect.Effect.{Effect}
-use Rattle.iscsi_history.specs.declared.effect.Effect.TheVariants.{Deliver, Immediate, Wait, Void, Empty, Enter, Enable, Leave, Send, CloseConn, CloseSession, Ignore}
+use Rattle.iscsi_history.specs.declared.effect.Effect.TheVariants.{Deliver, Immediate, Wait, Void, Empty, Enter, Enable, Leave, Send, CloseConn, CloseSession}
 use Rattle.iscsi_history.specs.rules.Settings.{Setting}
-use Rattle.iscsi_history.specs.rules.Trace.{Arrival, Command, Mark, Voids, Empties, Leaves, Enters, Sends, ClosesConn, ClosesSession, Ignores, Trace}
+use Rattle.iscsi_history.specs.rules.Trace.{Arrival, Command, Mark, Voids, Empties, Leaves, Enters, Sends, ClosesConn, ClosesSession, Trace}
 use Rattle.iscsi_history.specs.rules.Run.{effects_of_mark, newly_enabled, effects_of_item}
 use Rattle.iscsi_history.specs.promises.Closes.{is_ignored}
 use Rattle.iscsi_history.specs.promises.Order.{is_request, is_reply, rank, never_falls, IsInOrder}
-use Rattle.iscsi_history.proofs.BoolLemmas.{and_parts, and_both}
+use Rattle.iscsi_history.proofs.BoolLemmas.{and_both}
 use Rattle.iscsi_history.proofs.NewlyLemmas.{newly-untouched}
-use Rattle.iscsi_history.proofs.Forms.{AtTurn, AtArrival, AfterWaiting, Deeds, if_some, marks_done, Form, Ignored, Rejected, Received, Postponed, Completed, Executed, marks_of_form, HasForm}
+use Rattle.iscsi_history.proofs.Forms.{AtTurn, Deeds, if_some, marks_done, Form, Ignored, Rejected, Received, Postponed, Completed, Executed, marks_of_form, HasForm}
 
 -- ---- effects of rising ranks
 
@@ -30,37 +29,21 @@ record Rises (k : ℕ) (es : List Effect) : Type 0 where
 -- effects that a rank alone allows to begin with
 le_first : (k : ℕ) (es : List Effect) (n : ℕ) → list_all (λ e. nat_le k (rank e)) es ≡ true → never_falls (map rank es) ≡ true → n ≤ k → never_falls (n ∷ map rank es) ≡ true
 le_first k [] n from sorted low = refl
-le_first k (e ∷ es) n from sorted low =
-    let parts = and_parts (nat_le k (rank e)) (list_all (λ x. nat_le k (rank x)) es) from in
-    and_both (nat_le n (rank e)) (never_falls (map rank (e ∷ es))) (let z : nat_le n (rank e) ≡ true = grind (arith, nat_tests) in z) sorted
+le_first k (e ∷ es) n from sorted low = grind arith
 
 weaker_from : (j k : ℕ) (es : List Effect) → j ≤ k → list_all (λ e. nat_le k (rank e)) es ≡ true → list_all (λ e. nat_le j (rank e)) es ≡ true
 weaker_from j k [] low from = refl
-weaker_from j k (e ∷ es) low from =
-    let parts = and_parts (nat_le k (rank e)) (list_all (λ x. nat_le k (rank x)) es) from in
-    and_both (nat_le j (rank e)) (list_all (λ x. nat_le j (rank x)) es) (let z : nat_le j (rank e) ≡ true = grind (arith, nat_tests) in z) (weaker_from j k es low parts.1)
+weaker_from j k (e ∷ es) low from = grind (arith, weaker_from j k es)
 
 rises-on : (j k : ℕ) (es : List Effect) → j ≤ k → Rises k es → Rises j es
-rises-on j k es low r = record {
-  sorted = r.sorted;
-  from = weaker_from j k es low r.from;
-  unignored = r.unignored;
-  replies = (let z : count_by is_reply es ≤ cond (nat_le j 5) 1 0 = grind (arith, nat_tests, r.replies) in z);
-  requests = (let z : count_by is_request es ≤ cond (nat_le j 0) 1 0 = grind (arith, nat_tests, r.requests) in z);
-}
+rises-on j k es low r = grind (arith, weaker_from)
 
 rises-none : (k : ℕ) → Rises k []
 rises-none k = record { sorted = refl; from = refl; unignored = refl; replies = (let z : 0 ≤ cond (nat_le k 5) 1 0 = omega arith in z); requests = (let z : 0 ≤ cond (nat_le k 0) 1 0 = omega arith in z) }
 
 -- an effect that may come several times
 rises-again : (k : ℕ) (e : Effect) (es : List Effect) → rank e ≡ k → is_ignored e ≡ false → is_reply e ≡ false → is_request e ≡ false → Rises k es → Rises k (e ∷ es)
-rises-again k e es here heard silent later r = record {
-  sorted = le_first k es (rank e) r.from r.sorted (omega (arith, here));
-  from = and_both (nat_le k (rank e)) (list_all (λ x. nat_le k (rank x)) es) (let z : nat_le k (rank e) ≡ true = grind (arith, nat_tests) in z) r.from;
-  unignored = ap (λ b. b || list_any is_ignored es) heard ∙ r.unignored;
-  replies = omega (arith, r.replies, sum_by-cons (λ x. cond (is_reply x) 1 0) e es, ap {B = ℕ} (λ b. cond b 1 0) silent);
-  requests = omega (arith, r.requests, sum_by-cons (λ x. cond (is_request x) 1 0) e es, ap {B = ℕ} (λ b. cond b 1 0) later);
-}
+rises-again k e es here heard silent later r = grind (arith, le_first)
 
 -- the effects of a part of the marks, and what follows
 module _ (o : Setting) (t : Trace) where
@@ -94,13 +77,7 @@ rises_enables (c ∷ cs) = rises-again 8 (Enable c.ticket c.unit) _ refl refl re
 
 -- a reply, and after it no other
 rises_reply : (conn sn : ℕ) (reply : Reply) (es : List Effect) → Rises 6 es → Rises 5 (Send conn sn reply ∷ es)
-rises_reply conn sn reply es r = record {
-  sorted = le_first 6 es 5 r.from r.sorted (omega arith);
-  from = and_both true (list_all (λ x. nat_le 5 (rank x)) es) refl (weaker_from 5 6 es (omega arith) r.from);
-  unignored = r.unignored;
-  replies = omega (arith, r.replies, sum_by-cons (λ x. cond (is_reply x) 1 0) (Send conn sn reply) es);
-  requests = omega (arith, r.requests, sum_by-cons (λ x. cond (is_request x) 1 0) (Send conn sn reply) es);
-}
+rises_reply conn sn reply es r = grind (arith, common_steps, le_first, weaker_from)
 
 -- a request, and after it no other
 rises_request : (e : Effect) (es : List Effect) → rank e ≡ 0 → is_ignored e ≡ false → is_reply e ≡ false → Rises 1 es → Rises 0 (e ∷ es)
@@ -113,12 +90,11 @@ rises_request e es here heard silent r = record {
 }
   where
     at_most : (b : Bool) → cond b 1 0 ≤ 1
-    at_most true = omega arith
-    at_most false = omega arith
+    at_most b = grind arith
 
     all_from : (xs : List Effect) → list_all (λ x. nat_le 0 (rank x)) xs ≡ true
     all_from [] = refl
-    all_from (x ∷ xs) = and_both (nat_le 0 (rank x)) (list_all (λ y. nat_le 0 (rank y)) xs) (let z : nat_le 0 (rank x) ≡ true = grind (arith, nat_tests) in z) (all_from xs)
+    all_from (x ∷ xs) = and_both (nat_le 0 (rank x)) (list_all (λ y. nat_le 0 (rank y)) xs) (let z : nat_le 0 (rank x) ≡ true = grind arith in z) (all_from xs)
 
 rises_reply_of : (o : Setting) (t : Trace) (conn : ℕ) (x : Option Reply) (ms : List Mark) (rest : List Effect) → Rises 6 (flat_map (effects_of_mark o t) ms ++ rest) → Rises 5 (flat_map (effects_of_mark o t) (if_some (Sends conn) x ++ ms) ++ rest)
 rises_reply_of o t conn None ms rest r = rises-on 5 6 _ (omega arith) r
@@ -127,12 +103,7 @@ rises_reply_of o t conn (Some reply) ms rest r = rises_reply conn _ reply _ r
 -- ---- items
 
 in_order : (k : ℕ) (es : List Effect) → Rises k es → IsInOrder es
-in_order k es r = record {
-  kinds = r.sorted;
-  one_request = (let z : count_by is_request es ≤ 1 = grind (arith, nat_tests, r.requests) in z);
-  one_reply = (let z : count_by is_reply es ≤ 1 = grind (arith, nat_tests, r.replies) in z);
-  alone = λ h. absurd (false≢true (sym r.unignored ∙ h));
-}
+in_order k es r = grind arith
 
 rises_done : (o : Setting) (t : Trace) (a : Arrival) (d : Deeds) (rest : List Effect) → Rises 8 rest → Rises 1 (flat_map (effects_of_mark o t) (marks_done a d) ++ rest)
 rises_done o t a d rest r =
@@ -140,18 +111,14 @@ rises_done o t a d rest r =
     (rises_reply_of o t (connection_of a.request) d.reply _ rest (rises_closes o t d.closing _ rest (rises_end o t d.ending rest r))))))))
 
 form_in_order : (o : Setting) (t : Trace) (form : Form) → IsInOrder (effects_of_item o t (marks_of_form form))
-form_in_order o t (Ignored why) =
-    let none : newly_enabled o t (Ignores why ∷ []) ≡ [] = newly-untouched o t (Ignores why ∷ []) (record { enters_none = refl; leaves_no = λ k. refl }) in
-    subst (λ cs. IsInOrder (Ignore why ∷ map (λ (c : Command). Enable c.ticket c.unit) cs)) (sym none)
-    (record { kinds = refl; one_request = (let z : 0 ≤ 1 = omega arith in z); one_reply = (let z : 0 ≤ 1 = omega arith in z); alone = λ h. refl })
+form_in_order o t (Ignored why) = grind (arith, newly-untouched)
 form_in_order o t (Rejected a) = in_order 5 _ (rises_reply _ _ _ _ (rises-on 6 8 _ (omega arith) (rises_enables (newly_enabled o t (marks_of_form (Rejected a))))))
 form_in_order o t (Received a) = in_order 8 _ (rises_enables (newly_enabled o t (marks_of_form (Received a))))
 form_in_order o t (Postponed a) = in_order 0 _ (rises_request (Wait a.request) _ refl refl refl (rises-on 1 8 _ (omega arith) (rises_enables (newly_enabled o t (marks_of_form (Postponed a))))))
 form_in_order o t (Completed c status) =
     in_order 2 _ (rises-again 2 (Leave c.ticket c.unit) _ refl refl refl refl (rises-on 2 5 _ (omega arith) (rises_reply _ _ _ _ (rises-on 6 8 _ (omega arith) (rises_enables (newly_enabled o t (marks_of_form (Completed c status))))))))
 form_in_order o t (Executed AtTurn a d) = in_order 0 _ (rises_request (Deliver a.request) _ refl refl refl (rises_done o t a d _ (rises_enables (newly_enabled o t (marks_of_form (Executed AtTurn a d))))))
-form_in_order o t (Executed AtArrival a d) = in_order 0 _ (rises_request (Immediate a.request) _ refl refl refl (rises_done o t a d _ (rises_enables (newly_enabled o t (marks_of_form (Executed AtArrival a d))))))
-form_in_order o t (Executed AfterWaiting a d) = in_order 0 _ (rises_request (Immediate a.request) _ refl refl refl (rises_done o t a d _ (rises_enables (newly_enabled o t (marks_of_form (Executed AfterWaiting a d))))))
+form_in_order o t (Executed start a d) = in_order 0 _ (rises_request (Immediate a.request) _ refl refl refl (rises_done o t a d _ (rises_enables (newly_enabled o t (marks_of_form (Executed start a d))))))
 
 -- the effects of each item stand in order
 pub item_in_order : (o : Setting) (now : ℕ) (t : Trace) (item : List Mark) → HasForm o now t item → IsInOrder (effects_of_item o t item)

@@ -1,12 +1,9 @@
 -- In the log of a list of events the effects of each item stand in order.
-use Rattle.std.proofs.Common.{◌≡◌, ℕ, ◌+◌, ◌≤◌, ◌||◌, cond, Bool, true, false, List, [], ◌∷◌, ◌++◌, map, count_by, refl, ap, sym, subst, ◌∙◌, arith, nat_le}
-use Rattle.std.specs.List.{list_any, list_all, flat_map}
+use Rattle.std.proofs.Common.{◌≡◌, ℕ, ◌+◌, ◌≤◌, ◌||◌, cond, true, false, List, [], ◌∷◌, ◌++◌, map, count_by, refl, ap, sym, subst, arith, nat_le}
+use Rattle.std.proofs.lemmas.Grind.{common_steps}
+use Rattle.std.specs.List.{list_any, list_all}
 use Rattle.std.proofs.lemmas.Bool.{false≢true}
-use Rattle.std.proofs.lemmas.Bool.Decides.{nat_tests}
-use Rattle.std.proofs.lemmas.List.Sums.{sum_by-cons}
 use Rattle.iscsi_history.specs.declared.effect.Effect.{Effect}
-use Rattle.iscsi_history.specs.declared.effect.Effect.TheVariants.{Deliver, Immediate, Wait, Void, Empty, Enter, Enable, Leave, Send, CloseConn, CloseSession, Ignore}
-use Rattle.iscsi_history.specs.declared.entry.Entry.{Entry}
 use Rattle.iscsi_history.specs.declared.event.Event.{Event}
 use Rattle.iscsi_history.specs.rules.Settings.{Setting}
 use Rattle.iscsi_history.specs.rules.Trace.{Mark, Trace}
@@ -14,7 +11,7 @@ use Rattle.iscsi_history.specs.rules.Agenda.{items_of}
 use Rattle.iscsi_history.specs.rules.Run.{after_event, effects_of_item, effects_of, entries_from, run_of}
 use Rattle.iscsi_history.specs.promises.Order.{is_request, rank, never_falls, onto_first, in_parts, IsInOrder, AreInOrder, KeepsOrder}
 use Rattle.iscsi_history.proofs.BoolLemmas.{and_parts, and_both}
-use Rattle.iscsi_history.proofs.Forms.{AtTurn, AtArrival, AfterWaiting, Form, Ignored, Rejected, Received, Postponed, Completed, Executed, marks_of_form, HasForm, is_turn}
+use Rattle.iscsi_history.proofs.Forms.{AtTurn, AfterWaiting, Form, Executed, marks_of_form, HasForm, is_turn}
 use Rattle.iscsi_history.proofs.FormRuns.{AnyArrival, Turns, TurnsOf, any_brought, event_stands}
 use Rattle.iscsi_history.proofs.OrderLemmas.{item_in_order}
 
@@ -34,64 +31,19 @@ none_below n (e ∷ es) h =
   where
     more : (xs : List Effect) → list_all (λ x. nat_le (rank e) (rank x)) xs ≡ true → nat_le n (rank e) ≡ true → list_all (λ x. nat_le n (rank x)) xs ≡ true
     more [] h low = refl
-    more (x ∷ xs) h low =
-        let parts = and_parts (nat_le (rank e) (rank x)) (list_all (λ y. nat_le (rank e) (rank y)) xs) h in
-        and_both (nat_le n (rank x)) (list_all (λ y. nat_le n (rank y)) xs) (let z : nat_le n (rank x) ≡ true = grind (arith, nat_tests) in z) (more xs parts.1 low)
-
--- a request has rank 0, and nothing else has
-asked_rank : (e : Effect) → nat_le 1 (rank e) ≡ true → is_request e ≡ false
-asked_rank (Deliver r) h = absurd (false≢true h)
-asked_rank (Immediate r) h = absurd (false≢true h)
-asked_rank (Wait r) h = absurd (false≢true h)
-asked_rank (Void sn) h = refl
-asked_rank (Empty sn) h = refl
-asked_rank (Enter ticket unit attr) h = refl
-asked_rank (Enable ticket unit) h = refl
-asked_rank (Leave ticket unit) h = refl
-asked_rank (Send conn sn reply) h = refl
-asked_rank (CloseConn conn) h = refl
-asked_rank CloseSession h = refl
-asked_rank (Ignore why) h = refl
-
-unasked_rank : (e : Effect) → is_request e ≡ false → nat_le 1 (rank e) ≡ true
-unasked_rank (Deliver r) h = absurd (false≢true (sym h))
-unasked_rank (Immediate r) h = absurd (false≢true (sym h))
-unasked_rank (Wait r) h = absurd (false≢true (sym h))
-unasked_rank (Void sn) h = refl
-unasked_rank (Empty sn) h = refl
-unasked_rank (Enter ticket unit attr) h = refl
-unasked_rank (Enable ticket unit) h = refl
-unasked_rank (Leave ticket unit) h = refl
-unasked_rank (Send conn sn reply) h = refl
-unasked_rank (CloseConn conn) h = refl
-unasked_rank CloseSession h = refl
-unasked_rank (Ignore why) h = refl
+    more (x ∷ xs) h low = grind (arith, more xs)
 
 none_asked : (n : ℕ) (es : List Effect) → 1 ≤ n → list_all (λ e. nat_le n (rank e)) es ≡ true → Unasked es
 none_asked n [] low h = refl
-none_asked n (e ∷ es) low h =
-    let parts = and_parts (nat_le n (rank e)) (list_all (λ x. nat_le n (rank x)) es) h in
-    ap (λ b. b || list_any is_request es) (asked_rank e (let z : nat_le 1 (rank e) ≡ true = grind (arith, nat_tests) in z)) ∙ none_asked n es low parts.1
+none_asked n (e ∷ es) low h = grind (arith, none_asked n es)
 
 none_counted : (es : List Effect) → count_by is_request es ≤ 0 → Unasked es
 none_counted [] h = refl
-none_counted (e ∷ es) h =
-    let all : count_by is_request (e ∷ es) ≡ cond (is_request e) 1 0 + count_by is_request es = sum_by-cons (λ x. cond (is_request x) 1 0) e es in
-    by_test (is_request e) refl all (none_counted es)
-  where
-    by_test : (b : Bool) → is_request e ≡ b → count_by is_request (e ∷ es) ≡ cond b 1 0 + count_by is_request es → (count_by is_request es ≤ 0 → Unasked es) → Unasked (e ∷ es)
-    by_test true is all rest = absurd (let z : ⊥ = omega arith in z)
-    by_test false is all rest = ap (λ b. b || list_any is_request es) is ∙ rest (omega arith)
+none_counted (e ∷ es) h = grind (arith, common_steps, none_counted es)
 
 -- after the first effect of an item there is no request
 unasked_later : (e : Effect) (es : List Effect) → IsInOrder (e ∷ es) → Unasked es
-unasked_later e es x =
-    let all : count_by is_request (e ∷ es) ≡ cond (is_request e) 1 0 + count_by is_request es = sum_by-cons (λ y. cond (is_request y) 1 0) e es in
-    by_test (is_request e) refl all
-  where
-    by_test : (b : Bool) → is_request e ≡ b → count_by is_request (e ∷ es) ≡ cond b 1 0 + count_by is_request es → Unasked es
-    by_test true is all = none_counted es (omega (arith, x.one_request))
-    by_test false is all = none_asked (rank e) es (let low : nat_le 1 (rank e) ≡ true = unasked_rank e is in let z : 1 ≤ rank e = grind (arith, nat_tests) in z) (none_below (rank e) es x.kinds)
+unasked_later e es x = grind (arith, common_steps, none_counted, none_asked, none_below)
 
 -- effects that begin with a request, or none
 record IsFresh (es : List Effect) : Type 0 where
@@ -122,14 +74,9 @@ parts_in_order (e ∷ es) ys x f rest =
 -- ---- the items of an event: all but the first begin with a request
 
 fresh_form : (o : Setting) (t : Trace) (form : Form) (items : List (List Mark)) → is_turn form ≡ true → IsFresh (effects_of o t (marks_of_form form ∷ items))
-fresh_form o t (Ignored why) items h = absurd (false≢true h)
-fresh_form o t (Rejected a) items h = absurd (false≢true h)
-fresh_form o t (Received a) items h = absurd (false≢true h)
-fresh_form o t (Postponed a) items h = absurd (false≢true h)
-fresh_form o t (Completed c status) items h = absurd (false≢true h)
 fresh_form o t (Executed AtTurn a d) items h = record { parts = _; first = refl }
-fresh_form o t (Executed AtArrival a d) items h = absurd (false≢true h)
 fresh_form o t (Executed AfterWaiting a d) items h = record { parts = _; first = refl }
+fresh_form o t form items h = absurd (false≢true h)
 
 module _ (o : Setting) (now : ℕ) where
   fresh_turns : (p e : ℕ) (t : Trace) (items : List (List Mark)) → Turns AnyArrival o now p e t items → IsFresh (effects_of o t items)
@@ -151,8 +98,7 @@ module _ (o : Setting) (now : ℕ) where
   event_in_order t e = by_items (items_of o now t e) (event_stands AnyArrival o now t e (any_brought o now t e))
     where
       by_items : (items : List (List Mark)) → TurnsOf AnyArrival o now t items → AreInOrder (in_parts (effects_of o t items))
-      by_items [] s = absurd s
-      by_items (item ∷ items) s = item_first _ _ t item items s.0.has s.1 (turns_in_order _ _ (item ∷ t) items s.1)
+      by_items items s = grind (arith, item_first, turns_in_order)
 
 -- ---- the entries of a log
 
@@ -162,9 +108,7 @@ both_in_order (x ∷ xs) ys h k = (h.0, both_in_order xs ys h.1 k)
 
 entries_in_order : (o : Setting) (now : ℕ) (t : Trace) (h : List Event) → KeepsOrder (entries_from o now t h)
 entries_in_order o now t [] = tt
-entries_in_order o now t (e ∷ h) =
-    both_in_order (in_parts (effects_of o t (items_of o now t e))) (flat_map (λ (n : Entry). in_parts n.effects) (entries_from o (now + 1) (after_event o now t e) h))
-    (event_in_order o now t e) (entries_in_order o (now + 1) (after_event o now t e) h)
+entries_in_order o now t (e ∷ h) = grind (arith, entries_in_order o (now + 1) (after_event o now t e) h, both_in_order, event_in_order)
 
 -- the log of every list of events keeps the order
 pub keeps_order : (o : Setting) (h : List Event) → KeepsOrder (run_of o h)

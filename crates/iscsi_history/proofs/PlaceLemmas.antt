@@ -1,10 +1,8 @@
 -- Places of a list: what is read and written there, and the first one that passes a test.
-use Rattle.std.proofs.Common.{Bool, List, [], refl, set, suc, true, zero, ℕ, ◌∷◌, ◌≡◌, ◌&&◌, ◌++◌, None, Option, Some, ap, drop, get_or, sym, ◌∙◌, ◌<◌, arith, length, ◌≤◌, take, replicate, ◌+◌, cond, false, nat_lt, not, option_map, position, ⊎_elim, subst, find}
-use Rattle.std.specs.List.{list_all, position_or_len}
+use Rattle.std.proofs.Common.{Bool, List, [], refl, set, suc, true, zero, ℕ, ◌∷◌, ◌≡◌, ◌&&◌, ◌++◌, None, Option, Some, ap, drop, get_or, sym, ◌∙◌, ◌<◌, arith, length, ◌≤◌, take, replicate, cond, false, option_map, position, find}
+use Rattle.std.specs.List.{list_all}
 use Rattle.std.proofs.lemmas.List.Folds.{list_all-append}
 use Rattle.std.proofs.lemmas.List.{append-nil}
-use Rattle.std.proofs.lemmas.Bool.{cases_lt, le-ltb, lt-ltb}
-use Rattle.std.proofs.lemmas.Bool.Decides.{nat_tests}
 use Rattle.iscsi_history.proofs.BoolLemmas.{and_both, and_parts}
 
 -- ---- what is written, and what moves up
@@ -16,9 +14,7 @@ all_set p (y ∷ ps) (suc k) x all now = let h = and_parts (p y) (list_all p ps)
 
 pub all_shift : {A : Type 0} (p : Option A → Bool) (x : A) (ps : List (Option A)) → p None ≡ true → get_or ps 0 None ≡ Some x → list_all p ps ≡ true → (p (Some x) ≡ true) × (list_all p (drop 1 ps ++ None ∷ []) ≡ true)
 all_shift p x [] none found all = absurd cc
-all_shift p x (y ∷ ps) none found all =
-    let h = and_parts (p y) (list_all p ps) all in
-    (ap p (sym found) ∙ h.0, list_all-append p ps (None ∷ []) ∙ ap (λ b. b && list_all p (None ∷ [])) h.1 ∙ ap (λ b. b && true) none)
+all_shift p x (y ∷ ps) none found all = grind (arith, list_all-append)
 
 pub some_within : {A : Type 0} (ps : List (Option A)) (k : ℕ) (x : A) → get_or ps k None ≡ Some x → k < length ps
 some_within [] k x h = absurd cc
@@ -46,9 +42,7 @@ padded (x ∷ xs) zero = refl
 padded (x ∷ xs) (suc k) = padded xs k
 
 pub passed_at : (xs : List ℕ) (k : ℕ) → get_or (passed_on xs) k 0 ≡ get_or xs (suc k) 0
-passed_at [] zero = refl
-passed_at [] (suc k) = refl
-passed_at (x ∷ xs) k = padded xs k
+passed_at xs k = grind (arith, padded)
 
 -- ---- the first ones
 
@@ -57,11 +51,6 @@ taken_at zero xs k d lt = absurd (omega (arith, lt))
 taken_at (suc n) [] k d lt = refl
 taken_at (suc n) (x ∷ xs) zero d lt = refl
 taken_at (suc n) (x ∷ xs) (suc k) d lt = taken_at n xs k d (omega (arith, lt))
-
-pub taken_fewer : {A : Type 0} (n : ℕ) (xs : List A) → length (take n xs) ≤ length xs
-taken_fewer zero xs = omega arith
-taken_fewer (suc n) [] = omega arith
-taken_fewer (suc n) (x ∷ xs) = omega (arith, taken_fewer n xs)
 
 drop_length : {A : Type 0} (xs : List A) → drop (length xs) xs ≡ []
 drop_length [] = refl
@@ -73,9 +62,7 @@ take_length (x ∷ xs) = ap (λ ys. x ∷ ys) (take_length xs)
 
 -- what is written back where as many come back
 pub written : {A : Type 0} (n : ℕ) (new old : List A) → length new ≡ length old → n ≡ length old → take n (new ++ drop (length new) old) ≡ new
-written n new old same len =
-    ap (λ m. take n (new ++ drop m old)) same ∙ ap (λ ys. take n (new ++ ys)) (drop_length old) ∙ ap (take n) (append-nil new)
-    ∙ ap (λ m. take m new) (len ∙ sym same) ∙ take_length new
+written n new old same len = grind (arith, drop_length, append-nil, take_length)
 
 -- ---- the same everywhere
 
@@ -91,22 +78,7 @@ all_none p (suc n) h = ap (λ b. b && list_all p (replicate n None)) h ∙ all_n
 -- ---- the first place that passes
 
 pub position-cons : {A : Type 0} (p : A → Bool) (x : A) (xs : List A) → position p (x ∷ xs) ≡ cond (p x) (Some 0) (option_map suc (position p xs))
-position-cons p x xs =
-    let k : ℕ = position_or_len p xs in
-    elim (p x) as (λ b. cond (nat_lt (cond (not b) (1 + k) 0) (suc (length xs))) (Some (cond (not b) (1 + k) 0)) None ≡ cond b (Some 0) (option_map suc (position p xs))) [
-      | true ↦ ap (λ b. cond b (Some 0) None) (lt-ltb 0 (suc (length xs)) (omega arith))
-      | false ↦ ⊎_elim
-          (λ lt. ap (λ b. cond b (Some (1 + k)) None) (lt-ltb (1 + k) (suc (length xs)) (omega arith)) ∙ ap (λ (n : ℕ). Some n) (let z : 1 + k ≡ suc k = omega arith in z) ∙ sym (ap (λ b. option_map suc (cond b (Some k) None)) (lt-ltb k (length xs) lt)))
-          (λ ge. ap (λ b. cond b (Some (1 + k)) None) (le-ltb (1 + k) (suc (length xs)) (omega arith)) ∙ sym (ap (λ b. option_map suc (cond b (Some k) None)) (le-ltb k (length xs) ge)))
-          (cases_lt k (length xs))
-    ]
-
-pub position-within : {A : Type 0} (p : A → Bool) (xs : List A) (k : ℕ) → position p xs ≡ Some k → k < length xs
-position-within p xs k h =
-    elim (nat_lt (position_or_len p xs) (length xs)) as (λ b. nat_lt (position_or_len p xs) (length xs) ≡ b → cond b (Some (position_or_len p xs)) None ≡ Some k → k < length xs) [
-      | true ↦ λ is found. let same : position_or_len p xs ≡ k = cc in let lt : position_or_len p xs < length xs = grind (arith, nat_tests) in subst (λ n. n < length xs) same lt
-      | false ↦ λ is found. absurd cc
-    ] refl h
+position-cons p x xs = grind arith
 
 pub found_there : {A : Type 0} (p : A → Bool) (xs : List A) (k : ℕ) (d : A) → position p xs ≡ Some k → find p xs ≡ Some (get_or xs k d)
 found_there p [] k d h = absurd cc
@@ -117,17 +89,8 @@ found_there p (x ∷ xs) k d h =
     ] (sym (position-cons p x xs) ∙ h)
   where
     later : (y : Option ℕ) → ((j : ℕ) → y ≡ Some j → find p xs ≡ Some (get_or xs j d)) → option_map suc y ≡ Some k → find p xs ≡ Some (get_or (x ∷ xs) k d)
-    later None found said = absurd cc
-    later (Some j) found said = let same : suc j ≡ k = cc in found j refl ∙ ap (λ i. Some (get_or (x ∷ xs) i d)) same
+    later y found said = grind arith
 
 pub found_nowhere : {A : Type 0} (p : A → Bool) (xs : List A) → position p xs ≡ None → find p xs ≡ None
 found_nowhere p [] h = refl
-found_nowhere p (x ∷ xs) h =
-    elim (p x) as (λ b. cond b (Some 0) (option_map suc (position p xs)) ≡ None → cond b (Some x) (find p xs) ≡ None) [
-      | true ↦ λ here. absurd cc
-      | false ↦ λ there. later (position p xs) (λ is. found_nowhere p xs is) there
-    ] (sym (position-cons p x xs) ∙ h)
-  where
-    later : (y : Option ℕ) → (y ≡ None → find p xs ≡ None) → option_map suc y ≡ None → find p xs ≡ None
-    later None found said = found refl
-    later (Some j) found said = absurd cc
+found_nowhere p (x ∷ xs) h = grind (arith, found_nowhere p xs)

@@ -1,7 +1,6 @@
 -- Which numbers an event and its items receive: none, or one.
-use Rattle.std.proofs.Common.{Bool, List, ℕ, [], ◌∷◌, ◌≡◌, ◌⊎◌, ◌++◌, refl, ◌&&◌, cond, false, inl, inr, true, ap, None, Option, Some, ◌==◌, ◌∙◌, sym, subst, ◌||◌}
+use Rattle.std.proofs.Common.{arith, Bool, List, ℕ, [], ◌∷◌, ◌≡◌, ◌⊎◌, ◌++◌, refl, ◌&&◌, cond, false, inl, true, ap, None, Some, ◌==◌, ◌∙◌, sym, subst, ◌||◌}
 use Rattle.std.specs.List.{filter_map, list_all}
-use Rattle.std.proofs.lemmas.Bool.{eqb-true, false≢true}
 use Rattle.std.proofs.lemmas.List.{append-nil}
 use Rattle.iscsi_wire.specs.Fields.{is_immediate, function, opcode}
 use Rattle.iscsi_wire.specs.declared.request.Request.{Request}
@@ -12,13 +11,13 @@ use Rattle.iscsi_history.specs.rules.Management.{may_wait, refusal_of_function}
 use Rattle.iscsi_history.specs.rules.Items.{execution, function_item, item_of, waiting_item, immediate_item, functions, is_waiting}
 use Rattle.iscsi_history.specs.promises.Flow.{HasOneMore}
 use Rattle.iscsi_history.specs.declared.kind.Kind.TheVariants.{PassedOver, Unknown, Executes as ExecutesKind}
-use Rattle.iscsi_history.specs.rules.Agenda.{arrival_as, arrival_open, kind_of, arrival_of, numbered, with_turns}
+use Rattle.iscsi_history.specs.rules.Agenda.{arrival_as, arrival_open, kind_of, arrival_of, numbered}
 use Rattle.iscsi_history.specs.declared.effect.Why.{Why}
 use Rattle.iscsi_history.proofs.BoolLemmas.{and_false, and_parts}
-use Rattle.iscsi_history.proofs.Forms.{Start, AtTurn, AtArrival, AfterWaiting, start_mark, Deeds, if_some, marks_done, Form, Ignored, Rejected, Received, Postponed, Completed, Executed, marks_of_form, Each}
+use Rattle.iscsi_history.proofs.Forms.{Start, AtTurn, AtArrival, AfterWaiting, start_mark, Deeds, if_some, marks_done, Form, marks_of_form}
 use Rattle.iscsi_history.proofs.FormItems.{Does, does_function, does_after}
 use Rattle.iscsi_history.proofs.FormRuns.{AnyArrival, immediate_stands}
-use Rattle.iscsi_history.proofs.FateLemmas.{voids_viewed}
+use Rattle.iscsi_history.proofs.DeedLemmas.{views}
 
 abbrev received_by : List Mark → List ℕ
 received_by item = filter_map number_received item
@@ -34,38 +33,22 @@ executed_receives : (start : Start) (a : Arrival) (d : Deeds) → received_by (s
 executed_receives start a d = by_start start
   where
     done : received_by (marks_done a d) ≡ received_by (if_some Voids d.void)
-    done = voids_viewed number_received (λ c. refl) (λ b. refl) (λ c. refl) (λ conn reply. refl) (λ conn. refl) refl a d
+    done = simp views
 
     by_start : (s : Start) → received_by (start_mark s a ∷ marks_done a d) ≡ received_by (if_some Voids d.void)
     by_start AtTurn = done
-    by_start AtArrival = done
-    by_start AfterWaiting = done
+    by_start s = done
 
 -- none, where it is no immediate ABORT TASK
 receives_none : (o : Setting) (t : Trace) (start : Start) (a : Arrival) (ms : List Mark) → Does o t start a ms → (is_immediate a.request && (function a.request == 1)) ≡ false → received_by (start_mark start a ∷ ms) ≡ []
-receives_none o t start a ms d other = ap (λ xs. received_by (start_mark start a ∷ xs)) d.is ∙ executed_receives start a d.deeds ∙ by_void d.deeds.void d.done.missing
-  where
-    by_void : (x : Option ℕ) → Each (λ n. (is_immediate a.request ≡ true) × ((function a.request == 1) ≡ true)) x → received_by (if_some Voids x) ≡ []
-    by_void None missing = refl
-    by_void (Some n) missing = absurd (false≢true (sym other ∙ ap (λ b. b && (function a.request == 1)) missing.0 ∙ missing.1))
+receives_none o t start a ms d other = grind (arith, executed_receives)
 
 one_received : (form : Form) → AtMostOne (received_by (marks_of_form form))
-one_received (Ignored why) = inl refl
-one_received (Rejected a) = inl refl
-one_received (Received a) = inr (a.number, refl)
-one_received (Postponed a) = inl refl
-one_received (Completed c status) = inl refl
-one_received (Executed start a d) = subst AtMostOne (sym (executed_receives start a d)) (elim d.void as (λ x. AtMostOne (received_by (if_some Voids x))) [ Some n ↦ inr (n, refl) | None ↦ inl refl ])
+one_received form = grind (arith, executed_receives)
 
 -- a function that waits is no ABORT TASK
 pub no_abort_task : (r : Request) → may_wait r ≡ true → (function r == 1) ≡ false
-no_abort_task r may = elim (function r == 1) as (λ b. (function r == 1) ≡ b → b ≡ false) [
-  | true ↦ λ is. absurd (false≢true (sym (none (eqb-true (function r) 1 is)) ∙ may))
-  | false ↦ λ is. refl
-] refl
-  where
-    none : function r ≡ 1 → may_wait r ≡ false
-    none is = ap (λ f. is_immediate r && (f == 2 || f == 4 || f == 5)) is ∙ and_false (is_immediate r)
+no_abort_task r may = grind arith
 
 pub function_receives_none : (o : Setting) (t : Trace) (a : Arrival) → may_wait a.request ≡ true → received_by (function_item o t a) ≡ []
 function_receives_none o t a may =
@@ -100,9 +83,7 @@ ignored_receives t items why is = inl (ap (λ (is : List (List Mark)). received 
 
 -- it is numbered
 pub is_numbered_arrival : (o : Setting) (index : ℕ) (t : Trace) (r : Request) → kind_of r ≡ ExecutesKind → is_immediate r ≡ false → arrival_open o t (arrival_of o index t r) ≡ numbered o t (arrival_of o index t r)
-is_numbered_arrival o index t r kind numbered_is =
-    let a : Arrival = arrival_of o index t r in
-    ap (arrival_as o t a) kind ∙ ap (λ b. cond b (with_turns o t (immediate_item o t a)) (numbered o t a)) numbered_is
+is_numbered_arrival o index t r kind numbered_is = grind arith
 
 -- ---- the functions of the next number
 

@@ -1,22 +1,17 @@
 -- What an item of each form does to the requests of an event: which wait for their turn, execute, are live and are answered.
-use Rattle.std.proofs.Common.{◌≡◌, ℕ, ◌+◌, ◌≤◌, ◌==◌, ◌&&◌, not, inl, inr, cond, Bool, true, false, List, [], ◌∷◌, ◌++◌, map, filter, length, count_by, Option, Some, None, refl, ap, sym, ◌∙◌, arith, eq-eqb, length-append}
+use Rattle.std.proofs.Common.{◌≡◌, ℕ, ◌+◌, ◌≤◌, ◌==◌, ◌&&◌, not, inl, inr, cond, Bool, true, List, [], ◌∷◌, filter, length, count_by, Option, None, refl, ap, sym, ◌∙◌, arith, eq-eqb, length-append}
 use Rattle.std.specs.List.{list_any, filter_map}
-use Rattle.std.proofs.lemmas.Bool.{false≢true}
-use Rattle.std.proofs.lemmas.List.{append-nil}
-use Rattle.std.proofs.lemmas.List.Elements.{filter_map-append}
 use Rattle.std.proofs.lemmas.List.Sums.{sum_by-append}
-use Rattle.iscsi_wire.specs.declared.reply.Reply.{Reply}
 use Rattle.iscsi_wire.specs.Fields.{connection_of}
 use Rattle.iscsi_history.specs.rules.Settings.{Setting}
 use Rattle.iscsi_history.specs.rules.Trace.{Arrival, Command, Mark, Voids, Empties, Leaves, Enters, Sends, ClosesConn, ClosesSession, Trace, has, enters, entered, leaves_ticket, live, is_among}
-use Rattle.iscsi_history.specs.promises.Replies.{is_answer_to, reply_sent, replies_to}
+use Rattle.iscsi_history.specs.promises.Replies.{reply_sent, replies_to}
 use Rattle.iscsi_history.proofs.ListLemmas.{fewer_counted}
 use Rattle.iscsi_history.proofs.CountLemmas.{one, count-cons, count-filter, count-weaker, count-split}
 use Rattle.iscsi_history.proofs.ElementLemmas.{In, in-any}
 use Rattle.iscsi_history.proofs.TraceLemmas.{live-item}
-use Rattle.iscsi_history.proofs.AbortMarks.{none_viewed}
-use Rattle.iscsi_history.proofs.Forms.{AtTurn, AtArrival, AfterWaiting, Deeds, if_some, marks_done, Form, Ignored, Rejected, Received, Postponed, Completed, Executed, marks_of_form, IsFormed}
-use Rattle.iscsi_history.proofs.NumberingLemmas.{to_list, unseen, passed}
+use Rattle.iscsi_history.proofs.Forms.{Deeds, if_some, marks_done, Form, Completed, Executed, marks_of_form, IsFormed}
+use Rattle.iscsi_history.proofs.DeedLemmas.{to_list, views}
 use Rattle.iscsi_history.proofs.TouchLemmas.{leaving_in, entering_in, enters_form, leaves_form, leaving_few}
 
 -- the request arrived in this event
@@ -33,25 +28,12 @@ comes_of v c = c.arrival.event == v
 module _ {B : Type 0} (view : Mark → Option B) (voids : (n : ℕ) → view (Voids n) ≡ None) (leaves : (c : Command) → view (Leaves c) ≡ None) (empties : (a : Arrival) → view (Empties a) ≡ None)
     (enter : (c : Command) → view (Enters c) ≡ None) (closes : (conn : ℕ) → view (ClosesConn conn) ≡ None) (ends : view ClosesSession ≡ None) where
   pub replies_seen : (a : Arrival) (d : Deeds) → filter_map view (marks_done a d) ≡ filter_map view (if_some (Sends (connection_of a.request)) d.reply)
-  replies_seen a d =
-      passed view (if_some Voids d.void) _ (unseen view Voids d.void voids)
-      ∙ passed view (map Leaves d.leaving) _ (none_viewed view Leaves d.leaving leaves)
-      ∙ passed view (map Empties d.emptied) _ (none_viewed view Empties d.emptied empties)
-      ∙ passed view (if_some Enters d.entering) _ (unseen view Enters d.entering enter)
-      ∙ filter_map-append view (if_some (Sends (connection_of a.request)) d.reply) _
-      ∙ ap (λ xs. filter_map view (if_some (Sends (connection_of a.request)) d.reply) ++ xs)
-      (passed view (if_some ClosesConn d.closing) _ (unseen view ClosesConn d.closing closes)
-      ∙ elim d.ending as (λ b. filter_map view (cond b (ClosesSession ∷ []) []) ≡ []) [ true ↦ ap to_list ends | false ↦ refl ])
-      ∙ append-nil (filter_map view (if_some (Sends (connection_of a.request)) d.reply))
+  replies_seen a d = simp (views, voids, leaves, empties, enter, closes, ends)
 
 -- ---- replies
 
 replied_done : (a : Arrival) (d : Deeds) → filter_map reply_sent (marks_done a d) ≡ to_list d.reply
-replied_done a d = replies_seen reply_sent (λ n. refl) (λ c. refl) (λ b. refl) (λ c. refl) (λ conn. refl) refl a d ∙ by_reply d.reply
-  where
-    by_reply : (x : Option Reply) → filter_map reply_sent (if_some (Sends (connection_of a.request)) x) ≡ to_list x
-    by_reply (Some reply) = refl
-    by_reply None = refl
+replied_done a d = simp views
 
 -- how many replies an item of this form sends to the request of the event
 abbrev pub answers_of : ℕ → Form → ℕ
@@ -60,28 +42,12 @@ answers_of v (Executed start a d) = cond (is_of v a) (length (to_list d.reply)) 
 answers_of v _ = 0
 
 pub replies_form : (v : ℕ) (form : Form) (t : Trace) → length (replies_to v (marks_of_form form ∷ t)) ≡ length (replies_to v t) + answers_of v form
-replies_form v form t =
-    length-append (replies_to v t) (cond (is_answer_to v (marks_of_form form)) (filter_map reply_sent (marks_of_form form)) []) ∙ ap (λ n. length (replies_to v t) + n) (by_form form)
-  where
-    by_test : (b : Bool) (xs ys : List Reply) → xs ≡ ys → length (cond b xs []) ≡ cond b (length ys) 0
-    by_test true xs ys same = ap length same
-    by_test false xs ys same = refl
-
-    by_form : (f : Form) → length (cond (is_answer_to v (marks_of_form f)) (filter_map reply_sent (marks_of_form f)) []) ≡ answers_of v f
-    by_form (Ignored why) = refl
-    by_form (Rejected a) = refl
-    by_form (Received a) = refl
-    by_form (Postponed a) = refl
-    by_form (Completed c status) = elim (comes_of v c) as (λ b. length (cond b (filter_map reply_sent (marks_of_form (Completed c status))) []) ≡ one b) [ true ↦ refl | false ↦ refl ]
-    by_form (Executed AtTurn a d) = by_test (is_of v a) (filter_map reply_sent (marks_done a d)) (to_list d.reply) (replied_done a d)
-    by_form (Executed AtArrival a d) = by_test (is_of v a) (filter_map reply_sent (marks_done a d)) (to_list d.reply) (replied_done a d)
-    by_form (Executed AfterWaiting a d) = by_test (is_of v a) (filter_map reply_sent (marks_done a d)) (to_list d.reply) (replied_done a d)
+replies_form v form t = grind (arith, length-append, replied_done)
 
 -- ---- commands
 
 pub entered_form : (p : Command → Bool) (form : Form) (t : Trace) → count_by p (entered (marks_of_form form ∷ t)) ≡ count_by p (entered t) + count_by p (to_list (entering_in form))
-entered_form p form t =
-    sum_by-append (λ c. one (p c)) (entered t) (filter_map enters (marks_of_form form)) ∙ ap (λ cs. count_by p (entered t) + count_by p cs) (enters_form form)
+entered_form p form t = grind (arith, sum_by-append, enters_form)
 
 pub in_among : (cs : List Command) (c : Command) → In c cs → is_among c.ticket cs ≡ true
 in_among cs c h = in-any (λ (d : Command). d.ticket == c.ticket) cs c h (eq-eqb c.ticket c.ticket refl)
@@ -90,8 +56,7 @@ among_in : (p : Command → Bool) (cs : List Command) → count_by (λ c. is_amo
 among_in p cs = all cs cs (λ c h. h)
   where
     same_tests : (b c : Bool) → b ≡ true → (b && c) ≡ c
-    same_tests true c h = refl
-    same_tests false c h = absurd (false≢true h)
+    same_tests b c h = grind arith
 
     all : (xs ds : List Command) → ((c : Command) → In c xs → In c ds) → count_by (λ c. is_among c.ticket ds && p c) xs ≡ count_by p xs
     all [] ds h = refl

@@ -1,15 +1,14 @@
 -- In the trace of a list of events a request didn't execute so far, or is a live command, or has its reply: no two of these, and each once.
-use Rattle.std.proofs.Common.{◌≡◌, ℕ, ◌+◌, ◌<◌, ◌≤◌, ◌==◌, cond, Bool, true, false, List, [], ◌∷◌, ◌++◌, length, count_by, Option, Some, None, refl, ap, sym, subst, ◌∙◌, arith, nat_lt}
-use Rattle.std.proofs.lemmas.Bool.Decides.{nat_tests}
+use Rattle.std.proofs.Common.{◌≡◌, ℕ, ◌+◌, ◌<◌, ◌≤◌, ◌==◌, cond, Bool, List, [], ◌∷◌, ◌++◌, length, count_by, refl, sym, subst, arith, nat_lt}
 use Rattle.iscsi_wire.specs.declared.reply.Reply.{Reply}
 use Rattle.iscsi_history.specs.rules.Settings.{Setting}
-use Rattle.iscsi_history.specs.rules.Trace.{Arrival, Command, Mark, Trace, entered, live}
+use Rattle.iscsi_history.specs.rules.Trace.{Command, Mark, Trace, entered, live}
 use Rattle.iscsi_history.specs.promises.Replies.{replies_to}
-use Rattle.iscsi_history.proofs.CountLemmas.{one, count-cons}
-use Rattle.iscsi_history.proofs.Forms.{Start, Deeds, Form, Ignored, Rejected, Received, Postponed, Completed, Executed, marks_of_form, IsDone, Each, EntersAs, IsFormed, HasForm, is_arrival, HaveForms}
-use Rattle.iscsi_history.proofs.NumberingLemmas.{to_list}
+use Rattle.iscsi_history.proofs.CountLemmas.{one}
+use Rattle.iscsi_history.proofs.Forms.{Form, Executed, marks_of_form, IsFormed, HasForm, is_arrival, HaveForms}
+use Rattle.iscsi_history.proofs.DeedLemmas.{to_list}
 use Rattle.iscsi_history.proofs.TouchLemmas.{leaving_in, entering_in}
-use Rattle.iscsi_history.proofs.ReplyForms.{is_of, comes_of, answers_of, replies_form, entered_form, live_form}
+use Rattle.iscsi_history.proofs.ReplyForms.{comes_of, answers_of, replies_form, entered_form, live_form}
 use Rattle.iscsi_history.proofs.ReplyTurns.{executes_of, begins_of, awaited, awaited_form}
 
 -- ---- an item
@@ -19,38 +18,14 @@ abbrev pub aborted_in : Form → List Command
 aborted_in (Executed start a d) = d.leaving
 aborted_in _ = []
 
--- a request that executes is answered, or its command enters
-done_once : (o : Setting) (t : Trace) (v : ℕ) (start : Start) (a : Arrival) (d : Deeds) → IsDone o t start a d → answers_of v (Executed start a d) + count_by (comes_of v) (to_list d.entering) ≤ one (is_of v a)
-done_once o t v start a d x = by_entering d.entering d.reply refl x.enters
-  where
-    none_sent : (b : Bool) → cond b (length (to_list {B = Reply} None)) 0 ≡ 0
-    none_sent true = refl
-    none_sent false = refl
-
-    by_entering : (e : Option Command) (r : Option Reply) → d.reply ≡ r → Each (EntersAs o t a d) e → cond (is_of v a) (length (to_list r)) 0 + count_by (comes_of v) (to_list e) ≤ one (is_of v a)
-    by_entering None None is h = elim (is_of v a) as (λ b. cond b (length (to_list {B = Reply} None)) 0 + 0 ≤ one b) [ true ↦ omega arith | false ↦ omega arith ]
-    by_entering None (Some reply) is h = elim (is_of v a) as (λ b. cond b (length (to_list (Some reply))) 0 + 0 ≤ one b) [ true ↦ omega arith | false ↦ omega arith ]
-    by_entering (Some c) r is h =
-        omega (arith, ap (λ (y : Option Reply). cond (is_of v a) (length (to_list y)) 0) (sym is ∙ h.silent), none_sent (is_of v a), count-cons (comes_of v) c [], ap (λ (c : Command). one (comes_of v c)) h.next)
-
 -- what enters executes
 entering_once : (o : Setting) (now v : ℕ) (t : Trace) (form : Form) → IsFormed o now t form → count_by (comes_of v) (to_list (entering_in form)) ≤ executes_of v form
-entering_once o now v t (Ignored why) x = omega arith
-entering_once o now v t (Rejected a) x = omega arith
-entering_once o now v t (Received a) x = omega arith
-entering_once o now v t (Postponed a) x = omega arith
-entering_once o now v t (Completed c status) x = omega arith
-entering_once o now v t (Executed start a d) x = omega (arith, done_once o t v start a d x.1)
+entering_once o now v t form x = grind arith
 
 -- what is answered executes, or leaves as it completes
 answered_once : (o : Setting) (now v : ℕ) (t : Trace) (form : Form) → IsFormed o now t form
     → answers_of v form + count_by (comes_of v) (to_list (entering_in form)) + count_by (comes_of v) (aborted_in form) ≤ executes_of v form + count_by (comes_of v) (leaving_in form)
-answered_once o now v t (Ignored why) x = omega arith
-answered_once o now v t (Rejected a) x = omega arith
-answered_once o now v t (Received a) x = omega arith
-answered_once o now v t (Postponed a) x = omega arith
-answered_once o now v t (Completed c status) x = omega (arith, count-cons (comes_of v) c [])
-answered_once o now v t (Executed start a d) x = omega (arith, done_once o t v start a d x.1)
+answered_once o now v t form x = grind arith
 
 -- ---- the requests of an event
 
@@ -82,17 +57,15 @@ none_left [] h = refl
 none_left (x ∷ xs) h = absurd (omega arith)
 
 pub one_most : (b : Bool) → one b ≤ 1
-one_most true = omega arith
-one_most false = omega arith
+one_most b = grind arith
 
 -- at least one is below
 pub is_below : (v place : ℕ) → 1 ≤ one (nat_lt v place) → v < place
-is_below v place h = grind (arith, nat_tests)
+is_below v place h = grind arith
 
 -- the events before now, and this one
 pub begun_by : (now v next : ℕ) (b : Bool) → now < next → one (nat_lt v (cond b now (now + 1))) + cond b (one (now == v)) 0 ≤ one (nat_lt v next)
-begun_by now v next true lt = grind (arith, nat_tests)
-begun_by now v next false lt = grind (arith, nat_tests)
+begun_by now v next b lt = grind arith
 
 pub standing_once : (o : Setting) (v : ℕ) (t : Trace) (next : ℕ) → HaveForms o next t → standing v t ≤ one (nat_lt v next)
 standing_once o v [] next x = omega arith
@@ -107,12 +80,10 @@ becoming_once o v (item ∷ t) next x =
 -- ---- later items
 
 bounded : (b : Bool) (now next : ℕ) → now < next → cond b now (now + 1) ≤ next
-bounded true now next lt = omega arith
-bounded false now next lt = omega arith
+bounded b now next lt = grind arith
 
 not_begun : (b : Bool) (now v place : ℕ) → place ≤ cond b now (now + 1) → v < place → cond b (one (now == v)) 0 ≤ 0
-not_begun true now v place by lt = grind (arith, nat_tests)
-not_begun false now v place by lt = omega arith
+not_begun b now v place by lt = grind arith
 
 -- what stands before later items has forms, and nothing comes to stand for an event that has been
 pub record Since (o : Setting) (next : ℕ) (later t : Trace) : Type 0 where

@@ -1,12 +1,9 @@
 -- Once a command has left, nothing is sent any more to its request, and nothing ever to a numbered request that doesn't execute.
-use Rattle.std.proofs.Common.{◌≡◌, ℕ, ◌+◌, ◌<◌, ◌≤◌, ◌&&◌, not, cond, Bool, true, false, List, [], ◌∷◌, ◌++◌, length, count_by, Some, refl, ap, sym, ◌∙◌, arith, nat_lt, eq-eqb, append_assoc, length-append}
+use Rattle.std.proofs.Common.{◌≡◌, ℕ, ◌+◌, ◌<◌, ◌≤◌, not, true, false, [], ◌∷◌, ◌++◌, length, count_by, Some, refl, ap, sym, ◌∙◌, arith, nat_lt, eq-eqb, append_assoc, length-append}
 use Rattle.std.proofs.lemmas.List.{append-nil}
-use Rattle.std.specs.List.{filter_map}
-use Rattle.iscsi_wire.specs.declared.reply.Reply.{Reply}
 use Rattle.iscsi_history.specs.rules.Settings.{Setting}
 use Rattle.iscsi_history.specs.rules.Trace.{Arrival, Command, Trace, has, shown, admits_at, admitted, is_delivered, entered, leaves_ticket, live}
-use Rattle.iscsi_history.specs.promises.Replies.{is_answer_to, reply_sent, replies_to}
-use Rattle.iscsi_history.proofs.BoolLemmas.{and_second}
+use Rattle.iscsi_history.specs.promises.Replies.{replies_to}
 use Rattle.iscsi_history.proofs.ElementLemmas.{In, filter-in, first-in}
 use Rattle.iscsi_history.proofs.HeldLemmas.{admitted-number}
 use Rattle.iscsi_history.proofs.CountLemmas.{one, count-one, count-filter, count-lost}
@@ -18,20 +15,11 @@ use Rattle.iscsi_history.proofs.ReplyRuns.{one_most, is_below, none_left, becomi
 -- the replies of later items come after those of the items before
 replies-append : (v : ℕ) (later t : Trace) → replies_to v (later ++ t) ≡ replies_to v t ++ replies_to v later
 replies-append v [] t = sym (append-nil (replies_to v t))
-replies-append v (item ∷ later) t =
-    let here : List Reply = cond (is_answer_to v item) (filter_map reply_sent item) [] in
-    ap (λ rs. rs ++ here) (replies-append v later t) ∙ append_assoc (replies_to v t) (replies_to v later) here
+replies-append v (item ∷ later) t = grind (arith, replies-append v later t, append_assoc)
 
 -- a command that entered and left isn't live: of its event none is
 left_unlive_of : (t : Trace) (c : Command) → In c (entered t) → has (leaves_ticket c.ticket) t ≡ true → count_by (comes_of c.arrival.event) (live t) + 1 ≤ count_by (comes_of c.arrival.event) (entered t)
-left_unlive_of t c there left =
-    let v : ℕ = c.arrival.event in
-    let stays : Command → Bool = λ d. not (has (leaves_ticket d.ticket) t) in
-    omega (
-      arith,
-      count-filter (comes_of v) stays (entered t),
-      count-lost (λ d. stays d && comes_of v d) (comes_of v) (entered t) c (λ d h. and_second (stays d) (comes_of v d) h) there (ap (λ b. not b && comes_of v c) left) (eq-eqb v v refl),
-    )
+left_unlive_of t c there left = grind (arith, count-filter, count-lost)
 
 pub silent_since : (o : Setting) (next : ℕ) (later t : Trace) (c : Command) → HaveForms o next (later ++ t) → In c (entered t) → has (leaves_ticket c.ticket) t ≡ true → replies_to c.arrival.event later ≡ []
 silent_since o next later t c x there left =

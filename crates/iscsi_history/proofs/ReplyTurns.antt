@@ -1,21 +1,20 @@
 -- The requests that didn't execute so far: those that were admitted and not delivered, and the functions that wait.
-use Rattle.std.proofs.Common.{◌≡◌, ℕ, ◌+◌, ◌≤◌, ◌==◌, ◌&&◌, ◌||◌, not, inl, inr, ⊎_elim, cond, Bool, true, false, List, [], ◌∷◌, ◌++◌, map, filter, count_by, Option, Some, None, refl, ap, sym, ◌∙◌, arith, eq-eqb}
-use Rattle.std.specs.List.{list_any, filter_map, cons_option}
+use Rattle.std.proofs.Common.{◌≡◌, ℕ, ◌+◌, ◌≤◌, ◌==◌, ◌&&◌, ◌||◌, not, ⊎_elim, cond, Bool, true, false, List, [], ◌∷◌, ◌++◌, filter, count_by, Option, Some, None, refl, ap, sym, ◌∙◌, arith, eq-eqb}
+use Rattle.std.specs.List.{list_any, filter_map}
 use Rattle.std.proofs.lemmas.Bool.{false≢true, eqb-true}
 use Rattle.std.proofs.lemmas.List.{append-nil}
-use Rattle.std.proofs.lemmas.List.Elements.{filter-append}
 use Rattle.std.proofs.lemmas.List.Sums.{sum_by-append}
 use Rattle.iscsi_wire.specs.Fields.{connection_of}
 use Rattle.iscsi_history.specs.rules.Settings.{Setting}
-use Rattle.iscsi_history.specs.rules.Trace.{Arrival, Mark, Admits, Delivers, Executes, Voids, Empties, Waits, Leaves, Enters, Sends, ClosesConn, ClosesSession, Ignores, Trace, shown, admits_at, admitted, delivers_number, is_delivered, is_emptied, held, waiting_by, waiting_through, waiting}
+use Rattle.iscsi_history.specs.rules.Trace.{Arrival, Mark, Admits, Delivers, Executes, Trace, shown, admits_at, delivers_number, is_delivered, held, waiting_through, waiting}
 use Rattle.iscsi_history.proofs.BoolLemmas.{and_parts, and_both}
 use Rattle.iscsi_history.proofs.ListLemmas.{fewer_counted, count_by-push}
 use Rattle.iscsi_history.proofs.CountLemmas.{one, count-cons, count-filter, count-weaker, count-lost, count-split}
 use Rattle.iscsi_history.proofs.ElementLemmas.{In, in-append, append-in_first, append-in_second, first-in}
 use Rattle.iscsi_history.proofs.HeldLemmas.{admitted_of_held}
-use Rattle.iscsi_history.proofs.Forms.{AtTurn, AtArrival, AfterWaiting, Deeds, if_some, marks_done, Form, Ignored, Rejected, Received, Postponed, Completed, Executed, marks_of_form, IsFormed, is_arrival}
-use Rattle.iscsi_history.proofs.NumberingLemmas.{unseen}
-use Rattle.iscsi_history.proofs.ReplyForms.{is_of, replies_seen}
+use Rattle.iscsi_history.proofs.Forms.{AtTurn, AtArrival, AfterWaiting, Deeds, marks_done, Form, Received, Postponed, Executed, marks_of_form, IsFormed, is_arrival}
+use Rattle.iscsi_history.proofs.DeedLemmas.{each_done, views}
+use Rattle.iscsi_history.proofs.ReplyForms.{is_of}
 
 -- ---- admitted requests
 
@@ -33,22 +32,8 @@ owed t = filter (is_owed t) (shown admits_request t)
 
 admitted_here : (n : ℕ) (ms : List Mark) (a : Arrival) → In a (filter_map (admits_at n) ms) → In a (filter_map admits_request ms)
 admitted_here n [] a h = absurd h
-admitted_here n (Admits b ∷ ms) a h =
-    elim (b.number == n) as (λ v. In a (cons_option (cond v (Some b) None) (filter_map (admits_at n) ms)) → In a (b ∷ filter_map admits_request ms)) [
-      | true ↦ λ k. ⊎_elim (λ same. inl same) (λ later. inr (admitted_here n ms a later)) k
-      | false ↦ λ k. inr (admitted_here n ms a k)
-    ] h
-admitted_here n (Delivers b ∷ ms) a h = admitted_here n ms a h
-admitted_here n (Executes b ∷ ms) a h = admitted_here n ms a h
-admitted_here n (Voids k ∷ ms) a h = admitted_here n ms a h
-admitted_here n (Empties b ∷ ms) a h = admitted_here n ms a h
-admitted_here n (Waits b ∷ ms) a h = admitted_here n ms a h
-admitted_here n (Leaves c ∷ ms) a h = admitted_here n ms a h
-admitted_here n (Enters c ∷ ms) a h = admitted_here n ms a h
-admitted_here n (Sends conn reply ∷ ms) a h = admitted_here n ms a h
-admitted_here n (ClosesConn conn ∷ ms) a h = admitted_here n ms a h
-admitted_here n (ClosesSession ∷ ms) a h = admitted_here n ms a h
-admitted_here n (Ignores why ∷ ms) a h = admitted_here n ms a h
+admitted_here n (Admits b ∷ ms) a h = grind (arith, admitted_here n ms a)
+admitted_here n (m ∷ ms) a h = admitted_here n ms a h
 
 -- the request that was admitted at a number is one that was admitted
 pub admitted_there : (n : ℕ) (t : Trace) (a : Arrival) → In a (shown (admits_at n) t) → In a (shown admits_request t)
@@ -60,15 +45,10 @@ admitted_there n (item ∷ t) a h =
     (in-append (shown (admits_at n) t) (filter_map (admits_at n) item) a h)
 
 held_owed : (t : Trace) (a : Arrival) → held t a.number ≡ Some a → is_owed t a ≡ true
-held_owed t a h = by_tests (is_delivered t a.number) (is_emptied t a.number) h
-  where
-    by_tests : (d e : Bool) → cond (d || e) None (admitted t a.number) ≡ Some a → not d ≡ true
-    by_tests true e found = absurd cc
-    by_tests false e found = refl
+held_owed t a h = grind arith
 
 not_either : (a b : Bool) → not (a || b) ≡ true → not b ≡ true
-not_either true b h = absurd (false≢true h)
-not_either false b h = h
+not_either a b h = grind arith
 
 -- what is owed was owed before
 owed_before : (item : List Mark) (t : Trace) (a : Arrival) → is_owed (item ∷ t) a ≡ true → is_owed t a ≡ true
@@ -76,19 +56,7 @@ owed_before item t a h = not_either (list_any (delivers_number a.number) item) (
 
 -- an item adds no more than what it admits
 owed_item : (p : Arrival → Bool) (item : List Mark) (t : Trace) → count_by p (owed (item ∷ t)) ≤ count_by p (owed t) + count_by p (filter_map admits_request item)
-owed_item p item t =
-    let old : List Arrival = shown admits_request t in
-    let new : List Arrival = filter_map admits_request item in
-    let parts : count_by p (owed (item ∷ t)) ≡ count_by p (filter (is_owed (item ∷ t)) old) + count_by p (filter (is_owed (item ∷ t)) new)
-    = ap (count_by p) (filter-append (is_owed (item ∷ t)) old new) ∙ sum_by-append (λ a. one (p a)) (filter (is_owed (item ∷ t)) old) (filter (is_owed (item ∷ t)) new) in
-    omega (
-      arith,
-      parts,
-      fewer_counted p (is_owed (item ∷ t)) new,
-      count-filter p (is_owed (item ∷ t)) old,
-      count-filter p (is_owed t) old,
-      count-weaker (λ a. is_owed (item ∷ t) a && p a) (λ a. is_owed t a && p a) old (λ a h. let both = and_parts (is_owed (item ∷ t) a) (p a) h in and_both (is_owed t a) (p a) (owed_before item t a both.0) both.1),
-    )
+owed_item p item t = grind (arith, sum_by-append, count-filter, count-weaker)
 
 owed_passing : (p : Arrival → Bool) (a : Arrival) (ms : List Mark) (t : Trace) → filter_map admits_request ms ≡ [] → held t a.number ≡ Some a → p a ≡ true
     → count_by p (owed ((Delivers a ∷ ms) ∷ t)) + 1 ≤ count_by p (owed t)
@@ -122,46 +90,15 @@ owed_turn p a ms t none here =
 abbrev Shrinks : List Mark → Type 0
 Shrinks ms = (p : Arrival → Bool) (ws : List Arrival) → count_by p (waiting_through ms ws) ≤ count_by p ws
 
-through-append : (xs ys : List Mark) (ws : List Arrival) → waiting_through (xs ++ ys) ws ≡ waiting_through ys (waiting_through xs ws)
-through-append [] ys ws = refl
-through-append (m ∷ xs) ys ws = through-append xs ys (waiting_by m ws)
-
-shrinks-append : (xs ys : List Mark) → Shrinks xs → Shrinks ys → Shrinks (xs ++ ys)
-shrinks-append xs ys h k p ws = omega (arith, ap (count_by p) (through-append xs ys ws), h p ws, k p (waiting_through xs ws))
-
-shrinks-none : Shrinks []
-shrinks-none p ws = omega arith
-
-shrinks-map : {A : Type 0} (f : A → Mark) → ((x : A) → (p : Arrival → Bool) (ws : List Arrival) → count_by p (waiting_by (f x) ws) ≤ count_by p ws) → (xs : List A) → Shrinks (map f xs)
-shrinks-map f h [] p ws = omega arith
-shrinks-map f h (x ∷ xs) p ws = omega (arith, shrinks-map f h xs p (waiting_by (f x) ws), h x p ws)
-
-shrinks-some : {A : Type 0} (f : A → Mark) → ((x : A) → (p : Arrival → Bool) (ws : List Arrival) → count_by p (waiting_by (f x) ws) ≤ count_by p ws) → (x : Option A) → Shrinks (if_some f x)
-shrinks-some f h None p ws = omega arith
-shrinks-some f h (Some x) p ws = h x p ws
-
 shrinks_done : (a : Arrival) (d : Deeds) → Shrinks (marks_done a d)
 shrinks_done a d =
-    shrinks-append (if_some Voids d.void) _ (shrinks-some Voids (λ n p ws. omega arith) d.void)
-    (shrinks-append (map Leaves d.leaving) _ (shrinks-map Leaves (λ c p ws. omega arith) d.leaving)
-    (shrinks-append (map Empties d.emptied) _ (shrinks-map Empties (λ b p ws. omega arith) d.emptied)
-    (shrinks-append (if_some Enters d.entering) _ (shrinks-some Enters (λ c p ws. omega arith) d.entering)
-    (shrinks-append (if_some (Sends (connection_of a.request)) d.reply) _ (shrinks-some (Sends (connection_of a.request)) (λ reply p ws. omega arith) d.reply)
-    (shrinks-append (if_some ClosesConn d.closing) _ (shrinks-some ClosesConn (λ conn p ws. fewer_counted p (λ b. not (connection_of b.request == conn)) ws) d.closing)
-    (ending d.ending))))))
-  where
-    ending : (b : Bool) → Shrinks (cond b (ClosesSession ∷ []) [])
-    ending true = λ p ws. omega arith
-    ending false = λ p ws. omega arith
+    each_done a d Shrinks (λ p ws. omega arith) (λ n is ms rest. rest) (λ c there ms rest. rest) (λ b there ms rest. rest) (λ c is ms rest. rest) (λ reply is ms rest. rest)
+    (λ conn is ms rest p ws. omega (arith, rest p (filter (λ b. not (connection_of b.request == conn)) ws), fewer_counted p (λ b. not (connection_of b.request == conn)) ws))
+    (λ is ms rest p ws. omega (arith, rest p []))
 
 any_count : (p : Arrival → Bool) (ws : List Arrival) → list_any p ws ≡ true → 1 ≤ count_by p ws
 any_count p [] h = absurd (false≢true h)
-any_count p (w ∷ ws) h =
-    let all : count_by p (w ∷ ws) ≡ one (p w) + count_by p ws = count-cons p w ws in
-    elim (p w) as (λ b. (b || list_any p ws) ≡ true → one b + count_by p ws ≡ count_by p (w ∷ ws) → 1 ≤ count_by p (w ∷ ws)) [
-      | true ↦ λ here all. omega arith
-      | false ↦ λ later all. omega (arith, any_count p ws later)
-    ] h (sym all)
+any_count p (w ∷ ws) h = grind (arith, any_count p ws, count-cons)
 
 -- a function that has waited waits no more
 waited : (v : ℕ) (a : Arrival) (ws : List Arrival) → list_any (λ b. b.event == a.event) ws ≡ true → count_by (is_of v) (filter (λ b. not (b.event == a.event)) ws) + one (is_of v a) ≤ count_by (is_of v) ws
@@ -191,17 +128,12 @@ abbrev pub awaited : ℕ → Trace → ℕ
 awaited v t = count_by (is_of v) (waiting t) + count_by (is_of v) (owed t)
 
 admits_done : (a : Arrival) (d : Deeds) → filter_map admits_request (marks_done a d) ≡ []
-admits_done a d = replies_seen admits_request (λ n. refl) (λ c. refl) (λ b. refl) (λ c. refl) (λ conn. refl) refl a d ∙ unseen admits_request (Sends (connection_of a.request)) d.reply (λ reply. refl)
+admits_done a d = simp views
 
 -- one that executes was awaited, or its event begins
 pub awaited_form : (o : Setting) (now v : ℕ) (t : Trace) (form : Form) → IsFormed o now t form → awaited v (marks_of_form form ∷ t) + executes_of v form ≤ awaited v t + begins_of now v form
-awaited_form o now v t (Ignored why) x = omega (arith, owed_item (is_of v) (Ignores why ∷ []) t)
-awaited_form o now v t (Rejected a) x = omega (arith, owed_item (is_of v) (marks_of_form (Rejected a)) t)
-awaited_form o now v t (Received a) x =
-    omega (arith, owed_item (is_of v) (Admits a ∷ []) t, count-cons (is_of v) a [], ap {B = ℕ} (λ n. one (n == v)) x.0)
-awaited_form o now v t (Postponed a) x =
-    omega (arith, owed_item (is_of v) (Waits a ∷ []) t, count_by-push (is_of v) (waiting t) a, ap {B = ℕ} (λ n. one (n == v)) x)
-awaited_form o now v t (Completed c status) x = omega (arith, owed_item (is_of v) (marks_of_form (Completed c status)) t)
+awaited_form o now v t (Received a) x = grind (arith, owed_item)
+awaited_form o now v t (Postponed a) x = grind (arith, owed_item, count_by-push)
 awaited_form o now v t (Executed AtTurn a d) x = omega (arith, owed_turn (is_of v) a (marks_done a d) t (admits_done a d) x.0, shrinks_done a d (is_of v) (waiting t))
 awaited_form o now v t (Executed AtArrival a d) x =
     let ws : List Arrival = filter (λ b. not (b.event == a.event)) (waiting t) in
@@ -209,3 +141,4 @@ awaited_form o now v t (Executed AtArrival a d) x =
 awaited_form o now v t (Executed AfterWaiting a d) x =
     let ws : List Arrival = filter (λ b. not (b.event == a.event)) (waiting t) in
     omega (arith, owed_item (is_of v) (Executes a ∷ marks_done a d) t, ap (count_by (is_of v)) (admits_done a d), shrinks_done a d (is_of v) ws, waited v a (waiting t) x.0)
+awaited_form o now v t form x = omega (arith, owed_item (is_of v) (marks_of_form form) t)

@@ -1,15 +1,14 @@
 -- A unit's set of commands: its tickets, and what has been shown of it.
-use Rattle.std.proofs.Common.{List, map, ℕ, [], ap, cond, false, refl, true, ◌∷◌, ◌≡◌, ◌==◌, None, Some, filter, find, not, Option, sym, ◌∙◌, ◌<◌, arith, get_or, replicate, suc, zero, ◌+◌, Bool, count_by, ◌≤◌, ◌++◌, ◌||◌, ◌&&◌, nat_lt, length, eq-eqb}
+use Rattle.std.proofs.Common.{List, map, ℕ, [], ap, false, refl, true, ◌∷◌, ◌≡◌, ◌==◌, None, Some, filter, find, not, sym, ◌∙◌, ◌<◌, arith, get_or, replicate, suc, zero, Bool, count_by, ◌≤◌, ◌||◌, ◌&&◌, nat_lt, length, eq-eqb}
+use Rattle.std.proofs.lemmas.Grind.{common_steps}
 use Rattle.std.specs.List.{list_any, list_all}
-use Rattle.std.proofs.lemmas.Bool.{eqb-true}
-use Rattle.std.proofs.lemmas.List.Sums.{sum_by-cons}
 use Rattle.iscsi_tasks.specs.declared.member.Member.{Member}
-use Rattle.iscsi_tasks.specs.Sets.{given_in, is_new, after_moment, looked_at, Members, left_by, tasks_in, with_ticket, without, opened as opened_set}
+use Rattle.iscsi_tasks.specs.Sets.{given_in, after_moment, looked_at, Members, left_by, tasks_in, with_ticket, opened as opened_set}
 use Rattle.iscsi_tasks.specs.declared.task.Task.{Task}
+use Rattle.iscsi_history.proofs.ListLemmas.{none_left}
 use Rattle.iscsi_history.proofs.ListLemmas.{map-map, filter-map, find-found}
-use Rattle.iscsi_history.proofs.BoolLemmas.{or_none, or_false, and_parts, and_false}
-use Rattle.iscsi_history.proofs.ApartLemmas.{eq_sym}
-use Rattle.iscsi_history.proofs.NumberLemmas.{later_apart, none_above}
+use Rattle.iscsi_history.proofs.BoolLemmas.{or_false, and_parts, and_false}
+use Rattle.iscsi_history.proofs.NumberLemmas.{none_above}
 
 abbrev pub tickets : List Member → List ℕ
 tickets ms = map (λ m. m.task.ticket) ms
@@ -18,32 +17,18 @@ tickets ms = map (λ m. m.task.ticket) ms
 
 pub tickets-given_in : (ms : List Member) → tickets (given_in ms) ≡ tickets ms
 tickets-given_in [] = refl
-tickets-given_in (m ∷ ms) =
-    elim (is_new m) as (λ b. tickets (cond b (record { task = m.task; enabled = m.enabled; given = true } ∷ ms) (m ∷ given_in ms)) ≡ m.task.ticket ∷ tickets ms) [
-      | true ↦ refl
-      | false ↦ ap (λ ts. m.task.ticket ∷ ts) (tickets-given_in ms)
-    ]
+tickets-given_in (m ∷ ms) = grind (arith, tickets-given_in ms)
 
 pub tickets-moment : (ms : List Member) → tickets (after_moment ms) ≡ tickets ms
 tickets-moment ms = map-map (λ (m : Member). m.task.ticket) (looked_at ms) ms
 
 none_with : (k : ℕ) (ms : List Member) → find (λ (t : Task). t.ticket == k) (map (λ (m : Member). m.task) ms) ≡ None → filter (λ t. not (t == k)) (tickets ms) ≡ tickets ms
 none_with k [] h = refl
-none_with k (m ∷ ms) h =
-    elim (m.task.ticket == k) as (λ b. cond b (Some m.task) (find (λ (t : Task). t.ticket == k) (map (λ (x : Member). x.task) ms)) ≡ None → cond (not b) (m.task.ticket ∷ filter (λ t. not (t == k)) (tickets ms)) (filter (λ t. not (t == k)) (tickets ms)) ≡ m.task.ticket ∷ tickets ms) [
-      | true ↦ λ found. absurd cc
-      | false ↦ λ none. ap (λ ts. m.task.ticket ∷ ts) (none_with k ms none)
-    ] h
+none_with k (m ∷ ms) h = grind (arith, none_with k ms)
 
 -- a command that leaves takes its ticket with it
 pub tickets-left : (s : Members) (k : ℕ) → tickets (left_by s (with_ticket k (tasks_in s))).list ≡ filter (λ t. not (t == k)) (tickets s.list)
-tickets-left s k = by_task (with_ticket k (tasks_in s)) refl
-  where
-    by_task : (x : Option Task) → with_ticket k (tasks_in s) ≡ x → tickets (left_by s x).list ≡ filter (λ t. not (t == k)) (tickets s.list)
-    by_task None is = sym (none_with k s.list is)
-    by_task (Some task) is =
-        let same : task.ticket ≡ k = eqb-true task.ticket k (find-found (λ (t : Task). t.ticket == k) (tasks_in s) task is) in
-        tickets-moment (without task.ticket s.list) ∙ ap (λ n. tickets (without n s.list)) same ∙ sym (filter-map (λ t. not (t == k)) (λ (m : Member). m.task.ticket) s.list)
+tickets-left s k = grind (arith, none_with, find-found, tickets-moment, filter-map)
 
 pub set_opened : (n u depth : ℕ) → u < n → get_or (replicate n (opened_set depth)) u (opened_set 0) ≡ opened_set depth
 set_opened zero u depth lt = absurd (omega arith)
@@ -54,44 +39,22 @@ set_opened (suc n) (suc u) depth lt = set_opened n u depth (omega arith)
 
 pub ungiven_given : (ms : List Member) → count_by (λ m. not m.given) (given_in ms) ≤ count_by (λ m. not m.given) ms
 ungiven_given [] = omega arith
-ungiven_given (m ∷ ms) =
-    let p : Member → Bool = λ x. not x.given in
-    let given : Member = record { task = m.task; enabled = m.enabled; given = true } in
-    let all : count_by p (m ∷ ms) ≡ cond (p m) 1 0 + count_by p ms = sum_by-cons (λ x. cond (p x) 1 0) m ms in
-    elim (is_new m) as (λ b. count_by p (cond b (given ∷ ms) (m ∷ given_in ms)) ≤ count_by p (m ∷ ms)) [
-      | true ↦ let now : count_by p (given ∷ ms) ≡ 0 + count_by p ms = sum_by-cons (λ x. cond (p x) 1 0) given ms in omega (arith, all, now)
-      | false ↦ let now : count_by p (m ∷ given_in ms) ≡ cond (p m) 1 0 + count_by p (given_in ms) = sum_by-cons (λ x. cond (p x) 1 0) m (given_in ms) in omega (arith, all, now, ungiven_given ms)
-    ]
+ungiven_given (m ∷ ms) = grind (arith, common_steps, ungiven_given ms)
 
 -- ---- nothing is left to leave
 
 pub none_filtered : (q : Member → Bool) (ms : List Member) → list_any q ms ≡ false → filter q ms ≡ []
-none_filtered q [] h = refl
-none_filtered q (x ∷ ms) h =
-    let parts = or_none (q x) (list_any q ms) h in
-    ap (λ b. cond b (x ∷ filter q ms) (filter q ms)) parts.0 ∙ none_filtered q ms parts.1
-
-pub any_push : (p : Member → Bool) (ms : List Member) (x : Member) → list_any p (ms ++ x ∷ []) ≡ (list_any p ms || p x)
-any_push p [] x = or_false (p x)
-any_push p (y ∷ ms) x = elim (p y) as (λ b. (b || list_any p (ms ++ x ∷ [])) ≡ ((b || list_any p ms) || p x)) [ true ↦ refl | false ↦ any_push p ms x ]
+none_filtered q ms h = none_left q ms h
 
 -- ---- tickets go up along a set
 
 pub none_found : (covers : Task → Bool) (ms : List Member) → find covers (map (λ (m : Member). m.task) ms) ≡ None → list_any (λ m. covers m.task) ms ≡ false
 none_found covers [] none = refl
-none_found covers (x ∷ ms) none =
-    elim (covers x.task) as (λ b. cond b (Some x.task) (find covers (map (λ (m : Member). m.task) ms)) ≡ None → (b || list_any (λ (m : Member). covers m.task) ms) ≡ false) [
-      | true ↦ λ here. absurd cc
-      | false ↦ λ later. none_found covers ms later
-    ] none
+none_found covers (x ∷ ms) none = grind (arith, none_found covers ms)
 
 pub some_covered : (covers : Task → Bool) (ms : List Member) (task : Task) → find covers (map (λ (m : Member). m.task) ms) ≡ Some task → list_any (λ m. covers m.task) ms ≡ true
 some_covered covers [] task found = absurd cc
-some_covered covers (x ∷ ms) task found =
-    elim (covers x.task) as (λ b. cond b (Some x.task) (find covers (map (λ (m : Member). m.task) ms)) ≡ Some task → (b || list_any (λ (m : Member). covers m.task) ms) ≡ true) [
-      | true ↦ λ here. refl
-      | false ↦ λ later. some_covered covers ms task later
-    ] found
+some_covered covers (x ∷ ms) task found = grind (arith, some_covered covers ms task)
 
 abbrev pub rising : List ℕ → Bool
 rising [] = true
@@ -106,9 +69,7 @@ all_at p (x ∷ ms) (suc k) d all lt = all_at p ms k d (and_parts (p x.task.tick
 
 pub none_covered : (covers : Task → Bool) (k : ℕ) (ms : List Member) → list_any (λ t. t == k) (tickets ms) ≡ false → list_any (λ m. m.task.ticket == k && covers m.task) ms ≡ false
 none_covered covers k [] h = refl
-none_covered covers k (x ∷ ms) h =
-    let parts = or_none (x.task.ticket == k) (list_any (λ t. t == k) (tickets ms)) h in
-    ap (λ b. (b && covers x.task) || list_any (λ m. m.task.ticket == k && covers m.task) ms) parts.0 ∙ none_covered covers k ms parts.1
+none_covered covers k (x ∷ ms) h = grind (arith, none_covered covers k ms)
 
 -- a command is gone just where it is covered
 pub gone_each : (covers : Task → Bool) (ms : List Member) (k : ℕ) (d : Member) → rising (tickets ms) ≡ true → k < length ms → list_any (λ m. m.task.ticket == (get_or ms k d).task.ticket && covers m.task) ms ≡ covers (get_or ms k d).task
@@ -117,25 +78,10 @@ gone_each covers (x ∷ ms) zero d up lt =
     let parts = and_parts (list_all (λ u. nat_lt x.task.ticket u) (tickets ms)) (rising (tickets ms)) up in
     ap (λ b. (b && covers x.task) || list_any (λ m. m.task.ticket == x.task.ticket && covers m.task) ms) (eq-eqb x.task.ticket x.task.ticket refl)
     ∙ ap (λ b. covers x.task || b) (none_covered covers x.task.ticket ms (none_above x.task.ticket (tickets ms) parts.0)) ∙ or_false (covers x.task)
-gone_each covers (x ∷ ms) (suc k) d up lt =
-    let parts = and_parts (list_all (λ u. nat_lt x.task.ticket u) (tickets ms)) (rising (tickets ms)) up in
-    let t : ℕ = (get_or ms k d).task.ticket in
-    let apart : (x.task.ticket == t) ≡ false = eq_sym x.task.ticket t ∙ later_apart x.task.ticket t (all_at (λ u. nat_lt x.task.ticket u) ms k d parts.0 (omega arith)) in
-    ap (λ b. (b && covers x.task) || list_any (λ m. m.task.ticket == t && covers m.task) ms) apart ∙ gone_each covers ms k d parts.1 (omega arith)
+gone_each covers (x ∷ ms) (suc k) d up lt = grind (arith, gone_each covers ms k d, all_at)
 
 -- ---- the one with a ticket
 
 pub one_gone : (k j : ℕ) (ms : List Member) → list_any (λ m. m.task.ticket == j && m.task.ticket == k) ms ≡ (j == k && list_any (λ m. m.task.ticket == k) ms)
 one_gone k j [] = sym (and_false (j == k))
-one_gone k j (x ∷ ms) =
-    let has : Bool = list_any (λ (m : Member). m.task.ticket == k) ms in
-    let both : Bool = list_any (λ (m : Member). m.task.ticket == j && m.task.ticket == k) ms in
-    elim (x.task.ticket == k) as (λ b. (x.task.ticket == k) ≡ b → ((x.task.ticket == j && b) || both) ≡ (j == k && (b || has))) [
-      | true ↦ λ is. elim (j == k) as (λ b. (j == k) ≡ b → ((x.task.ticket == j && true) || both) ≡ (b && true)) [
-        | true ↦ λ same. ap (λ b. (b && true) || both) (eq-eqb x.task.ticket j (eqb-true x.task.ticket k is ∙ sym (eqb-true j k same)))
-        | false ↦ λ other.
-            ap (λ b. (b && true) || both) (ap (λ n. n == j) (eqb-true x.task.ticket k is) ∙ eq_sym k j ∙ other)
-            ∙ one_gone k j ms ∙ ap (λ b. b && has) other
-      ] refl
-      | false ↦ λ is. ap (λ b. b || both) (and_false (x.task.ticket == j)) ∙ one_gone k j ms
-    ] refl
+one_gone k j (x ∷ ms) = grind (arith, one_gone k j ms)

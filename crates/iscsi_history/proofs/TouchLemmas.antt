@@ -1,25 +1,19 @@
 -- What an item does to the command of a ticket: which leaves, which enters, and what is shown of it.
-use Rattle.std.proofs.Common.{◌≡◌, ℕ, ◌+◌, ◌<◌, ◌≤◌, ◌==◌, ◌||◌, ⊎_elim, cond, Bool, true, false, List, [], ◌∷◌, ◌++◌, map, filter, length, count_by, Option, Some, None, refl, ap, sym, ◌∙◌, arith}
+use Rattle.std.proofs.Common.{◌≡◌, ℕ, ◌+◌, ◌<◌, ◌≤◌, ◌==◌, ⊎_elim, cond, Bool, true, List, [], ◌∷◌, ◌++◌, map, filter, length, count_by, Option, Some, None, refl, ap, sym, ◌∙◌, arith}
 use Rattle.std.specs.List.{list_any, filter_map, flat_map, cons_option}
 use Rattle.std.proofs.lemmas.List.{append-nil}
-use Rattle.std.proofs.lemmas.List.Elements.{filter_map-append, filter-append}
-use Rattle.std.proofs.lemmas.List.Folds.{list_any-append}
+use Rattle.std.proofs.lemmas.List.Elements.{filter-append}
 use Rattle.std.proofs.lemmas.List.Sums.{sum_by-cons}
-use Rattle.iscsi_wire.specs.declared.reply.Reply.{Reply}
-use Rattle.iscsi_wire.specs.Fields.{connection_of}
 use Rattle.iscsi_history.specs.declared.effect.Effect.{Effect}
 use Rattle.iscsi_history.specs.declared.effect.Effect.TheVariants.{Enter, Enable, Leave}
 use Rattle.iscsi_history.specs.rules.Settings.{Setting}
-use Rattle.iscsi_history.specs.rules.Trace.{Arrival, Command, Mark, Admits, Delivers, Executes, Voids, Empties, Waits, Leaves, Enters, Sends, ClosesConn, ClosesSession, Ignores, Trace, enters, entered, leaves_ticket, live, is_among}
+use Rattle.iscsi_history.specs.rules.Trace.{Command, Mark, Leaves, Enters, Trace, enters, entered, leaves_ticket, live, is_among}
 use Rattle.iscsi_history.specs.rules.Run.{effects_of_mark, newly_enabled, effects_of_item}
 use Rattle.iscsi_history.specs.promises.Lives.{names_ticket, life_of}
-use Rattle.iscsi_history.proofs.AbortMarks.{none_viewed, none_mapped}
-use Rattle.iscsi_history.proofs.BoolLemmas.{or_false}
-use Rattle.iscsi_history.proofs.CommandItems.{leaves_only}
 use Rattle.iscsi_history.proofs.CountLemmas.{among_counted, counted_among}
 use Rattle.iscsi_history.proofs.ElementLemmas.{In}
-use Rattle.iscsi_history.proofs.Forms.{Start, AtTurn, AtArrival, AfterWaiting, start_mark, Deeds, if_some, marks_done, Form, Ignored, Rejected, Received, Postponed, Completed, Executed, marks_of_form, Each, EntersAs, IsFormed}
-use Rattle.iscsi_history.proofs.NumberingLemmas.{to_list, unseen, passed}
+use Rattle.iscsi_history.proofs.Forms.{AtTurn, Form, Completed, Executed, marks_of_form, Each, IsFormed}
+use Rattle.iscsi_history.proofs.DeedLemmas.{to_list, views, tests}
 
 -- the commands with this ticket
 abbrev pub mine : ℕ → List Command → List Command
@@ -46,83 +40,17 @@ enable_effect c = Enable c.ticket c.unit
 
 -- ---- the marks of an item
 
--- a view that sees nothing but commands that leave and enter
-module _ {B : Type 0} (view : Mark → Option B) (voids : (n : ℕ) → view (Voids n) ≡ None) (empties : (a : Arrival) → view (Empties a) ≡ None)
-    (sends : (conn : ℕ) (reply : Reply) → view (Sends conn reply) ≡ None) (closes : (conn : ℕ) → view (ClosesConn conn) ≡ None) (ends : view ClosesSession ≡ None) where
-  unseen_end : (d : Deeds) (conn : ℕ) → filter_map view (if_some (Sends conn) d.reply ++ (if_some ClosesConn d.closing ++ cond d.ending (ClosesSession ∷ []) [])) ≡ []
-  unseen_end d conn =
-      passed view (if_some (Sends conn) d.reply) _ (unseen view (Sends conn) d.reply (sends conn))
-      ∙ passed view (if_some ClosesConn d.closing) _ (unseen view ClosesConn d.closing closes)
-      ∙ elim d.ending as (λ b. filter_map view (cond b (ClosesSession ∷ []) []) ≡ []) [ true ↦ ap to_list ends | false ↦ refl ]
-
-  commands_seen : (a : Arrival) (d : Deeds) → filter_map view (marks_done a d) ≡ filter_map view (map Leaves d.leaving) ++ filter_map view (if_some Enters d.entering)
-  commands_seen a d =
-      passed view (if_some Voids d.void) _ (unseen view Voids d.void voids)
-      ∙ filter_map-append view (map Leaves d.leaving) _
-      ∙ ap (λ xs. filter_map view (map Leaves d.leaving) ++ xs)
-      (passed view (map Empties d.emptied) _ (none_viewed view Empties d.emptied empties)
-      ∙ filter_map-append view (if_some Enters d.entering) _
-      ∙ ap (λ xs. filter_map view (if_some Enters d.entering) ++ xs) (unseen_end d (connection_of a.request))
-      ∙ append-nil (filter_map view (if_some Enters d.entering)))
-
 -- what enters
 pub enters_form : (form : Form) → filter_map enters (marks_of_form form) ≡ to_list (entering_in form)
-enters_form (Ignored why) = refl
-enters_form (Rejected a) = refl
-enters_form (Received a) = refl
-enters_form (Postponed a) = refl
-enters_form (Completed c status) = refl
-enters_form (Executed start a d) = by_start start
-  where
-    entering : (x : Option Command) → filter_map enters (if_some Enters x) ≡ to_list x
-    entering (Some c) = refl
-    entering None = refl
-
-    done : filter_map enters (marks_done a d) ≡ to_list d.entering
-    done =
-        commands_seen enters (λ n. refl) (λ b. refl) (λ conn reply. refl) (λ conn. refl) refl a d
-        ∙ ap (λ xs. xs ++ filter_map enters (if_some Enters d.entering)) (none_viewed enters Leaves d.leaving (λ c. refl))
-        ∙ entering d.entering
-
-    by_start : (s : Start) → filter_map enters (start_mark s a ∷ marks_done a d) ≡ to_list d.entering
-    by_start AtTurn = done
-    by_start AtArrival = done
-    by_start AfterWaiting = done
+enters_form (Executed AtTurn a d) = simp views
+enters_form (Executed start a d) = simp views
+enters_form form = refl
 
 -- which tickets leave
 pub leaves_form : (k : ℕ) (form : Form) → list_any (leaves_ticket k) (marks_of_form form) ≡ is_among k (leaving_in form)
-leaves_form k (Ignored why) = refl
-leaves_form k (Rejected a) = refl
-leaves_form k (Received a) = refl
-leaves_form k (Postponed a) = refl
-leaves_form k (Completed c status) = refl
-leaves_form k (Executed start a d) = by_start start
-  where
-    none_some : {A : Type 0} (f : A → Mark) (x : Option A) (ms : List Mark) → ((y : A) → leaves_ticket k (f y) ≡ false) → list_any (leaves_ticket k) (if_some f x ++ ms) ≡ list_any (leaves_ticket k) ms
-    none_some f None ms none = refl
-    none_some f (Some y) ms none = ap (λ b. b || list_any (leaves_ticket k) ms) (none y)
-
-    none_end : (b : Bool) → list_any (leaves_ticket k) (cond b (ClosesSession ∷ []) []) ≡ false
-    none_end true = refl
-    none_end false = refl
-
-    done : list_any (leaves_ticket k) (marks_done a d) ≡ is_among k d.leaving
-    done =
-        none_some Voids d.void _ (λ n. refl)
-        ∙ leaves_only d.leaving _ k
-        ∙ ap (λ b. is_among k d.leaving || b)
-        (list_any-append (leaves_ticket k) (map Empties d.emptied) _
-        ∙ ap (λ b. b || list_any (leaves_ticket k) (if_some Enters d.entering ++ (if_some (Sends (connection_of a.request)) d.reply ++ (if_some ClosesConn d.closing ++ cond d.ending (ClosesSession ∷ []) [])))) (none_mapped (leaves_ticket k) Empties d.emptied (λ b. refl))
-        ∙ none_some Enters d.entering _ (λ c. refl)
-        ∙ none_some (Sends (connection_of a.request)) d.reply _ (λ r. refl)
-        ∙ none_some ClosesConn d.closing _ (λ c. refl)
-        ∙ none_end d.ending)
-        ∙ or_false (is_among k d.leaving)
-
-    by_start : (s : Start) → list_any (leaves_ticket k) (start_mark s a ∷ marks_done a d) ≡ is_among k d.leaving
-    by_start AtTurn = done
-    by_start AtArrival = done
-    by_start AfterWaiting = done
+leaves_form k (Executed AtTurn a d) = simp tests
+leaves_form k (Executed start a d) = simp tests
+leaves_form k form = refl
 
 -- ---- the effects that name a ticket
 
@@ -133,67 +61,34 @@ life_of_mark k (Enters c) = cond (c.ticket == k) (Some (enter_effect c)) None
 life_of_mark k _ = None
 
 kept_effect : (b : Bool) (e : Effect) (xs ys : List Effect) → xs ≡ ys → cond b (e ∷ xs) xs ≡ cons_option (cond b (Some e) None) ys
-kept_effect true e xs ys same = ap (λ zs. e ∷ zs) same
-kept_effect false e xs ys same = same
+kept_effect b e xs ys same = grind arith
 
 life_of_marks : (o : Setting) (t : Trace) (k : ℕ) (ms : List Mark) → life_of k (flat_map (effects_of_mark o t) ms) ≡ filter_map (life_of_mark k) ms
 life_of_marks o t k [] = refl
-life_of_marks o t k (Admits a ∷ ms) = life_of_marks o t k ms
-life_of_marks o t k (Delivers a ∷ ms) = life_of_marks o t k ms
-life_of_marks o t k (Executes a ∷ ms) = life_of_marks o t k ms
-life_of_marks o t k (Voids n ∷ ms) = life_of_marks o t k ms
-life_of_marks o t k (Empties a ∷ ms) = life_of_marks o t k ms
-life_of_marks o t k (Waits a ∷ ms) = life_of_marks o t k ms
 life_of_marks o t k (Leaves c ∷ ms) = kept_effect (c.ticket == k) (leave_effect c) _ _ (life_of_marks o t k ms)
 life_of_marks o t k (Enters c ∷ ms) = kept_effect (c.ticket == k) (enter_effect c) _ _ (life_of_marks o t k ms)
-life_of_marks o t k (Sends conn reply ∷ ms) = life_of_marks o t k ms
-life_of_marks o t k (ClosesConn conn ∷ ms) = life_of_marks o t k ms
-life_of_marks o t k (ClosesSession ∷ ms) = life_of_marks o t k ms
-life_of_marks o t k (Ignores why ∷ ms) = life_of_marks o t k ms
+life_of_marks o t k (m ∷ ms) = life_of_marks o t k ms
 
-life_of_commands : (k : ℕ) (f : Command → Mark) (g : Command → Effect) → ((c : Command) → life_of_mark k (f c) ≡ cond (c.ticket == k) (Some (g c)) None) → (cs : List Command) → filter_map (life_of_mark k) (map f cs) ≡ map g (mine k cs)
-life_of_commands k f g is [] = refl
-life_of_commands k f g is (c ∷ cs) =
-    ap (λ x. cons_option x (filter_map (life_of_mark k) (map f cs))) (is c)
-    ∙ ap (cons_option (cond (c.ticket == k) (Some (g c)) None)) (life_of_commands k f g is cs)
-    ∙ by_test (c.ticket == k)
-  where
-    by_test : (b : Bool) → cons_option (cond b (Some (g c)) None) (map g (mine k cs)) ≡ map g (cond b (c ∷ mine k cs) (mine k cs))
-    by_test true = refl
-    by_test false = refl
+-- the effects of those that have the ticket
+shown_mine : (k : ℕ) (g : Command → Effect) (cs : List Command) → filter_map (λ c. cond (c.ticket == k) (Some (g c)) None) cs ≡ map g (mine k cs)
+shown_mine k g [] = refl
+shown_mine k g (c ∷ cs) = grind (arith, shown_mine k g cs)
 
 -- what an item shows of the ticket, but for what it enables
 pub life_form : (o : Setting) (t : Trace) (k : ℕ) (form : Form)
     → life_of k (flat_map (effects_of_mark o t) (marks_of_form form)) ≡ map leave_effect (mine k (leaving_in form)) ++ map enter_effect (mine k (to_list (entering_in form)))
 life_form o t k form = life_of_marks o t k (marks_of_form form) ∙ by_form form
   where
-    entering : (x : Option Command) → filter_map (life_of_mark k) (if_some Enters x) ≡ map enter_effect (mine k (to_list x))
-    entering (Some c) = elim (c.ticket == k) as (λ b. cons_option (cond b (Some (enter_effect c)) None) [] ≡ map enter_effect (cond b (c ∷ []) [])) [ true ↦ refl | false ↦ refl ]
-    entering None = refl
-
-    done : (a : Arrival) (d : Deeds) → filter_map (life_of_mark k) (marks_done a d) ≡ map leave_effect (mine k d.leaving) ++ map enter_effect (mine k (to_list d.entering))
-    done a d =
-        commands_seen (life_of_mark k) (λ n. refl) (λ b. refl) (λ conn reply. refl) (λ conn. refl) refl a d
-        ∙ ap (λ xs. xs ++ filter_map (life_of_mark k) (if_some Enters d.entering)) (life_of_commands k Leaves leave_effect (λ c. refl) d.leaving)
-        ∙ ap (λ xs. map leave_effect (mine k d.leaving) ++ xs) (entering d.entering)
-
     by_form : (f : Form) → filter_map (life_of_mark k) (marks_of_form f) ≡ map leave_effect (mine k (leaving_in f)) ++ map enter_effect (mine k (to_list (entering_in f)))
-    by_form (Ignored why) = refl
-    by_form (Rejected a) = refl
-    by_form (Received a) = refl
-    by_form (Postponed a) = refl
-    by_form (Completed c status) = life_of_commands k Leaves leave_effect (λ d. refl) (c ∷ []) ∙ sym (append-nil (map leave_effect (mine k (c ∷ []))))
-    by_form (Executed AtTurn a d) = done a d
-    by_form (Executed AtArrival a d) = done a d
-    by_form (Executed AfterWaiting a d) = done a d
+    by_form (Completed c status) = shown_mine k leave_effect (c ∷ []) ∙ sym (append-nil (map leave_effect (mine k (c ∷ []))))
+    by_form (Executed AtTurn a d) = simp (views, shown_mine)
+    by_form (Executed start a d) = simp (views, shown_mine)
+    by_form form = refl
 
 -- and what it enables
 life_of_enables : (k : ℕ) (cs : List Command) → life_of k (map enable_effect cs) ≡ map enable_effect (mine k cs)
 life_of_enables k [] = refl
-life_of_enables k (c ∷ cs) = elim (c.ticket == k) as (λ b. cond b (enable_effect c ∷ life_of k (map enable_effect cs)) (life_of k (map enable_effect cs)) ≡ map enable_effect (cond b (c ∷ mine k cs) (mine k cs))) [
-  | true ↦ ap (λ es. enable_effect c ∷ es) (life_of_enables k cs)
-  | false ↦ life_of_enables k cs
-]
+life_of_enables k (c ∷ cs) = grind (arith, life_of_enables k cs)
 
 -- the life of a ticket in an item
 pub life_item : (o : Setting) (t : Trace) (k : ℕ) (form : Form)
@@ -207,10 +102,6 @@ life_item o t k form =
 
 -- those that leave are live, each once
 pub leaving_few : (o : Setting) (now : ℕ) (t : Trace) (form : Form) → IsFormed o now t form → (p : Command → Bool) → count_by p (leaving_in form) ≤ count_by p (live t)
-leaving_few o now t (Ignored why) x p = omega arith
-leaving_few o now t (Rejected a) x p = omega arith
-leaving_few o now t (Received a) x p = omega arith
-leaving_few o now t (Postponed a) x p = omega arith
 leaving_few o now t (Completed c status) x p = one_of (live t) x
   where
     one_of : (cs : List Command) → In c cs → count_by p (c ∷ []) ≤ count_by p cs
@@ -220,6 +111,7 @@ leaving_few o now t (Completed c status) x p = one_of (live t) x
         let one : count_by p (c ∷ []) ≡ cond (p c) 1 0 + 0 = sum_by-cons (λ y. cond (p y) 1 0) c [] in
         ⊎_elim (λ same. omega (arith, all, one, ap {B = ℕ} (λ (y : Command). cond (p y) 1 0) same)) (λ later. omega (arith, all, one_of cs later)) h
 leaving_few o now t (Executed start a d) x p = x.1.leaves p
+leaving_few o now t form x p = omega arith
 
 pub leaving_live : (o : Setting) (now : ℕ) (t : Trace) (form : Form) → IsFormed o now t form → (k : ℕ) → list_any (leaves_ticket k) (marks_of_form form) ≡ true → is_among k (live t) ≡ true
 leaving_live o now t form x k h = counted_among k (live t) (omega (arith, among_counted k (leaving_in form) (sym (leaves_form k form) ∙ h), leaving_few o now t form x (λ (c : Command). c.ticket == k)))
@@ -231,17 +123,4 @@ pub record EntersNext (o : Setting) (t : Trace) (form : Form) (c : Command) : Ty
   pub stays : leaving_in form ≡ []
 
 pub entering_next : (o : Setting) (now : ℕ) (t : Trace) (form : Form) → IsFormed o now t form → Each (EntersNext o t form) (entering_in form)
-entering_next o now t (Ignored why) x = tt
-entering_next o now t (Rejected a) x = tt
-entering_next o now t (Received a) x = tt
-entering_next o now t (Postponed a) x = tt
-entering_next o now t (Completed c status) x = tt
-entering_next o now t (Executed start a d) x = by_entering d.entering x.1.enters
-  where
-    by_entering : (y : Option Command) → Each (EntersAs o t a d) y → Each (EntersNext o t (Executed start a d)) y
-    by_entering None e = tt
-    by_entering (Some c) e = record {
-      next = ap (λ (z : Command). z.ticket) e.next;
-      below = (let same : c.unit ≡ e.unit = ap (λ (z : Command). z.unit) e.next in let z : c.unit < o.units = omega (arith, e.below) in z);
-      stays = e.stays;
-    }
+entering_next o now t form x = grind arith

@@ -1,12 +1,10 @@
 -- What one item more changes of what follows from a trace.
-use Rattle.std.proofs.Common.{◌≡◌, ℕ, ◌==◌, ◌&&◌, ◌||◌, not, cond, Bool, true, false, List, [], ◌∷◌, ◌++◌, filter, Some, None, refl, ap, sym, ◌∙◌, eq-eqb}
-use Rattle.std.specs.List.{list_any, list_all, filter_map, cons_option}
-use Rattle.std.proofs.lemmas.Bool.{false≢true}
+use Rattle.std.proofs.Common.{arith, ◌≡◌, ℕ, ◌==◌, ◌||◌, not, cond, Bool, true, false, List, [], ◌∷◌, ◌++◌, filter, refl, ap, ◌∙◌}
+use Rattle.std.specs.List.{list_any, list_all, filter_map}
 use Rattle.std.proofs.lemmas.List.{append-nil}
 use Rattle.std.proofs.lemmas.List.Elements.{filter-append}
 use Rattle.std.proofs.lemmas.List.Folds.{list_any-append}
-use Rattle.iscsi_history.specs.rules.Trace.{Command, Mark, Trace, Admits, Delivers, Executes, Voids, Empties, Waits, Leaves, Enters, Sends, ClosesConn, ClosesSession, Ignores, after_items, has, shown, enters, entered, leaves_ticket, live, is_among, received, is_received, contains, number_received, admits_at}
-use Rattle.iscsi_history.proofs.BoolLemmas.{and_both, or_none, or_second}
+use Rattle.iscsi_history.specs.rules.Trace.{Command, Mark, Trace, after_items, has, shown, enters, entered, leaves_ticket, live, is_among, received, is_received, contains, number_received, admits_at}
 
 -- ---- filters
 
@@ -20,11 +18,7 @@ filter-true (x ∷ xs) = ap (λ ys. x ∷ ys) (filter-true xs)
 
 filter-nor : {A : Type 0} (a b : A → Bool) (xs : List A) → filter (λ x. not (a x || b x)) xs ≡ filter (λ x. not (a x)) (filter (λ x. not (b x)) xs)
 filter-nor a b [] = refl
-filter-nor a b (x ∷ xs) =
-    elim (b x) as (λ v. cond (not (a x || v)) (x ∷ filter (λ y. not (a y || b y)) xs) (filter (λ y. not (a y || b y)) xs) ≡ filter (λ y. not (a y)) (cond (not v) (x ∷ filter (λ y. not (b y)) xs) (filter (λ y. not (b y)) xs))) [
-      | true ↦ elim (a x) as (λ w. cond (not (w || true)) (x ∷ filter (λ y. not (a y || b y)) xs) (filter (λ y. not (a y || b y)) xs) ≡ filter (λ y. not (a y)) (filter (λ y. not (b y)) xs)) [ true ↦ filter-nor a b xs | false ↦ filter-nor a b xs ]
-      | false ↦ elim (a x) as (λ w. cond (not (w || false)) (x ∷ filter (λ y. not (a y || b y)) xs) (filter (λ y. not (a y || b y)) xs) ≡ cond (not w) (x ∷ filter (λ y. not (a y)) (filter (λ y. not (b y)) xs)) (filter (λ y. not (a y)) (filter (λ y. not (b y)) xs))) [ true ↦ filter-nor a b xs | false ↦ ap (λ ys. x ∷ ys) (filter-nor a b xs) ]
-    ]
+filter-nor a b (x ∷ xs) = grind (arith, filter-nor a b xs)
 
 -- ---- live commands
 
@@ -55,73 +49,31 @@ live-enters item t c one quiet unleft =
 
 -- the commands with these tickets leave
 pub live-leaves : (item : List Mark) (t : Trace) (out : ℕ → Bool) → filter_map enters item ≡ [] → ((k : ℕ) → list_any (leaves_ticket k) item ≡ out k) → live (item ∷ t) ≡ filter (λ c. not (out c.ticket)) (live t)
-live-leaves item t out none some =
-    live-item item t
-    ∙ ap (λ cs. filter (λ (c : Command). not (list_any (leaves_ticket c.ticket) item)) (live t) ++ filter (λ (c : Command). not (has (leaves_ticket c.ticket) (item ∷ t))) cs) none
-    ∙ append-nil (filter (λ (c : Command). not (list_any (leaves_ticket c.ticket) item)) (live t))
-    ∙ filter-same (λ (c : Command). not (list_any (leaves_ticket c.ticket) item)) (λ c. not (out c.ticket)) (live t) (λ c. ap not (some c.ticket))
+live-leaves item t out none some = grind (arith, live-item, append-nil)
 
 -- ---- enabled commands
 
 pub weaker : {A : Type 0} (p q : A → Bool) (xs : List A) → ((x : A) → p x ≡ true → q x ≡ true) → list_all p xs ≡ true → list_all q xs ≡ true
 weaker p q [] h all = refl
-weaker p q (x ∷ xs) h all =
-    elim (p x) as (λ b. p x ≡ b → (b && list_all p xs) ≡ true → (q x && list_all q xs) ≡ true) [
-      | true ↦ λ is rest. and_both (q x) (list_all q xs) (h x is) (weaker p q xs h rest)
-      | false ↦ λ is rest. absurd (false≢true rest)
-    ] refl all
+weaker p q (x ∷ xs) h all = grind (arith, weaker p q xs)
 
 pub all_among : (xs : List Command) → list_all (λ c. is_among c.ticket xs) xs ≡ true
 all_among [] = refl
-all_among (x ∷ xs) =
-    and_both ((x.ticket == x.ticket) || is_among x.ticket xs) (list_all (λ c. is_among c.ticket (x ∷ xs)) xs)
-    (ap (λ b. b || is_among x.ticket xs) (eq-eqb x.ticket x.ticket refl))
-    (weaker (λ c. is_among c.ticket xs) (λ c. is_among c.ticket (x ∷ xs)) xs (λ c h. or_second (x.ticket == c.ticket) (is_among c.ticket xs) h) (all_among xs))
-
--- none of these is new
-pub none_new : (set cs : List Command) → list_all (λ c. is_among c.ticket set) cs ≡ true → filter (λ c. not (is_among c.ticket set)) cs ≡ []
-none_new set [] h = refl
-none_new set (c ∷ cs) h =
-    elim (is_among c.ticket set) as (λ b. (b && list_all (λ d. is_among d.ticket set) cs) ≡ true → cond (not b) (c ∷ filter (λ d. not (is_among d.ticket set)) cs) (filter (λ d. not (is_among d.ticket set)) cs) ≡ []) [
-      | true ↦ λ rest. none_new set cs rest
-      | false ↦ λ rest. absurd (false≢true rest)
-    ] h
+all_among (x ∷ xs) = grind (arith, all_among xs, weaker)
 
 -- ---- received numbers and admitted requests
 
 pub received-item : (item : List Mark) (t : Trace) (n : ℕ) → is_received (item ∷ t) n ≡ (is_received t n || contains (filter_map number_received item) n)
 received-item item t n = list_any-append (λ k. k == n) (received t) (filter_map number_received item)
 
--- a mark that receives another number, or none, admits nothing at this one
-unadmitted_mark : (n : ℕ) (mark : Mark) (marks : List Mark) → contains (filter_map number_received (mark ∷ marks)) n ≡ false
-    → (admits_at n mark ≡ None) × (contains (filter_map number_received marks) n ≡ false)
-unadmitted_mark n (Admits a) marks h =
-    let parts = or_none (a.number == n) (contains (filter_map number_received marks) n) h in
-    (ap (λ b. cond b (Some a) None) parts.0, parts.1)
-unadmitted_mark n (Delivers a) marks h = (refl, h)
-unadmitted_mark n (Executes a) marks h = (refl, h)
-unadmitted_mark n (Voids k) marks h = (refl, (or_none (k == n) (contains (filter_map number_received marks) n) h).1)
-unadmitted_mark n (Empties a) marks h = (refl, h)
-unadmitted_mark n (Waits a) marks h = (refl, h)
-unadmitted_mark n (Leaves c) marks h = (refl, h)
-unadmitted_mark n (Enters c) marks h = (refl, h)
-unadmitted_mark n (Sends conn reply) marks h = (refl, h)
-unadmitted_mark n (ClosesConn conn) marks h = (refl, h)
-unadmitted_mark n ClosesSession marks h = (refl, h)
-unadmitted_mark n (Ignores why) marks h = (refl, h)
-
 unadmitted_item : (n : ℕ) (item : List Mark) → contains (filter_map number_received item) n ≡ false → filter_map (admits_at n) item ≡ []
 unadmitted_item n [] h = refl
-unadmitted_item n (mark ∷ marks) h =
-    let parts = unadmitted_mark n mark marks h in
-    ap (λ x. cons_option x (filter_map (admits_at n) marks)) parts.0 ∙ unadmitted_item n marks parts.1
+unadmitted_item n (mark ∷ marks) h = grind (arith, unadmitted_item n marks)
 
 -- nothing is admitted at a number that isn't received
 pub unadmitted : (n : ℕ) (t : Trace) → is_received t n ≡ false → shown (admits_at n) t ≡ []
 unadmitted n [] h = refl
-unadmitted n (item ∷ t) h =
-    let parts = or_none (is_received t n) (contains (filter_map number_received item) n) (sym (received-item item t n) ∙ h) in
-    ap (λ xs. shown (admits_at n) t ++ xs) (unadmitted_item n item parts.1) ∙ append-nil (shown (admits_at n) t) ∙ unadmitted n t parts.0
+unadmitted n (item ∷ t) h = grind (arith, unadmitted n t, received-item, unadmitted_item)
 
 -- ---- some items more
 

@@ -1,15 +1,14 @@
 -- Turns: which numbers an item delivers and empties. What is emptied is never delivered.
-use Rattle.std.proofs.Common.{◌≡◌, ℕ, ◌==◌, ◌||◌, inl, inr, ⊎_elim, cond, Bool, true, false, List, [], ◌∷◌, Some, None, refl, ap, sym, ◌∙◌}
+use Rattle.std.proofs.Common.{arith, ◌≡◌, ℕ, ◌==◌, ◌||◌, inl, inr, ⊎_elim, Bool, true, false, List, [], ◌∷◌, Some, refl, ap, sym, ◌∙◌}
 use Rattle.std.specs.List.{list_any}
 use Rattle.std.proofs.lemmas.Bool.{false≢true, eqb-true, or_cases}
 use Rattle.iscsi_history.specs.rules.Settings.{Setting}
-use Rattle.iscsi_history.specs.rules.Trace.{Arrival, Trace, admitted, delivers_number, is_delivered, empties_number, is_emptied, held}
+use Rattle.iscsi_history.specs.rules.Trace.{Arrival, Trace, delivers_number, is_delivered, empties_number, is_emptied, held}
 use Rattle.iscsi_history.specs.promises.Replies.{executed_in}
 use Rattle.iscsi_history.proofs.BoolLemmas.{or_false}
 use Rattle.iscsi_history.proofs.ElementLemmas.{In}
-use Rattle.iscsi_history.proofs.HeldLemmas.{held_unemptied}
 use Rattle.iscsi_history.proofs.FateLemmas.{done_at}
-use Rattle.iscsi_history.proofs.Forms.{Start, AtTurn, AtArrival, AfterWaiting, start_mark, marks_done, Form, Ignored, Rejected, Received, Postponed, Completed, Executed, marks_of_form, begun, IsFormed, HasForm, HaveForms}
+use Rattle.iscsi_history.proofs.Forms.{Start, AtTurn, start_mark, marks_done, Form, Executed, marks_of_form, begun, IsFormed, HasForm, HaveForms}
 
 -- ---- an item
 
@@ -19,22 +18,13 @@ delivers_in n (Executed AtTurn a d) = a.number == n
 delivers_in n _ = false
 
 pub delivers_form : (n : ℕ) (form : Form) → list_any (delivers_number n) (marks_of_form form) ≡ delivers_in n form
-delivers_form n (Ignored why) = refl
-delivers_form n (Rejected a) = refl
-delivers_form n (Received a) = refl
-delivers_form n (Postponed a) = refl
-delivers_form n (Completed c status) = refl
 delivers_form n (Executed AtTurn a d) = ap (λ b. (a.number == n) || b) (done_at n a d).delivered ∙ or_false (a.number == n)
-delivers_form n (Executed AtArrival a d) = (done_at n a d).delivered
-delivers_form n (Executed AfterWaiting a d) = (done_at n a d).delivered
+delivers_form n (Executed start a d) = (done_at n a d).delivered
+delivers_form n form = refl
 
 -- what is held isn't delivered
 held_undelivered : (t : Trace) (n : ℕ) (a : Arrival) → held t n ≡ Some a → is_delivered t n ≡ false
-held_undelivered t n a h = by_tests (is_delivered t n) (is_emptied t n) h
-  where
-    by_tests : (d e : Bool) → cond (d || e) None (admitted t n) ≡ Some a → d ≡ false
-    by_tests true e found = absurd cc
-    by_tests false e found = refl
+held_undelivered t n a h = grind arith
 
 -- a number at which a request is taken out
 some_emptied : (t : Trace) (n : ℕ) (bs : List Arrival) → ((b : Arrival) → In b bs → is_delivered t b.number ≡ false) → list_any (λ b. b.number == n) bs ≡ true → is_delivered t n ≡ false
@@ -47,45 +37,22 @@ some_emptied t n (b ∷ bs) h found =
 
 -- nothing is delivered at a number that the item empties
 emptied_form : (o : Setting) (now n : ℕ) (t : Trace) (form : Form) → IsFormed o now t form → list_any (empties_number n) (marks_of_form form) ≡ true → is_delivered (marks_of_form form ∷ t) n ≡ false
-emptied_form o now n t (Ignored why) x h = absurd (false≢true h)
-emptied_form o now n t (Rejected a) x h = absurd (false≢true h)
-emptied_form o now n t (Received a) x h = absurd (false≢true h)
-emptied_form o now n t (Postponed a) x h = absurd (false≢true h)
-emptied_form o now n t (Completed c status) x h = absurd (false≢true h)
 emptied_form o now n t (Executed start a d) x h =
     ap (λ b. (delivers_number n (start_mark start a) || b) || is_delivered t n) (done_at n a d).delivered
     ∙ some_emptied (begun start a t) n d.emptied (λ b there. held_undelivered (begun start a t) b.number b (x.1.empties b there)) (sym (done_at n a d).emptied ∙ by_start start h)
   where
     by_start : (s : Start) → list_any (empties_number n) (start_mark s a ∷ marks_done a d) ≡ true → list_any (empties_number n) (marks_done a d) ≡ true
     by_start AtTurn h = h
-    by_start AtArrival h = h
-    by_start AfterWaiting h = h
+    by_start s h = h
+emptied_form o now n t form x h = absurd (false≢true h)
 
 -- nothing is delivered at a number that was emptied
 unturned_form : (o : Setting) (now n : ℕ) (t : Trace) (form : Form) → IsFormed o now t form → is_emptied t n ≡ true → delivers_in n form ≡ false
-unturned_form o now n t (Ignored why) x gone = refl
-unturned_form o now n t (Rejected a) x gone = refl
-unturned_form o now n t (Received a) x gone = refl
-unturned_form o now n t (Postponed a) x gone = refl
-unturned_form o now n t (Completed c status) x gone = refl
-unturned_form o now n t (Executed AtTurn a d) x gone =
-    elim (a.number == n) as (λ b. (a.number == n) ≡ b → b ≡ false) [
-      | true ↦ λ is. absurd (false≢true (sym (held_unemptied t a.number a x.0) ∙ ap (is_emptied t) (eqb-true a.number n is) ∙ gone))
-      | false ↦ λ is. refl
-    ] refl
-unturned_form o now n t (Executed AtArrival a d) x gone = refl
-unturned_form o now n t (Executed AfterWaiting a d) x gone = refl
+unturned_form o now n t form x gone = grind arith
 
 -- a request that executes delivers no number but its own
 pub delivers_own : (n : ℕ) (form : Form) (f : Arrival) → executed_in (marks_of_form form) ≡ Some f → (f.number == n) ≡ false → delivers_in n form ≡ false
-delivers_own n (Ignored why) f is apart = refl
-delivers_own n (Rejected a) f is apart = refl
-delivers_own n (Received a) f is apart = refl
-delivers_own n (Postponed a) f is apart = refl
-delivers_own n (Completed c status) f is apart = refl
-delivers_own n (Executed AtTurn a d) f is apart = let same : a ≡ f = cc in ap (λ (x : Arrival). x.number == n) same ∙ apart
-delivers_own n (Executed AtArrival a d) f is apart = refl
-delivers_own n (Executed AfterWaiting a d) f is apart = refl
+delivers_own n form f is apart = grind arith
 
 -- ---- all items
 

@@ -1,12 +1,11 @@
 -- Which functions wait after an item, and the functions of a number.
-use Rattle.std.proofs.Common.{List, ◌≡◌, ◌++◌, [], ◌∷◌, Bool, filter, refl, ℕ, cond, false, true, ◌==◌, not, ◌||◌, ap, sym, subst, ◌∙◌, eq-eqb}
+use Rattle.std.proofs.Common.{arith, List, ◌≡◌, ◌++◌, [], ◌∷◌, Bool, filter, refl, ℕ, cond, false, true, ◌==◌, not, ap, sym, subst, ◌∙◌, eq-eqb}
 use Rattle.std.specs.List.{list_any}
-use Rattle.std.proofs.lemmas.Bool.{eqb-true, false≢true}
+use Rattle.std.proofs.lemmas.Bool.{false≢true}
 use Rattle.iscsi_history.specs.rules.Deeds.{function_marks}
 use Rattle.iscsi_history.specs.rules.Trace.{Arrival, Mark, waiting_through, Trace, Executes, waiting, after_items}
 use Rattle.iscsi_history.specs.rules.Settings.{Setting}
 use Rattle.iscsi_history.specs.rules.Items.{function_item, is_waiting, functions, functions_at}
-use Rattle.iscsi_history.proofs.BoolLemmas.{or_second, or_first}
 use Rattle.iscsi_history.proofs.ElementLemmas.{In, filter-in}
 use Rattle.iscsi_history.proofs.ListLemmas.{filter-swap}
 use Rattle.iscsi_history.proofs.Forms.{AfterWaiting, Deeds, marks_done, is_closing}
@@ -34,16 +33,7 @@ waiting_after_function o t a =
 
 waits_still : (event : ℕ) (b : Arrival) (ws : List Arrival) → list_any (λ x. x.event == b.event) (without_event event ws) ≡ true → list_any (λ (x : Arrival). x.event == b.event) ws ≡ true
 waits_still event b [] h = h
-waits_still event b (x ∷ ws) h =
-    elim (x.event == event) as (λ v. list_any (λ (y : Arrival). y.event == b.event) (cond (not v) (x ∷ without_event event ws) (without_event event ws)) ≡ true → ((x.event == b.event) || list_any (λ (y : Arrival). y.event == b.event) ws) ≡ true) [
-      | true ↦ λ k. or_second (x.event == b.event) (list_any (λ (y : Arrival). y.event == b.event) ws) (waits_still event b ws k)
-      | false ↦ λ k. by_first (x.event == b.event) (waits_still event b ws) k
-    ] h
-  where
-    by_first : (u : Bool) → (list_any (λ (y : Arrival). y.event == b.event) (without_event event ws) ≡ true → list_any (λ (y : Arrival). y.event == b.event) ws ≡ true) → (u || list_any (λ (y : Arrival). y.event == b.event) (without_event event ws)) ≡ true
-        → (u || list_any (λ (y : Arrival). y.event == b.event) ws) ≡ true
-    by_first true later k = refl
-    by_first false later k = later k
+waits_still event b (x ∷ ws) h = grind (arith, waits_still event b ws)
 
 still_waiting : (o : Setting) (t : Trace) (a b : Arrival) → is_waiting b (function_item o t a ∷ t) ≡ true → is_waiting b t ≡ true
 still_waiting o t a b h = waits_still a.event b (waiting t) (sym (ap (list_any (λ (x : Arrival). x.event == b.event)) (waiting_after_function o t a)) ∙ h)
@@ -68,11 +58,7 @@ left_out o p (x ∷ as') t covers =
 
 gone : (event : ℕ) (x : Arrival) (ws : List Arrival) → (x.event == event) ≡ true → list_any (λ y. y.event == x.event) (without_event event ws) ≡ false
 gone event x [] is = refl
-gone event x (y ∷ ws) is =
-    elim (y.event == event) as (λ v. (y.event == event) ≡ v → list_any (λ (z : Arrival). z.event == x.event) (cond (not v) (y ∷ without_event event ws) (without_event event ws)) ≡ false) [
-      | true ↦ λ same. gone event x ws is
-      | false ↦ λ apart. ap (λ b. b || list_any (λ (z : Arrival). z.event == x.event) (without_event event ws)) (ap (λ n. y.event == n) (eqb-true x.event event is) ∙ apart) ∙ gone event x ws is
-    ] refl
+gone event x (y ∷ ws) is = grind (arith, gone event x ws)
 
 -- one that waits still, once a function executed, came in another event
 still_apart : (o : Setting) (t : Trace) (a x : Arrival) → is_waiting x (function_item o t a ∷ t) ≡ true → not (x.event == a.event) ≡ true
@@ -102,8 +88,4 @@ first_function o n t a as' these waits =
 -- what is first among some is one of them
 pub waits_itself : (p : Arrival → Bool) (ws : List Arrival) (a : Arrival) (as' : List Arrival) → filter p ws ≡ a ∷ as' → list_any (λ (x : Arrival). x.event == a.event) ws ≡ true
 waits_itself p [] a as' h = absurd cc
-waits_itself p (x ∷ ws) a as' h =
-    elim (p x) as (λ b. cond b (x ∷ filter p ws) (filter p ws) ≡ a ∷ as' → ((x.event == a.event) || list_any (λ (y : Arrival). y.event == a.event) ws) ≡ true) [
-      | true ↦ λ k. let same : x ≡ a = cc in or_first (x.event == a.event) (list_any (λ (y : Arrival). y.event == a.event) ws) (ap (λ (y : Arrival). y.event == a.event) same ∙ eq-eqb a.event a.event refl)
-      | false ↦ λ k. or_second (x.event == a.event) (list_any (λ (y : Arrival). y.event == a.event) ws) (waits_itself p ws a as' k)
-    ] h
+waits_itself p (x ∷ ws) a as' h = grind (arith, waits_itself p ws a as')
