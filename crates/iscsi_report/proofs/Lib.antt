@@ -2,3 +2,4 @@ pub mod LineLemmas
 pub mod DigitLanes
 pub mod LineEnds
 mod DecimalLemmas
+mod EntryLemmas

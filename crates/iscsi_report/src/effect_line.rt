@@ -5,7 +5,7 @@ ghost use Rattle.hex.specs.Hex.{encode_lower};
 ghost use Rattle.iscsi_wire.specs.Pdus.{pdu_header, pdu_tail};
 ghost use Rattle.iscsi_report.specs.Lines.{eight_digits, request_fields, enter_fields, attr_word, why_word, effect_line};
 
-use crate::decimal::{put_number, put_small, put_small_and_blank};
+use crate::decimal::{Digits, put_small, put_small_and_blank};
 use crate::line::{put_bytes, put_digits, put_header, put_text, put_two_numbers};
 use iscsi_history::{Effect, Numbers, Why};
 use iscsi_tasks::Attr;
@@ -21,20 +21,16 @@ pub fn write_effect(effect: &Effect, numbers: Numbers, line: &mut [u8], at: usiz
     ensures written { take result line.new ≡ take at line.old ++ effect_line effect.now numbers }
 {
     match effect {
-        Effect::Deliver { request } => {
-            let word = *b"  deliver ";
-            write_request(&word, request, line, at)
-        }
+        Effect::Deliver { request } => write_deliver(request, line, at),
         Effect::Immediate { request } => write_request(b"  immediate ", request, line, at),
         Effect::Wait { request } => write_request(b"  wait ", request, line, at),
         Effect::Void { sn } => write_place(b"  void ", *sn, line, at),
         Effect::Empty { sn } => write_place(b"  empty ", *sn, line, at),
-        Effect::Enter { ticket, unit, attr } => write_enter(*ticket, *unit, *attr, line, at),
-        Effect::Enable { ticket, .. } => {
-            let word = *b"  enable ";
-            write_ticket(&word, *ticket, line, at)
+        Effect::Enter { ticket, unit, attr } => {
+            write_enter(&Digits::of(*ticket), *unit, *attr, line, at)
         }
-        Effect::Leave { ticket, .. } => write_ticket(b"  leave ", *ticket, line, at),
+        Effect::Enable { ticket, .. } => write_enable(&Digits::of(*ticket), line, at),
+        Effect::Leave { ticket, .. } => write_leave(&Digits::of(*ticket), line, at),
         Effect::Send {
             conn,
             stat_sn,
@@ -59,6 +55,18 @@ fn write_why(why: Why, line: &mut [u8], at: usize) -> usize
         Why::Stale => put_text(b"  ignore stale\n", line, at),
         Why::Data => put_text(b"  ignore data\n", line, at),
     }
+}
+
+/// The line of a request that executes in its turn.
+#[inline(always)]
+pub fn write_deliver(request: &Request, line: &mut [u8], at: usize) -> usize
+    requires { at + 256 ≤ length line.old }
+    ensures end { result ≤ at + 256 }
+    ensures written { take result line.new ≡ take at line.old
+        ++ (codes "  deliver " ++ (request_fields request.now ++ codes "\n")) }
+{
+    let word = *b"  deliver ";
+    write_request(&word, request, line, at)
 }
 
 /// A word and the fields of a request.
@@ -88,16 +96,38 @@ fn write_place(word: &[u8], sn: u32, line: &mut [u8], at: usize) -> usize
     put_text(b"\n", line, at)
 }
 
+/// The line of a command that may be started.
+#[inline(always)]
+pub fn write_enable(ticket: &Digits, line: &mut [u8], at: usize) -> usize
+    requires { at + 256 ≤ length line.old }
+    ensures end { result ≤ at + 256 }
+    ensures written { take result line.new ≡ take at line.old ++ (codes "  enable " ++ (decimal ticket.now ++ codes "\n")) }
+{
+    let word = *b"  enable ";
+    write_ticket(&word, ticket, line, at)
+}
+
+/// The line of a command that leaves its task set.
+#[inline(always)]
+pub fn write_leave(ticket: &Digits, line: &mut [u8], at: usize) -> usize
+    requires { at + 256 ≤ length line.old }
+    ensures end { result ≤ at + 256 }
+    ensures written { take result line.new ≡ take at line.old ++ (codes "  leave " ++ (decimal ticket.now ++ codes "\n")) }
+{
+    let word = *b"  leave ";
+    write_ticket(&word, ticket, line, at)
+}
+
 /// A word and a ticket.
 #[inline(always)]
-fn write_ticket(word: &[u8], ticket: u64, line: &mut [u8], at: usize) -> usize
+fn write_ticket(word: &[u8], ticket: &Digits, line: &mut [u8], at: usize) -> usize
     requires short { length word.now ≤ 12 }
     requires room { at + 256 ≤ length line.old }
     ensures end { result ≤ at + 256 }
-    ensures written { take result line.new ≡ take at line.old ++ (word.now ++ (decimal ticket ++ codes "\n")) }
+    ensures written { take result line.new ≡ take at line.old ++ (word.now ++ (decimal ticket.now ++ codes "\n")) }
 {
     let at = put_text(word, line, at);
-    let at = put_number(ticket, line, at);
+    let at = ticket.put(line, at);
     put_text(b"\n", line, at)
 }
 
@@ -112,15 +142,16 @@ fn write_closing(conn: u16, line: &mut [u8], at: usize) -> usize
     put_text(b"\n", line, at)
 }
 
+/// The line of a command that enters the task set of a unit.
 #[inline(always)]
-fn write_enter(ticket: u64, unit: u16, attr: Attr, line: &mut [u8], at: usize) -> usize
+pub fn write_enter(ticket: &Digits, unit: u16, attr: Attr, line: &mut [u8], at: usize) -> usize
     requires { at + 256 ≤ length line.old }
     ensures end { result ≤ at + 256 }
     ensures written { take result line.new ≡ take at line.old
-        ++ (codes "  enter " ++ (enter_fields ticket unit attr ++ codes "\n")) }
+        ++ (codes "  enter " ++ (enter_fields ticket.now unit attr ++ codes "\n")) }
 {
     let at = put_text(b"  enter ", line, at);
-    let at = put_number(ticket, line, at);
+    let at = ticket.put(line, at);
     let at = put_text(b" ", line, at);
     let at = put_small(unit, line, at);
     put_attr(attr, line, at)
@@ -145,7 +176,7 @@ fn put_attr(attr: Attr, line: &mut [u8], at: usize) -> usize
 
 /// It is apart from the others, since its header stands on the stack.
 #[inline(never)]
-fn write_send(
+pub fn write_send(
     conn: u16,
     stat_sn: u32,
     reply: &Reply,

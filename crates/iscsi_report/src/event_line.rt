@@ -3,7 +3,7 @@
 ghost use Rattle.std.specs.Prelude.{◌≡◌, ◌+◌, ◌≤◌, ◌++◌, length, take};
 ghost use Rattle.iscsi_report.specs.Lines.{event_line};
 
-use crate::decimal::{put_number, put_small_and_blank};
+use crate::decimal::{Digits, put_small_and_blank};
 use crate::line::{put_byte, put_header, put_text};
 use iscsi_history::Event;
 
@@ -16,12 +16,13 @@ pub fn write_event(event: &Event, line: &mut [u8], at: usize) -> usize
 {
     match event {
         Event::Arrive { conn, header } => write_arrival(*conn, header, line, at),
-        Event::Done { ticket, status } => write_completion(*ticket, *status, line, at),
+        Event::Done { ticket, status } => write_completion(&Digits::of(*ticket), *status, line, at),
     }
 }
 
+/// The line of an arrival.
 #[inline(always)]
-fn write_arrival(conn: u16, header: &[u8; 48], line: &mut [u8], at: usize) -> usize
+pub fn write_arrival(conn: u16, header: &[u8; 48], line: &mut [u8], at: usize) -> usize
     requires { at + 256 ≤ length line.old }
     ensures end { result ≤ at + 256 }
     ensures written { take result line.new ≡ take at line.old ++ event_line (Event.Arrive conn header.now) }
@@ -32,14 +33,15 @@ fn write_arrival(conn: u16, header: &[u8; 48], line: &mut [u8], at: usize) -> us
     put_text(b"\n", line, at)
 }
 
+/// The line of the completion of the command with this ticket.
 #[inline(always)]
-fn write_completion(ticket: u64, status: u8, line: &mut [u8], at: usize) -> usize
+pub fn write_completion(ticket: &Digits, status: u8, line: &mut [u8], at: usize) -> usize
     requires { at + 256 ≤ length line.old }
     ensures end { result ≤ at + 256 }
-    ensures written { take result line.new ≡ take at line.old ++ event_line (Event.Done ticket status) }
+    ensures written { take result line.new ≡ take at line.old ++ event_line (Event.Done ticket.now status) }
 {
     let at = put_text(b"> D ", line, at);
-    let at = put_number(ticket, line, at);
+    let at = ticket.put(line, at);
     let at = put_text(b" ", line, at);
     let at = put_byte(status, line, at);
     put_text(b"\n", line, at)
