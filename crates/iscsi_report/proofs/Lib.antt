@@ -3,3 +3,4 @@ pub mod DigitLanes
 pub mod LineEnds
 mod DecimalLemmas
 mod EntryLemmas
+mod AnswerDigits

@@ -1,10 +1,9 @@
 //! Decimal numbers, written from a place of a slice on.
 
-ghost use Rattle.std.specs.Prelude.{◌≡◌, ◌+◌, ◌*◌, ◌<◌, ◌≤◌, ◌++◌, length, take, codes, decimal};
+ghost use Rattle.std.specs.Prelude.{◌≡◌, ◌+◌, ◌*◌, ◌<◌, ◌≤◌, ◌++◌, length, take, drop, codes, decimal};
 ghost use Rattle.iscsi_report.specs.Decimals.{two_digits};
 
 use crate::line::put_text;
-use std::marker::Model;
 
 /// The most digits of a number, which is room that each number needs.
 const MOST_DIGITS: usize = 20;
@@ -188,58 +187,17 @@ fn put_larger(n: u32, line: &mut [u8], at: usize) -> usize
     put_eight(n, line, at)
 }
 
-/// The digits of a decimal number, which is written more than once.
-#[derive(Drop)]
-pub struct Digits {
-    number: u64,
-    digits: [u8; 24],
-    len: usize,
-}
-
-impl Model for Digits {
-    ghost use Rattle.std.specs.Prelude.{ℕ, ◌≡◌, ◌≤◌, take, decimal};
-
-    ghost Value = { ℕ };
-
-    ghost view = { λ d. d.number };
-
-    ghost invariant = { λ d. (d.len ≤ 20) × (take d.len d.digits ≡ decimal d.number) };
-}
-
-impl Digits {
-    /// Those of this number.
-    #[inline(always)]
-    pub fn of(number: u64) -> Digits
-        ensures { result ≡ number }
-    {
-        let mut digits = [0u8; 24];
-        let len = put_number(number, &mut digits, 0);
-        Digits {
-            number,
-            digits,
-            len,
-        }
-    }
-
-    /// Makes them those of this number, which they mostly are.
-    #[inline(always)]
-    pub fn become_those_of(&mut self, number: u64)
-        ensures { self.new ≡ number }
-    {
-        if number != self.number {
-            *self = Digits::of(number);
-        }
-    }
-
-    /// Writes them.
-    #[inline(always)]
-    pub fn put(&self, line: &mut [u8], at: usize) -> usize
-        requires { at + 24 ≤ length line.old }
-        ensures end { (at ≤ result) × (result ≤ at + 20) }
-        ensures written { take result line.new ≡ take at line.old ++ decimal self.now }
-    {
-        // All are written at once, the last of which are behind the end.
-        put_text(&self.digits, line, at);
-        at + self.len
-    }
+/// Writes a decimal number again whose digits stand at these places.
+#[inline(always)]
+pub fn put_again(from: usize, to: usize, line: &mut [u8], at: usize) -> usize
+    requires places { (from ≤ to) × (to ≤ from + 20) × (to ≤ at) }
+    requires room { at + 24 ≤ length line.old }
+    ensures end { (at ≤ result) × (result ≤ at + 20) }
+    ensures written { take result line.new ≡ take at line.old ++ drop from (take to line.old) }
+{
+    // So many are written at once, the last of which are behind the end.
+    let mut digits = [0u8; 24];
+    digits.copy_from_slice(&line[from..from + 24]);
+    put_text(&digits, line, at);
+    at + (to - from)
 }

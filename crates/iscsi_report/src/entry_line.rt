@@ -1,12 +1,12 @@
 //! The lines of an event and of its effects.
 
-ghost use Rattle.std.specs.Prelude.{◌≡◌, ◌+◌, ◌*◌, ◌<◌, ◌≤◌, ◌++◌, length, take};
+ghost use Rattle.std.specs.Prelude.{◌≡◌, ◌+◌, ◌*◌, ◌<◌, ◌≤◌, ◌++◌, length, take, drop, decimal};
 ghost use Rattle.std.specs.List.{flat_map};
 ghost use Rattle.iscsi_report.specs.Lines.{event_line, effect_line, entry_lines};
 
-use crate::decimal::Digits;
 use crate::effect_line::{
-    write_deliver, write_effect, write_enable, write_enter, write_leave, write_send,
+    write_deliver, write_effect, write_enable, write_enter, write_ignore, write_leave, write_send,
+    write_ticket_again,
 };
 use crate::event_line::{write_arrival, write_completion};
 use iscsi_history::{Effect, Event, Numbers};
@@ -50,23 +50,26 @@ fn write_done(
     ensures written { take result line.new ≡ take at line.old
         ++ (event_line (Event.Done ticket status) ++ flat_map (λ effect. effect_line effect numbers) effects.now) }
 {
-    let ticket = Digits::of(ticket);
-    let at = write_completion(&ticket, status, line, at);
-    let (count, at) = write_response(ticket, effects, numbers, line, at);
-    write_effects(&effects[count..], numbers, line, at)
+    let (ticket_end, end) = write_completion(ticket, status, line, at);
+    let (count, end) = write_response(ticket, at + 4, ticket_end, effects, numbers, line, end);
+    write_effects(&effects[count..], numbers, line, end)
 }
 
 /// Writes the lines of the first effects of a completion if they are that the command leaves and a response goes out, and
-/// says how many and where they end.
+/// says how many and where they end. The digits of the ticket that was completed stand at these places.
 #[inline(always)]
 fn write_response(
-    ticket: Digits,
+    ticket: u64,
+    from: usize,
+    to: usize,
     effects: &[Effect],
     numbers: Numbers,
     line: &mut [u8],
     at: usize,
 ) -> (usize, usize)
-    requires { at + 256 * length effects.now ≤ length line.old }
+    requires places { (from ≤ to) × (to ≤ from + 20) × (to ≤ at) }
+    requires digits { drop from (take to line.old) ≡ decimal ticket }
+    requires room { at + 256 * length effects.now ≤ length line.old }
     ensures count { result.0 ≤ length effects.now }
     ensures end { result.1 ≤ at + 256 * result.0 }
     ensures written { take result.1 line.new ≡ take at line.old
@@ -82,9 +85,12 @@ fn write_response(
         ..
     ] = effects
     {
-        let mut ticket = ticket;
-        ticket.become_those_of(*left);
-        let at = write_leave(&ticket, line, at);
+        let at = if *left == ticket {
+            let word = *b"  leave ";
+            write_ticket_again(&word, from, to, line, at)
+        } else {
+            write_leave(*left, line, at)
+        };
         return (2, write_send(*conn, *stat_sn, reply, numbers, line, at));
     }
     (0, at)
@@ -93,6 +99,23 @@ fn write_response(
 /// Writes the lines of effects.
 #[inline(always)]
 fn write_effects(effects: &[Effect], numbers: Numbers, line: &mut [u8], at: usize) -> usize
+    requires { at + 256 * length effects.now ≤ length line.old }
+    ensures end { result ≤ at + 256 * length effects.now }
+    ensures written { take result line.new ≡ take at line.old
+        ++ flat_map (λ effect. effect_line effect numbers) effects.now }
+{
+    if effects.is_empty() {
+        return at;
+    }
+    if let [Effect::Ignore { why }] = effects {
+        return write_ignore(*why, line, at);
+    }
+    write_all(effects, numbers, line, at)
+}
+
+/// The same. It is apart, since many events have no effects, or none that is left, or are passed over.
+#[inline(never)]
+fn write_all(effects: &[Effect], numbers: Numbers, line: &mut [u8], at: usize) -> usize
     requires { at + 256 * length effects.now ≤ length line.old }
     ensures end { result ≤ at + 256 * length effects.now }
     ensures written { take result line.new ≡ take at line.old
@@ -129,11 +152,13 @@ fn write_first(effects: &[Effect], numbers: Numbers, line: &mut [u8], at: usize)
         ..
     ] = effects
     {
-        let mut ticket = Digits::of(*ticket);
         let at = write_deliver(request, line, at);
-        let at = write_enter(&ticket, *unit, *attr, line, at);
-        ticket.become_those_of(*enabled);
-        return (3, write_enable(&ticket, line, at));
+        let (ticket_end, end) = write_enter(*ticket, *unit, *attr, line, at);
+        if *enabled != *ticket {
+            return (3, write_enable(*enabled, line, end));
+        }
+        let word = *b"  enable ";
+        return (3, write_ticket_again(&word, at + 8, ticket_end, line, end));
     }
     (1, write_effect(&effects[0], numbers, line, at))
 }

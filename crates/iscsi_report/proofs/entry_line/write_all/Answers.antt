@@ -1,7 +1,7 @@
 use Rattle.std.proofs.Common.{ℕ, List, ◌++◌, ◌-◌, take, drop, length, ap, ◌∙◌, arith}
 use Rattle.std.proofs.lemmas.List.{length-take, length-drop}
 use Rattle.iscsi_report.proofs.EntryLemmas.{lines_of, lines_of_both}
-use Rattle.iscsi_report.proofs.entry_line.write_effects.Goals as goal
+use Rattle.iscsi_report.proofs.entry_line.write_all.Goals as goal
 
 pub effects-preserved : goal.effects-preserved
 effects-preserved c =

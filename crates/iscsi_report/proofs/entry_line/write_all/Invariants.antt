@@ -1,7 +1,7 @@
 use Rattle.std.proofs.Common.{◌≡◌, ◌≤◌, ◌+◌, ◌*◌, ◌++◌, length, take}
 use Rattle.std.specs.List.{flat_map}
 use Rattle.iscsi_report.specs.Lines.{effect_line}
-use Rattle.iscsi_report.proofs.entry_line.write_effects.Given as goal
+use Rattle.iscsi_report.proofs.entry_line.write_all.Given as goal
 
 abbrev pub invariant-effects : goal.invariant-effects
 invariant-effects l = record {
