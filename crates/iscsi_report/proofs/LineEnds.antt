@@ -31,7 +31,8 @@ between new old text from to e within =
 
 -- the same text, written again as the front of what stands from there on
 pub again : (new old text : List ℕ) (at from to size end : ℕ) → take end new ≡ take at old ++ text → end ≡ at + length text → at ≤ length old
-    → text ≡ take size (drop from old) → from ≤ to → to - from ≤ size → to - from ≤ length text → take (at + (to - from)) new ≡ take at old ++ drop from (take to old)
+    → text ≡ take size (drop from old) → from ≤ to → to - from ≤ size → to - from ≤ length text
+    → take (at + (to - from)) new ≡ take at old ++ drop from (take to old)
 again new old text at from to size end e long within is le small few =
     let sum : from + (to - from) ≡ to = omega arith in
     front new old text at (to - from) end e long within few

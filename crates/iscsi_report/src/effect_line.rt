@@ -192,7 +192,8 @@ fn write_closing(conn: u16, line: &mut [u8], at: usize) -> usize
 #[inline(always)]
 pub fn write_enter(ticket: u64, unit: u16, attr: Attr, line: &mut [u8], at: usize) -> (usize, usize)
     requires { at + 256 ≤ length line.old }
-    ensures ticket { (at + 8 ≤ result.0) × (result.0 ≤ at + 28) × (drop (at + 8) (take result.0 line.new) ≡ decimal ticket) }
+    ensures ticket { (at + 8 ≤ result.0) × (result.0 ≤ at + 28)
+        × (drop (at + 8) (take result.0 line.new) ≡ decimal ticket) }
     ensures end { (result.0 ≤ result.1) × (result.1 ≤ at + 256) }
     ensures written { take result.1 line.new ≡ take at line.old
         ++ (codes "  enter " ++ (enter_fields ticket unit attr ++ codes "\n")) }
@@ -305,8 +306,8 @@ fn write_answer(
     ensures end { result ≤ at + 256 }
     ensures written { take result line.new ≡ take at line.old
         ++ (codes "  send " ++ (decimal conn ++ (codes " " ++ (encode_lower (opcode ∷ 0x80 ∷ response ∷ status
-        ∷ replicate 12 0 ++ bytes_4 itt ++ replicate 4 0 ++ bytes_4 stat_sn ++ bytes_4 numbers.exp ++ bytes_4 numbers.max
-        ++ replicate 12 0) ++ codes "\n")))) }
+        ∷ replicate 12 0 ++ bytes_4 itt ++ replicate 4 0 ++ bytes_4 stat_sn ++ bytes_4 numbers.exp
+        ++ bytes_4 numbers.max ++ replicate 12 0) ++ codes "\n")))) }
 {
     let (front, back) = digits_of_four(itt, stat_sn, numbers.exp, numbers.max);
     let word = *b"  send ";

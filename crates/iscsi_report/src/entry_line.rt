@@ -55,8 +55,8 @@ fn write_done(
     write_effects(&effects[count..], numbers, line, end)
 }
 
-/// Writes the lines of the first effects of a completion if they are that the command leaves and a response goes out, and
-/// says how many and where they end. The digits of the ticket that was completed stand at these places.
+/// Writes the lines of the first effects of a completion if they are that the command leaves and a response goes out,
+/// and says how many and where they end. The digits of the ticket that was completed stand at these places.
 #[inline(always)]
 fn write_response(
     ticket: u64,

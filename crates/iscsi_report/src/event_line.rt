@@ -38,7 +38,8 @@ pub fn write_arrival(conn: u16, header: &[u8; 48], line: &mut [u8], at: usize) -
 #[inline(always)]
 pub fn write_completion(ticket: u64, status: u8, line: &mut [u8], at: usize) -> (usize, usize)
     requires { at + 256 ≤ length line.old }
-    ensures ticket { (at + 4 ≤ result.0) × (result.0 ≤ at + 24) × (drop (at + 4) (take result.0 line.new) ≡ decimal ticket) }
+    ensures ticket { (at + 4 ≤ result.0) × (result.0 ≤ at + 24)
+        × (drop (at + 4) (take result.0 line.new) ≡ decimal ticket) }
     ensures end { (result.0 ≤ result.1) × (result.1 ≤ at + 256) }
     ensures written { take result.1 line.new ≡ take at line.old ++ event_line (Event.Done ticket status) }
 {

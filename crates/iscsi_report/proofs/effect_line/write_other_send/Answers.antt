@@ -5,4 +5,5 @@ use Rattle.iscsi_report.proofs.effect_line.write_other_send.Goals as goal
 pub returns-in-Task-clause-written : goal.returns-in-Task-clause-written
 returns-in-Task-clause-written c =
     let r = c.in-Task in
-    c.write_answer.ensures.written ∙ ap (λ (l : List ℕ). take c.args.at c.args.line.now ++ l) (task_line c.args.conn r.itt r.response c.args.stat_sn c.args.numbers c.args.reply.now r.is)
+    c.write_answer.ensures.written ∙ ap (λ (l : List ℕ). take c.args.at c.args.line.now ++ l) (task_line c.args.conn r.itt r.response c.args.stat_sn
+    c.args.numbers c.args.reply.now r.is)

@@ -7,4 +7,5 @@ pub returns-in-Scsi-default-default-None-clause-written :
 returns-in-Scsi-default-default-None-clause-written c =
     let r = c.in-Scsi-default-default-None in
     let none : r.sense ≡ None = search rules in
-    c.write_answer.ensures.written ∙ ap (λ (l : List ℕ). take c.args.at c.args.line.now ++ l) (response_line c.args.conn r.itt r.status c.args.stat_sn c.args.numbers c.args.reply.now r.sense r.is none)
+    c.write_answer.ensures.written ∙ ap (λ (l : List ℕ). take c.args.at c.args.line.now ++ l) (response_line c.args.conn r.itt r.status c.args.stat_sn
+    c.args.numbers c.args.reply.now r.sense r.is none)

@@ -8,7 +8,14 @@ effects-preserved c =
     let k = c.write_first-count.result.0 in
     let rest = c.effects.rest.now in
     record {
-      bound = omega (arith, c.effects.invariant.bound, c.write_first-count.ensures.count, c.write_first-count.ensures.end, length-drop k rest, length-take (length rest - k) (drop k rest));
+      bound = omega (
+        arith,
+        c.effects.invariant.bound,
+        c.write_first-count.ensures.count,
+        c.write_first-count.ensures.end,
+        length-drop k rest,
+        length-take (length rest - k) (drop k rest),
+      );
       written = ap (λ (l : List ℕ). l ++ lines_of c.args.numbers (take (length rest - k) (drop k rest))) c.write_first-count.ensures.written
           ∙ lines_of_both c.args.numbers k rest _ ∙ c.effects.invariant.written;
     }
