@@ -1,11 +1,10 @@
 //! A recording and its report.
 
-ghost use Rattle.std.specs.Prelude.{◌≡◌, ◌≢◌, ◌↔◌, ◌⊎◌, ◌++◌, ◌<◌, ◌≤◌, true, false, [], length, IfSome, OnOk, IfOk, IfErr, IsErrOf, MatchResult, Ok};
+ghost use Rattle.std.specs.Prelude.{◌≡◌, ◌≢◌, ◌↔◌, ◌⊎◌, ◌<◌, ◌≤◌, true, false, [], length, IfSome, OnOk, IfOk, IfErr, IsErrOf, MatchResult, Ok};
 ghost use Rattle.std.specs.List.{list_all};
 ghost use Rattle.std.specs.Io.KnownBytes.{Appends};
 ghost use Rattle.iscsi_history.specs.rules.Settings.{is_valid};
 ghost use Rattle.iscsi_session.specs.private.Standing.{StandsFor};
-ghost use Rattle.iscsi_report.specs.Lines.{event_line, entry_lines};
 ghost use Rattle.iscsi_settings.specs.Limits.{are_valid};
 ghost use Rattle.iscsi_recording.specs.Recorded.{Recorded, view, read_of, belongs_to};
 ghost use Rattle.iscsi_recording.specs.Order.{ReadsInOrder};
@@ -19,9 +18,9 @@ use iscsi_recording::{
     EventSource, NO_EVENT, Recording, ReplayFault, Sink, Source, put_all, read_recording,
 };
 use iscsi_report::Lines;
-use iscsi_session::{Effect, Event, Numbers, Options, Session, SessionFault};
+use iscsi_session::{Options, Session, SessionFault};
 use iscsi_settings::Settings;
-use std::alloc::{AllocError, Global};
+use std::alloc::Global;
 
 /// The most events that a session takes: a recording has no more lines.
 const MAX_EVENTS: u64 = 1_048_576;
@@ -64,24 +63,6 @@ fn open(
         Ok(session) => Ok(session),
         Err(fault) => Err(fault_of(fault)),
     }
-}
-
-/// Appends the lines of an event and of its effects.
-#[inline(always)]
-fn put_entry(
-    event: &Event,
-    numbers: Numbers,
-    effects: &[Effect],
-    lines: &mut Lines,
-) -> Result<(), AllocError>
-    ensures ok { OnOk result (lines.new ≡ lines.old
-        ++ (event_line event.now ++ entry_lines (record { numbers = numbers; effects = effects.now }))) }
-{
-    lines.put_event(event)?;
-    for effect in effects {
-        lines.put_effect(effect, numbers)?;
-    }
-    Ok(())
 }
 
 /// Writes out the lines that wait, once they are many.
@@ -134,7 +115,7 @@ pub fn write_report<E: EventSource, W: Sink>(
             Ok(numbers) => numbers,
             Err(fault) => return Err(fault_of(fault)),
         };
-        let Ok(()) = put_entry(&event, numbers, &effects, &mut lines) else {
+        let Ok(()) = lines.put_entry(&event, numbers, &effects) else {
             return Err(ReplayFault::NoMemory);
         };
         write_chunk(&mut lines, writer)?;

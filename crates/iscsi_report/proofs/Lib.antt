@@ -2,3 +2,5 @@ pub mod LineLemmas
 pub mod DigitLanes
 pub mod LineEnds
 mod DecimalLemmas
+mod EntryLemmas
+mod AnswerDigits

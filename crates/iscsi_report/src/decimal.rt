@@ -1,6 +1,6 @@
 //! Decimal numbers, written from a place of a slice on.
 
-ghost use Rattle.std.specs.Prelude.{◌≡◌, ◌+◌, ◌*◌, ◌<◌, ◌≤◌, ◌++◌, length, take, codes, decimal};
+ghost use Rattle.std.specs.Prelude.{◌≡◌, ◌+◌, ◌*◌, ◌<◌, ◌≤◌, ◌++◌, length, take, drop, codes, decimal};
 ghost use Rattle.iscsi_report.specs.Decimals.{two_digits};
 
 use crate::line::put_text;
@@ -185,4 +185,19 @@ fn put_larger(n: u32, line: &mut [u8], at: usize) -> usize
     ensures written { take result line.new ≡ take at line.old ++ decimal n }
 {
     put_eight(n, line, at)
+}
+
+/// Writes a decimal number again whose digits stand at these places.
+#[inline(always)]
+pub fn put_again(from: usize, to: usize, line: &mut [u8], at: usize) -> usize
+    requires places { (from ≤ to) × (to ≤ from + 20) × (to ≤ at) }
+    requires room { at + 24 ≤ length line.old }
+    ensures end { (at ≤ result) × (result ≤ at + 20) }
+    ensures written { take result line.new ≡ take at line.old ++ drop from (take to line.old) }
+{
+    // So many are written at once, the last of which are behind the end.
+    let mut digits = [0u8; 24];
+    digits.copy_from_slice(&line[from..from + 24]);
+    put_text(&digits, line, at);
+    at + (to - from)
 }

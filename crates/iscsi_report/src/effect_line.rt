@@ -1,15 +1,25 @@
 //! The line of an effect.
 
-ghost use Rattle.std.specs.Prelude.{◌≡◌, ◌+◌, ◌≤◌, ◌++◌, length, take, codes, decimal};
+ghost use Rattle.std.specs.Prelude.{◌≡◌, ◌+◌, ◌≤◌, ◌++◌, ◌∷◌, length, take, drop, codes, decimal, replicate};
 ghost use Rattle.hex.specs.Hex.{encode_lower};
 ghost use Rattle.iscsi_wire.specs.Pdus.{pdu_header, pdu_tail};
+ghost use Rattle.iscsi_wire.specs.Replies.{bytes_4};
 ghost use Rattle.iscsi_report.specs.Lines.{eight_digits, request_fields, enter_fields, attr_word, why_word, effect_line};
 
-use crate::decimal::{put_number, put_small, put_small_and_blank};
-use crate::line::{put_bytes, put_digits, put_header, put_text, put_two_numbers};
+use crate::decimal::{put_again, put_number, put_small, put_small_and_blank};
+use crate::line::{
+    put_byte, put_bytes, put_digits, put_first_eight, put_header, put_last_eight, put_sixteen,
+    put_text, put_two_numbers,
+};
+use crate::vector::digits_of_four;
 use iscsi_history::{Effect, Numbers, Why};
 use iscsi_tasks::Attr;
 use iscsi_wire::{Pdu, Reply, Request};
+
+/// The opcodes of a SCSI Response and of a Task Management Function Response.
+const SCSI_RESPONSE: u8 = 0x21;
+
+const TASK_RESPONSE: u8 = 0x22;
 
 /// Writes the line of an effect of an event that ended with these numbers.
 ///
@@ -21,20 +31,14 @@ pub fn write_effect(effect: &Effect, numbers: Numbers, line: &mut [u8], at: usiz
     ensures written { take result line.new ≡ take at line.old ++ effect_line effect.now numbers }
 {
     match effect {
-        Effect::Deliver { request } => {
-            let word = *b"  deliver ";
-            write_request(&word, request, line, at)
-        }
-        Effect::Immediate { request } => write_request(b"  immediate ", request, line, at),
+        Effect::Deliver { request } => write_deliver(request, line, at),
+        Effect::Immediate { request } => write_immediate(request, line, at),
         Effect::Wait { request } => write_request(b"  wait ", request, line, at),
         Effect::Void { sn } => write_place(b"  void ", *sn, line, at),
         Effect::Empty { sn } => write_place(b"  empty ", *sn, line, at),
-        Effect::Enter { ticket, unit, attr } => write_enter(*ticket, *unit, *attr, line, at),
-        Effect::Enable { ticket, .. } => {
-            let word = *b"  enable ";
-            write_ticket(&word, *ticket, line, at)
-        }
-        Effect::Leave { ticket, .. } => write_ticket(b"  leave ", *ticket, line, at),
+        Effect::Enter { ticket, unit, attr } => { write_enter(*ticket, *unit, *attr, line, at).1 }
+        Effect::Enable { ticket, .. } => write_enable(*ticket, line, at),
+        Effect::Leave { ticket, .. } => write_leave(*ticket, line, at),
         Effect::Send {
             conn,
             stat_sn,
@@ -44,6 +48,16 @@ pub fn write_effect(effect: &Effect, numbers: Numbers, line: &mut [u8], at: usiz
         Effect::CloseSession => put_text(b"  close-session\n", line, at),
         Effect::Ignore { why } => write_why(*why, line, at),
     }
+}
+
+/// The line of an event that is passed over.
+#[inline(never)]
+pub fn write_ignore(why: Why, line: &mut [u8], at: usize) -> usize
+    requires { at + 256 ≤ length line.old }
+    ensures end { result ≤ at + 256 }
+    ensures written { take result line.new ≡ take at line.old ++ (codes "  ignore " ++ (why_word why ++ codes "\n")) }
+{
+    write_why(why, line, at)
 }
 
 #[inline(always)]
@@ -59,6 +73,30 @@ fn write_why(why: Why, line: &mut [u8], at: usize) -> usize
         Why::Stale => put_text(b"  ignore stale\n", line, at),
         Why::Data => put_text(b"  ignore data\n", line, at),
     }
+}
+
+/// The line of a request that executes in its turn.
+#[inline(always)]
+pub fn write_deliver(request: &Request, line: &mut [u8], at: usize) -> usize
+    requires { at + 256 ≤ length line.old }
+    ensures end { result ≤ at + 256 }
+    ensures written { take result line.new ≡ take at line.old
+        ++ (codes "  deliver " ++ (request_fields request.now ++ codes "\n")) }
+{
+    let word = *b"  deliver ";
+    write_request(&word, request, line, at)
+}
+
+/// The line of a request that executes at once.
+#[inline(always)]
+fn write_immediate(request: &Request, line: &mut [u8], at: usize) -> usize
+    requires { at + 256 ≤ length line.old }
+    ensures end { result ≤ at + 256 }
+    ensures written { take result line.new ≡ take at line.old
+        ++ (codes "  immediate " ++ (request_fields request.now ++ codes "\n")) }
+{
+    let word = *b"  immediate ";
+    write_request(&word, request, line, at)
 }
 
 /// A word and the fields of a request.
@@ -88,6 +126,28 @@ fn write_place(word: &[u8], sn: u32, line: &mut [u8], at: usize) -> usize
     put_text(b"\n", line, at)
 }
 
+/// The line of a command that may be started.
+#[inline(always)]
+pub fn write_enable(ticket: u64, line: &mut [u8], at: usize) -> usize
+    requires { at + 256 ≤ length line.old }
+    ensures end { result ≤ at + 256 }
+    ensures written { take result line.new ≡ take at line.old ++ (codes "  enable " ++ (decimal ticket ++ codes "\n")) }
+{
+    let word = *b"  enable ";
+    write_ticket(&word, ticket, line, at)
+}
+
+/// The line of a command that leaves its task set.
+#[inline(always)]
+pub fn write_leave(ticket: u64, line: &mut [u8], at: usize) -> usize
+    requires { at + 256 ≤ length line.old }
+    ensures end { result ≤ at + 256 }
+    ensures written { take result line.new ≡ take at line.old ++ (codes "  leave " ++ (decimal ticket ++ codes "\n")) }
+{
+    let word = *b"  leave ";
+    write_ticket(&word, ticket, line, at)
+}
+
 /// A word and a ticket.
 #[inline(always)]
 fn write_ticket(word: &[u8], ticket: u64, line: &mut [u8], at: usize) -> usize
@@ -98,6 +158,21 @@ fn write_ticket(word: &[u8], ticket: u64, line: &mut [u8], at: usize) -> usize
 {
     let at = put_text(word, line, at);
     let at = put_number(ticket, line, at);
+    put_text(b"\n", line, at)
+}
+
+/// A word and a ticket whose digits stand at these places.
+#[inline(always)]
+pub fn write_ticket_again(word: &[u8], from: usize, to: usize, line: &mut [u8], at: usize) -> usize
+    requires short { length word.now ≤ 12 }
+    requires places { (from ≤ to) × (to ≤ from + 20) × (to ≤ at) }
+    requires room { at + 256 ≤ length line.old }
+    ensures end { result ≤ at + 256 }
+    ensures written { take result line.new ≡ take at line.old
+        ++ (word.now ++ (drop from (take to line.old) ++ codes "\n")) }
+{
+    let at = put_text(word, line, at);
+    let at = put_again(from, to, line, at);
     put_text(b"\n", line, at)
 }
 
@@ -112,25 +187,29 @@ fn write_closing(conn: u16, line: &mut [u8], at: usize) -> usize
     put_text(b"\n", line, at)
 }
 
+/// The line of a command that enters the task set of a unit. It says first where the ticket ends, whose digits begin
+/// behind eight bytes.
 #[inline(always)]
-fn write_enter(ticket: u64, unit: u16, attr: Attr, line: &mut [u8], at: usize) -> usize
+pub fn write_enter(ticket: u64, unit: u16, attr: Attr, line: &mut [u8], at: usize) -> (usize, usize)
     requires { at + 256 ≤ length line.old }
-    ensures end { result ≤ at + 256 }
-    ensures written { take result line.new ≡ take at line.old
+    ensures ticket { (at + 8 ≤ result.0) × (result.0 ≤ at + 28)
+        × (drop (at + 8) (take result.0 line.new) ≡ decimal ticket) }
+    ensures end { (result.0 ≤ result.1) × (result.1 ≤ at + 256) }
+    ensures written { take result.1 line.new ≡ take at line.old
         ++ (codes "  enter " ++ (enter_fields ticket unit attr ++ codes "\n")) }
 {
     let at = put_text(b"  enter ", line, at);
-    let at = put_number(ticket, line, at);
-    let at = put_text(b" ", line, at);
+    let ticket_end = put_number(ticket, line, at);
+    let at = put_text(b" ", line, ticket_end);
     let at = put_small(unit, line, at);
-    put_attr(attr, line, at)
+    (ticket_end, put_attr(attr, line, at))
 }
 
 /// Writes an attribute, with the blank before it and the end of the line.
 #[inline(always)]
 fn put_attr(attr: Attr, line: &mut [u8], at: usize) -> usize
     requires { at + 16 ≤ length line.old }
-    ensures end { result ≤ at + 16 }
+    ensures end { (at ≤ result) × (result ≤ at + 16) }
     ensures written { take result line.new ≡ take at line.old ++ (codes " " ++ (attr_word attr ++ codes "\n")) }
 {
     match attr {
@@ -145,7 +224,7 @@ fn put_attr(attr: Attr, line: &mut [u8], at: usize) -> usize
 
 /// It is apart from the others, since its header stands on the stack.
 #[inline(never)]
-fn write_send(
+pub fn write_send(
     conn: u16,
     stat_sn: u32,
     reply: &Reply,
@@ -158,12 +237,94 @@ fn write_send(
     ensures written { take result line.new ≡ take at line.old
         ++ effect_line (Effect.Send conn stat_sn reply.now) numbers }
 {
-    // Most replies are of this kind. Here the compiler knows which, and that there is no tail.
-    if let Reply::Scsi { sense: None, .. } = reply {
-        let pdu = reply.encode(stat_sn, numbers.exp, numbers.max);
-        return write_header(conn, pdu.header(), line, at);
+    // Most replies are of this kind.
+    if let Reply::Scsi {
+        itt,
+        status,
+        sense: None,
+    } = reply
+    {
+        return write_answer(
+            conn,
+            SCSI_RESPONSE,
+            0,
+            *status,
+            *itt,
+            stat_sn,
+            numbers,
+            line,
+            at,
+        );
+    }
+    write_other_send(conn, stat_sn, reply, numbers, line, at)
+}
+
+#[inline(never)]
+fn write_other_send(
+    conn: u16,
+    stat_sn: u32,
+    reply: &Reply,
+    numbers: Numbers,
+    line: &mut [u8],
+    at: usize,
+) -> usize
+    requires { at + 256 ≤ length line.old }
+    ensures end { result ≤ at + 256 }
+    ensures written { take result line.new ≡ take at line.old
+        ++ effect_line (Effect.Send conn stat_sn reply.now) numbers }
+{
+    if let Reply::Task { itt, response } = reply {
+        return write_answer(
+            conn,
+            TASK_RESPONSE,
+            *response,
+            0,
+            *itt,
+            stat_sn,
+            numbers,
+            line,
+            at,
+        );
     }
     write_any_send(conn, stat_sn, reply, numbers, line, at)
+}
+
+/// The line of a reply that is a header alone, without a target transfer tag. Most of its digits are always the same.
+#[inline(always)]
+fn write_answer(
+    conn: u16,
+    opcode: u8,
+    response: u8,
+    status: u8,
+    itt: u32,
+    stat_sn: u32,
+    numbers: Numbers,
+    line: &mut [u8],
+    at: usize,
+) -> usize
+    requires { at + 256 ≤ length line.old }
+    ensures end { result ≤ at + 256 }
+    ensures written { take result line.new ≡ take at line.old
+        ++ (codes "  send " ++ (decimal conn ++ (codes " " ++ (encode_lower (opcode ∷ 0x80 ∷ response ∷ status
+        ∷ replicate 12 0 ++ bytes_4 itt ++ replicate 4 0 ++ bytes_4 stat_sn ++ bytes_4 numbers.exp
+        ++ bytes_4 numbers.max ++ replicate 12 0) ++ codes "\n")))) }
+{
+    let (front, back) = digits_of_four(itt, stat_sn, numbers.exp, numbers.max);
+    let word = *b"  send ";
+    let flags = *b"80";
+    let zeros = *b"000000000000000000000000\n";
+    let at = put_text(&word, line, at);
+    let at = put_small_and_blank(conn, line, at);
+    let at = put_byte(opcode, line, at);
+    let at = put_text(&flags, line, at);
+    let at = put_byte(response, line, at);
+    let at = put_byte(status, line, at);
+    let at = put_text(&zeros[..24], line, at);
+    let at = put_first_eight(front, line, at);
+    let at = put_text(&zeros[..8], line, at);
+    let at = put_last_eight(front, line, at);
+    let at = put_sixteen(back, line, at);
+    put_text(&zeros, line, at)
 }
 
 /// It is apart from `write_send`, since it needs more room on the stack.

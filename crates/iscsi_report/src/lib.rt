@@ -4,6 +4,7 @@
 
 mod decimal;
 mod effect_line;
+mod entry_line;
 mod event_line;
 mod line;
 mod lines;

@@ -53,13 +53,33 @@ pub fn put_two_numbers(bytes: &[u8], line: &mut [u8], at: usize) -> usize
 
 /// Writes the first eight of these.
 #[inline(always)]
-fn put_first_eight(digits: u8x16, line: &mut [u8], at: usize) -> usize
+pub fn put_first_eight(digits: u8x16, line: &mut [u8], at: usize) -> usize
     requires { (length digits ≡ 16) × (at + 16 ≤ length line.old) }
     ensures end { result ≡ at + 8 }
     ensures written { take result line.new ≡ take at line.old ++ take 8 digits }
 {
     put_text(&digits.to_array(), line, at);
     at + 8
+}
+
+/// Writes the last eight of these.
+#[inline(always)]
+pub fn put_last_eight(digits: u8x16, line: &mut [u8], at: usize) -> usize
+    requires { (length digits ≡ 16) × (at + 8 ≤ length line.old) }
+    ensures end { result ≡ at + 8 }
+    ensures written { take result line.new ≡ take at line.old ++ drop 8 digits }
+{
+    put_text(&digits.to_array()[8..], line, at)
+}
+
+/// Writes these.
+#[inline(always)]
+pub fn put_sixteen(digits: u8x16, line: &mut [u8], at: usize) -> usize
+    requires { (length digits ≡ 16) × (at + 16 ≤ length line.old) }
+    ensures end { result ≡ at + 16 }
+    ensures written { take result line.new ≡ take at line.old ++ digits }
+{
+    put_text(&digits.to_array(), line, at)
 }
 
 /// Writes the digits of a byte.
@@ -92,8 +112,8 @@ fn put_16(bytes: &[u8], line: &mut [u8], at: usize) -> usize
     ensures written { take result line.new ≡ take at line.old ++ encode_lower bytes.now }
 {
     let (front, back) = digits_of(u8x16::from_slice(bytes));
-    let at = put_text(&front.to_array(), line, at);
-    put_text(&back.to_array(), line, at)
+    let at = put_sixteen(front, line, at);
+    put_sixteen(back, line, at)
 }
 
 /// Writes the digits of at most 48 bytes.

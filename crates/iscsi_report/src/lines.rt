@@ -1,9 +1,10 @@
 //! A text to which lines are put.
 
-ghost use Rattle.std.specs.Prelude.{◌≡◌, ◌+◌, ◌≤◌, [], ◌++◌, length, take, vec_len, vec_capacity, OnOk, OnErr, IsOk};
-ghost use Rattle.iscsi_report.specs.Lines.{event_line, effect_line};
+ghost use Rattle.std.specs.Prelude.{◌≡◌, ◌+◌, ◌≤◌, [], ◌++◌, length, take, drop, vec_len, vec_capacity, OnOk, OnErr, IsOk};
+ghost use Rattle.iscsi_report.specs.Lines.{event_line, effect_line, entry_lines};
 
 use crate::effect_line::write_effect;
+use crate::entry_line::write_entry;
 use crate::event_line::write_event;
 use iscsi_history::{Effect, Event, Numbers};
 use std::alloc::{AllocError, Global};
@@ -92,6 +93,65 @@ impl Lines {
     {
         make_room(&mut self.memory, self.len)?;
         self.len = write_effect(effect, numbers, &mut self.memory, self.len);
+        Ok(())
+    }
+
+    /// Puts the lines of an event that ended with these numbers, and of its effects, behind the others. On `Err`, where
+    /// memory is refused, they stay as they were.
+    #[inline(always)]
+    pub fn put_entry(
+        &mut self,
+        event: &Event,
+        numbers: Numbers,
+        effects: &[Effect],
+    ) -> Result<(), AllocError>
+        ensures ok { OnOk result (self.new ≡ self.old
+            ++ (event_line event.now ++ entry_lines (record { numbers = numbers; effects = effects.now }))) }
+        ensures err { OnErr result (self.new ≡ self.old) }
+    {
+        // Where there mayn't be room for all, no more memory is asked for than the lines turn out to need.
+        if effects.len() >= (self.memory.len() - self.len) / LONGEST_LINE {
+            return self.put_all_or_none(event, numbers, effects);
+        }
+        self.len = write_entry(event, numbers, effects, &mut self.memory, self.len);
+        Ok(())
+    }
+
+    /// The same, a line after the other.
+    #[inline(never)]
+    fn put_all_or_none(
+        &mut self,
+        event: &Event,
+        numbers: Numbers,
+        effects: &[Effect],
+    ) -> Result<(), AllocError>
+        ensures ok { OnOk result (self.new ≡ self.old
+            ++ (event_line event.now ++ entry_lines (record { numbers = numbers; effects = effects.now }))) }
+        ensures err { OnErr result (self.new ≡ self.old) }
+    {
+        let before = self.len;
+        let put = self.put_line_by_line(event, numbers, effects);
+        if put.is_err() {
+            self.len = before;
+        }
+        put
+    }
+
+    /// The same, but for `Err`, behind which some of the lines may stand.
+    fn put_line_by_line(
+        &mut self,
+        event: &Event,
+        numbers: Numbers,
+        effects: &[Effect],
+    ) -> Result<(), AllocError>
+        ensures ok { OnOk result (self.new ≡ self.old
+            ++ (event_line event.now ++ entry_lines (record { numbers = numbers; effects = effects.now }))) }
+        ensures err { OnErr result (take (length self.old) self.new ≡ self.old) }
+    {
+        self.put_event(event)?;
+        for effect in effects {
+            self.put_effect(effect, numbers)?;
+        }
         Ok(())
     }
 }

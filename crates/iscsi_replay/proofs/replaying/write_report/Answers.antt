@@ -53,7 +53,7 @@ returns-in_err-write_chunk-clause-front g c =
     let before = so_far.before in
     let after = g.E.EventSource.rest c.next.new.self in
     let effects_are = effects_alone _ _ _ _ c.deref.ensures.value (c.in-Ok.ensures.effects o before so_far.stands) c.clear.ensures.items in
-    let waits = waits_next _ _ o before c.next.new.event c.events.lines c.put_entry.new.lines
+    let waits = waits_next _ _ o before c.next.new.event c.events.lines c.put_entry.new.self
     c.in-Ok.numbers c.deref.result.now c.in-Ok-put_entry.ensures.ok
     (c.in-Ok.ensures.numbers o before so_far.stands) effects_are so_far.written in
     front_of_all _ _ o (before ++ c.next.new.event ∷ []) after _ (past_next _ before (g.E.EventSource.rest c.events.events) after c.next.new.event so_far.whole (c.next.ensures.some c.events-test.true))
@@ -66,7 +66,7 @@ events-preserved g c =
     let before = so_far.before in
     let after = g.E.EventSource.rest c.next.new.self in
     let effects_are = effects_alone _ _ _ _ c.deref.ensures.value (c.in-Ok.ensures.effects o before so_far.stands) c.clear.ensures.items in
-    let waits = waits_next _ _ o before c.next.new.event c.events.lines c.put_entry.new.lines
+    let waits = waits_next _ _ o before c.next.new.event c.events.lines c.put_entry.new.self
     c.in-Ok.numbers c.deref.result.now c.in-Ok-put_entry.ensures.ok
     (c.in-Ok.ensures.numbers o before so_far.stands) effects_are so_far.written in
     record {
