@@ -7,7 +7,7 @@ use Rattle.iscsi_wire.specs.Fields.{connection_of}
 use Rattle.iscsi_history.specs.declared.effect.Why.{Why}
 use Rattle.iscsi_history.specs.rules.Settings.{Setting}
 use Rattle.iscsi_history.specs.rules.Trace.{Arrival, Command, Mark, Ignores, Trace, first_of, admits_at, delivers_number, empties_number, held, enters, entered, leaves_ticket, live, live_in, is_ended}
-use Rattle.iscsi_history.specs.rules.Execution.{exp_of, unfinished}
+use Rattle.iscsi_history.specs.rules.Execution.{exp_of}
 use Rattle.iscsi_history.specs.rules.Logout.{is_open, live_of_units, all_held}
 use Rattle.iscsi_history.proofs.BoolLemmas.{or_first, or_second}
 use Rattle.iscsi_history.proofs.ElementLemmas.{In, in-any, in-filter, filter-in, flat_map-in, range-in}

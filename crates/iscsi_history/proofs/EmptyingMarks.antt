@@ -4,7 +4,7 @@ use Rattle.std.specs.List.{filter_map, list_any, cons_option, range_with_len}
 use Rattle.std.proofs.lemmas.List.{append-nil}
 use Rattle.std.proofs.lemmas.Grind.{flat_map-append}
 use Rattle.iscsi_history.proofs.DeedLemmas.{views, tests}
-use Rattle.iscsi_history.specs.rules.Trace.{Arrival, Executes, Mark, Trace, admits_at, delivers_number, empties_number, number_received, Voids, Empties, admitted, contains, held, is_delivered, is_emptied, is_received, shown, received, Command, Leaves, Enters, Sends, held_among, has}
+use Rattle.iscsi_history.specs.rules.Trace.{Arrival, Executes, Mark, Trace, admits_at, delivers_number, empties_number, number_received, Voids, Empties, admitted, contains, held, is_delivered, is_emptied, is_received, shown, received, Command, Leaves, Enters, Sends, held_among}
 use Rattle.iscsi_wire.specs.declared.reply.Reply.{Reply}
 use Rattle.iscsi_history.specs.promises.Executed.{delivers, request_at}
 use Rattle.iscsi_history.proofs.DeliveryLemmas.{IsQuiet}

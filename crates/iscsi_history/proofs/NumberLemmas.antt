@@ -2,7 +2,6 @@
 use Rattle.std.proofs.Common.{◌<◌, ◌==◌, ◌^◌, arith, false, ℕ, ◌≡◌, ◌≤◌, ◌+◌, ◌-◌, nat_le, nat_lt, true, ◌%◌, ◌-ℤ◌, int_lt, pos, refl, List, [], ◌∷◌, cond}
 use Rattle.std.specs.Ordering.{int_eq}
 use Rattle.std.specs.List.{list_all, list_any}
-use Rattle.std.proofs.lemmas.Bool.Decides.{nat_tests}
 use Rattle.iscsi_wire.specs.Serial.{lift, wire}
 
 -- ---- on the wire

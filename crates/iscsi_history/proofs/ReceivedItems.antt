@@ -10,8 +10,8 @@ use Rattle.iscsi_history.specs.rules.Settings.{Setting}
 use Rattle.iscsi_history.specs.rules.Management.{may_wait, refusal_of_function}
 use Rattle.iscsi_history.specs.rules.Items.{execution, function_item, item_of, waiting_item, immediate_item, functions, is_waiting}
 use Rattle.iscsi_history.specs.promises.Flow.{HasOneMore}
-use Rattle.iscsi_history.specs.declared.kind.Kind.TheVariants.{PassedOver, Unknown, Executes as ExecutesKind}
-use Rattle.iscsi_history.specs.rules.Agenda.{arrival_as, arrival_open, kind_of, arrival_of, numbered}
+use Rattle.iscsi_history.specs.declared.kind.Kind.TheVariants.{Executes as ExecutesKind}
+use Rattle.iscsi_history.specs.rules.Agenda.{arrival_open, kind_of, arrival_of, numbered}
 use Rattle.iscsi_history.specs.declared.effect.Why.{Why}
 use Rattle.iscsi_history.proofs.BoolLemmas.{and_false, and_parts}
 use Rattle.iscsi_history.proofs.Forms.{Start, AtTurn, AtArrival, AfterWaiting, start_mark, Deeds, if_some, marks_done, Form, marks_of_form}
@@ -72,12 +72,6 @@ immediate_receives_one o t a = by_test (is_immediate a.request) refl
 -- ---- an arrival that isn't numbered
 
 -- what isn't received
-pub passed_receives : (o : Setting) (t : Trace) (a : Arrival) → kind_of a.request ≡ PassedOver → HasOneMore (received t) (received (after_items (arrival_open o t a) t))
-passed_receives o t a kind = inl (ap (λ k. received (after_items (arrival_as o t a k) t)) kind ∙ append-nil (received t))
-
-pub rejected_receives : (o : Setting) (t : Trace) (a : Arrival) → kind_of a.request ≡ Unknown → HasOneMore (received t) (received (after_items (arrival_open o t a) t))
-rejected_receives o t a kind = inl (ap (λ k. received (after_items (arrival_as o t a k) t)) kind ∙ append-nil (received t))
-
 pub ignored_receives : (t : Trace) (items : List (List Mark)) (why : Why) → items ≡ ignored why → HasOneMore (received t) (received (after_items items t))
 ignored_receives t items why is = inl (ap (λ (is : List (List Mark)). received (after_items is t)) is ∙ append-nil (received t))
 

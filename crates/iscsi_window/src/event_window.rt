@@ -18,8 +18,8 @@ use std::marker::Model;
 /// The most places of a window.
 const MOST_PLACES: u32 = 1024;
 
-/// A [`Window`](crate::Window) that keeps, with each request that it holds, the event in which it arrived, and that says how
-/// many it holds.
+/// A [`Window`](crate::Window) of command numbers (RFC 7143 section 4.2.2.1) that keeps, with each request that it holds, the
+/// event in which it arrived, and that says how many it holds.
 ///
 /// Its calls are those of `Window`, which is made of it: each gives the exact answer and the exact window after. Without the
 /// events (`shown`) it is the `Window` after the same calls.
