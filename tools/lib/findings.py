@@ -14,12 +14,17 @@ def compared(recording, answers):
     return Comparison(Replay(recording.events, places_of(recording.lines)), list(read(answers)))
 
 
+def span_of(session):
+    """The seconds from the first request or reply of a session to the last one, or nothing where it has none."""
+    return f"{session.items[-1].time - session.items[0].time:.3f}" if session.items else ""
+
+
 def findings(session, comparison):
     """Gives the parts of a session's line that say what happened in it."""
     items = session.items
     yield f"from {session.names[0] or 'an initiator that is not named'}" + (f" to port {session.port}" if session.port else "")
     if items:
-        yield f"{items[-1].time - items[0].time:.3f} s"
+        yield f"{span_of(session)} s"
     commands = sum(1 for item in items if item.request and item.request.opcode == SCSI_COMMAND)
     functions = Counter(item.request.name for item in items if item.request and item.request.opcode == TASK_MANAGEMENT)
     statuses = Counter(item.reply.outcome for item in items if item.reply and item.reply.ends_command and item.reply.status)

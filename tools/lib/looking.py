@@ -6,6 +6,7 @@ from html import escape
 from .beside import Beside
 from .answers import read
 from .files import write, writing
+from .findings import span_of
 from .page import END, Page, begin
 from .picture import connections, paint
 from .places import events_with_places
@@ -52,11 +53,10 @@ class Looked:
     def row_words(self):
         """The row of the session in the first table."""
         session, figures, counts = self.made.session, self.figures, self.made.comparison.counts
-        seconds = "" if figures.seconds is None else f"{figures.seconds:.3f}"
         sick = ", ".join(f"{count} × {kind}" for kind, count in sorted(counts.items()))
         statuses = ", ".join(f"{count} × {what.removeprefix('SCSI Response ')}" for what, count in figures.replies.items()
                              if what.startswith("SCSI Response ") and not what.endswith(" GOOD"))
-        cells = (f'<a href="#{self.name}">{escape(self.name)}</a>', escape(session.names[0] or "not known"), session.port, seconds,
+        cells = (f'<a href="#{self.name}">{escape(self.name)}</a>', escape(session.names[0] or "not known"), session.port, span_of(session),
                  figures.commands, figures.aborted, escape(statuses), f'<span class="sick">{escape(sick)}</span>')
         return "<tr>" + "".join(f"<td>{cell}</td>" for cell in cells) + "</tr>"
 
