@@ -1,11 +1,12 @@
 -- What a request does that executes, by what a session keeps: when it does that, and what stays as it was.
 use Rattle.std.proofs.Common.{◌≡◌, ℕ, ℤ, ◌+◌, ◌<◌, ◌≤◌, ◌==◌, ◌&&◌, not, cond, Bool, true, false, nat_lt, nat_le, length, count_by, is_some, Option, Some, None, refl, ap, sym, ◌∙◌, arith}
+use Rattle.std.proofs.lemmas.Bool.Decides.{nat_tests}
 use Rattle.std.proofs.lemmas.Bool.{false≢true, cond_both}
 use Rattle.std.proofs.lemmas.Bool.Decides.{nat_tests}
 use Rattle.iscsi_window.specs.declared.held_request.HeldRequest.{HeldRequest}
 use Rattle.iscsi_wire.specs.declared.request.Request.{Request}
 use Rattle.iscsi_wire.specs.Serial.{lift}
-use Rattle.iscsi_wire.specs.Fields.{connection_of, is_immediate, opcode, function, cmd_sn, ref_cmd_sn}
+use Rattle.iscsi_wire.specs.Fields.{connection_of, is_immediate, opcode, cmd_sn, ref_cmd_sn}
 use Rattle.iscsi_window.specs.declared.answer.Place.{Place}
 use Rattle.iscsi_window.specs.declared.answer.Place.TheVariants.{Inside, Outside}
 use Rattle.iscsi_window.specs.Windows.{HasRoom, IsInside, number_expected, room_of, place_in, held_at, received_at, emptied_if}
@@ -18,14 +19,13 @@ use Rattle.iscsi_history.specs.declared.deed.Deed.TheVariants.{Nothing, Wait, Re
 use Rattle.iscsi_history.specs.rules.Settings.{is_known}
 use Rattle.iscsi_history.specs.rules.Execution.{unit_named}
 use Rattle.iscsi_history.specs.rules.Management.{may_wait, MOST_WAITING}
-use Rattle.iscsi_history.specs.rules.Deeds.{Facts, of_unit, unit_deed, function_deed}
+use Rattle.iscsi_history.specs.rules.Deeds.{Facts, of_unit, function_deed}
 use Rattle.iscsi_session.specs.private.Standing.{Core}
 use Rattle.iscsi_session.specs.private.Steps.{set_at, is_set_full, waiting_in, is_numbered, is_gone, covers_ticket, aborted}
 use Rattle.iscsi_session.specs.private.Deeds.{refusal_by, live_by, held_by, missing_at, missing_by, facts_by, deed_by, waits_by, arrival_by, Fits, IsReady, most_emptied, carried}
 use Rattle.iscsi_history.proofs.BoolLemmas.{and_first, and_second}
 use Rattle.iscsi_history.proofs.ListLemmas.{fewer_counted}
 use Rattle.iscsi_history.proofs.DeedTable.{named_below, Befits, befits_function, befits_deed}
-use Rattle.iscsi_history.proofs.ReceivedItems.{no_abort_task}
 use Rattle.iscsi_session.proofs.LoggedOutLemmas.{Stays, logged_out_parts}
 use Rattle.iscsi_session.proofs.WindowLemmas.{emptied_changes, voided_changes}
 
@@ -102,15 +102,7 @@ is_whole (AbortAll unit) = true
 is_whole _ = false
 
 pub whole_function : (f : Facts) (r : Request) → may_wait r ≡ true → is_whole (function_deed f r) ≡ true
-whole_function f r may = by_unit f.unit
-  where
-    by_unit : (x : Option ℕ) → is_whole (elim x [ Some unit ↦ unit_deed f r unit | None ↦ Nothing ]) ≡ true
-    by_unit None = refl
-    by_unit (Some unit) =
-        cond_both (function r == 1) _ _ (λ d. is_whole d ≡ true) (λ one. absurd (false≢true (sym (no_abort_task r may) ∙ one))) (λ is.
-        cond_both (function r == 5) _ _ (λ d. is_whole d ≡ true) (λ is. refl) (λ is.
-        cond_both (function r == 9) _ _ (λ d. is_whole d ≡ true) (λ is. refl) (λ is.
-        cond_both (function r == 10) _ _ (λ d. is_whole d ≡ true) (λ is. refl) (λ is. refl))))
+whole_function f r may = grind (arith, nat_tests)
 
 -- which is ready, empties nothing and leaves the places of the window
 pub record Whole (s : Core) (r : Request) (number : ℤ) (event : ℕ) (d : Deed) : Type 0 where

@@ -126,8 +126,33 @@ impl Session {
     }
 
     /// A request is answered.
-    #[inline(never)]
+    // A function's response, which most are, has a way of its own: it is short.
+    #[inline(always)]
     pub(crate) fn answer(&mut self, request: &Request, answer: Answer, out: &mut Vec<Effect>)
+        requires room { vec_len out.old + 1 ≤ vec_capacity out.old }
+        ensures done { Takes (request_answered self.old request.now answer) self.new out.old out.new }
+        ensures len { vec_len out.new ≡ vec_len out.old + 1 }
+    {
+        match answer {
+            Answer::Respond(response) => self.respond(request, response, out),
+            other => self.answer_otherwise(request, other, out),
+        }
+    }
+
+    /// A function is answered by this response.
+    #[inline(never)]
+    fn respond(&mut self, request: &Request, response: u8, out: &mut Vec<Effect>)
+        requires room { vec_len out.old + 1 ≤ vec_capacity out.old }
+        ensures done { Takes (request_answered self.old request.now (Answer.Respond response)) self.new out.old out.new }
+        ensures len { vec_len out.new ≡ vec_len out.old + 1 }
+    {
+        let itt = request.itt();
+        self.reply(request.conn(), Reply::Task { itt, response }, out);
+    }
+
+    /// A request is answered, by any answer.
+    #[inline(never)]
+    fn answer_otherwise(&mut self, request: &Request, answer: Answer, out: &mut Vec<Effect>)
         requires room { vec_len out.old + 1 ≤ vec_capacity out.old }
         ensures done { Takes (request_answered self.old request.now answer) self.new out.old out.new }
         ensures len { vec_len out.new ≡ vec_len out.old + 1 }
