@@ -1,9 +1,10 @@
 -- The bounds stay right where a place is written, and where the first one turns; a search from a bound on.
-use Rattle.std.proofs.Common.{◌≡◌, ◌∙◌, ℕ, suc, ◌+◌, ◌-◌, ◌%◌, ◌^◌, ◌<◌, ◌≤◌, ◌==◌, ◌++◌, Bool, true, false, cond, List, [], ◌∷◌, length, min, nat_lt, take, drop, replicate, set, get_or, position, Option, Some, None, arith, ap, sym, refl, subst, ⊎_elim, length-set, get_or-set_same, get_or-set_other}
+use Rattle.std.proofs.Common.{◌≡◌, ◌∙◌, ℕ, suc, ◌+◌, ◌-◌, ◌%◌, ◌^◌, ◌<◌, ◌≤◌, ◌==◌, ◌++◌, Bool, true, false, cond, List, [], ◌∷◌, length, min, nat_lt, take, drop, replicate, set, get_or, position, Option, Some, None, arith, ap, sym, refl, ⊎_elim, length-set, get_or-set_same, get_or-set_other}
 use Rattle.std.proofs.lemmas.Bool.{cases_eq, cases_lt, lt-ltb, eqb-true}
 use Rattle.std.proofs.lemmas.List.{get_or_past, get_or-take, get_or-replicate, length-take, length-replicate}
 use Rattle.std.proofs.lemmas.List.Sums.{position_or_len_is}
 use Rattle.std.proofs.lemmas.List.Quantifiers.{position-Some}
+use Rattle.std.proofs.lemmas.Bool.Decides.{nat_tests}
 use Rattle.iscsi_window.specs.declared.held_request.HeldRequest.{HeldRequest}
 use Rattle.iscsi_window.specs.Windows.{holds_command}
 use Rattle.iscsi_window.specs.Tags.{group_of, is_none_of, occupied, vacated, IsCounted, AreBounds}
@@ -37,17 +38,7 @@ module _ (bounds : List ℕ) (turned : ℕ) (xs ys : List (Option (Option HeldRe
     there g other = get_or-set_other bounds h g n 0 other
 
     pub set_bound : AreBounds (set bounds h n) turned ys
-    set_bound = record {
-      as_many = length-set bounds h n ∙ old.as_many;
-      small = λ g. ⊎_elim
-          (λ same. subst (λ i. get_or (set bounds h n) i 0 < 2 ^ 64) (sym same) (omega (arith, here, fits)))
-          (λ other. omega (arith, there g other, old.small g))
-          (cases_eq g h);
-      below = λ j g is. ⊎_elim
-          (λ same. subst (λ i. get_or (set bounds h n) i 0 ≤ turned + j) (sym same) (omega (arith, here, of_it j (is ∙ ap Some same))))
-          (λ other. omega (arith, there g other, of_others j g other is))
-          (cases_eq g h);
-    }
+    set_bound = grind (arith, nat_tests, length-set, here, there)
 
 -- what a place has after another one was written
 module _ (xs : List (Option (Option HeldRequest))) (k : ℕ) (v : Option (Option HeldRequest)) where
@@ -55,8 +46,7 @@ module _ (xs : List (Option (Option HeldRequest))) (k : ℕ) (v : Option (Option
   elsewhere j x apart is = ap group_of (sym (get_or-set_other xs k j v None apart)) ∙ is
 
   pub written : (j : ℕ) (x : Option ℕ) → k < length xs → j ≡ k → group_of (get_or (set xs k v) j None) ≡ x → group_of v ≡ x
-  written j x within same is =
-      ap group_of (sym (get_or-set_same xs k v None within)) ∙ ap (λ i. group_of (get_or (set xs k v) i None)) (sym same) ∙ is
+  written j x within same is = grind (arith, nat_tests, get_or-set_same)
 
 -- a request comes, or a number with none
 module _ (counts bounds : List ℕ) (turned : ℕ) (xs : List (Option (Option HeldRequest))) (k : ℕ) (v : Option (Option HeldRequest))
@@ -66,10 +56,7 @@ module _ (counts bounds : List ℕ) (turned : ℕ) (xs : List (Option (Option He
 
   -- none of a group that has no request
   none_of : (j h : ℕ) → get_or counts h 0 ≡ 0 → group_of (get_or xs j None) ≡ Some h → ⊥
-  none_of j h none is = ⊎_elim
-      (λ short. let some : 0 < get_or counts h 0 = is_held counts xs j h counted short is in omega (arith, some, none))
-      (λ past. let nothing : get_or xs j None ≡ None = get_or_past xs j None past in let gone : group_of (get_or xs j None) ≡ None = ap group_of nothing in cc)
-      (cases_lt j (length xs))
+  none_of j h none is = grind (arith, nat_tests, is_held, get_or_past)
 
   by_group : (x : Option ℕ) (is_only : Bool) → group_of v ≡ x → is_none_of counts x ≡ is_only → AreBounds (occupied bounds x (min (turned + k) (2 ^ 64 - 1)) is_only) turned (set xs k v)
   by_group None is_only none is = record {
@@ -132,11 +119,7 @@ module _ (bounds : List ℕ) (turned : ℕ) (xs : List (Option (Option HeldReque
 -- ---- the first place turns
 
 pub turned_bounds : (bounds : List ℕ) (turned : ℕ) (xs : List (Option (Option HeldRequest))) → AreBounds bounds turned xs → AreBounds bounds (turned + 1) (drop 1 xs ++ None ∷ [])
-turned_bounds bounds turned xs b = record {
-  as_many = b.as_many;
-  small = b.small;
-  below = λ j g here. let l = b.below (suc j) g (ap group_of (sym (passed xs j)) ∙ here) in omega (arith, l);
-}
+turned_bounds bounds turned xs b = grind (arith, nat_tests, passed)
 
 -- ---- a search
 
@@ -146,19 +129,12 @@ none_before bounds turned xs tag unit k b short = by_answer (holds_command tag u
   where
     by_answer : (p : Bool) → holds_command tag unit (get_or xs k None) ≡ p → p ≡ false
     by_answer false is = refl
-    by_answer true is =
-        let l = b.below k (tag % 4093) (group_of_true (tag % 4093) (group_of (get_or xs k None)) (command_of tag unit (get_or xs k None) is)) in
-        absurd (omega (arith, l, short))
+    by_answer true is = grind (arith, nat_tests, group_of_true, command_of)
 
 module _ {X : Type 0} (p : X → Bool) (xs : List X) (end : ℕ) (d : X) where
   -- the first place that passes
   pub found_below : (k : ℕ) → k < length xs → k < end → ((j : ℕ) → j < k → p (get_or xs j d) ≡ false) → p (get_or xs k d) ≡ true → Some k ≡ position p (take end xs)
-  found_below k within short before here =
-      let inside : k < length (take end xs) = omega (arith, length-take end xs, within, short) in
-      let is = position_or_len_is p (take end xs) k d (omega (arith, inside))
-      (λ j l. ap p (get_or-take end xs j d (omega (arith, l, short))) ∙ before j l)
-      (λ l. ap p (get_or-take end xs k d short) ∙ here) in
-      sym (ap (λ n. cond (nat_lt n (length (take end xs))) (Some n) None) is ∙ ap (λ b. cond b (Some k) None) (lt-ltb k (length (take end xs)) inside))
+  found_below k within short before here = grind (arith, nat_tests, length-take, position_or_len_is, get_or-take, lt-ltb)
 
   -- none passes
   pub none_below : ((j : ℕ) → j < end → j < length xs → p (get_or xs j d) ≡ false) → None ≡ position p (take end xs)
@@ -181,6 +157,4 @@ none_found counts xs tag unit end c none = none_below (holds_command tag unit) x
   where
     by_answer : (j : ℕ) → j < length xs → (p : Bool) → holds_command tag unit (get_or xs j None) ≡ p → p ≡ false
     by_answer j within false is = refl
-    by_answer j within true is =
-        let some = is_held counts xs j (tag % 4093) c within (group_of_true (tag % 4093) (group_of (get_or xs j None)) (command_of tag unit (get_or xs j None) is)) in
-        absurd (omega (arith, some, none))
+    by_answer j within true is = grind (arith, nat_tests, is_held, group_of_true, command_of)

@@ -27,17 +27,7 @@ module _ (words : List ℕ) (n x b : ℕ) (long : length words ≡ 16) (here : b
     (others : (i : ℕ) → i < 64 → i ≢ n % 64 → bit_at x i ≡ bit_at (get_or words (n % 1024 / 64) 0) i) where
   -- a word that differs in one bit
   pub written : IsSlotSet words (set words (n % 1024 / 64) x) n b
-  written = record {
-    here = ap (λ y. bit_at y (n % 64)) (get_or-set_same words (n % 1024 / 64) x 0 (omega (arith, long))) ∙ here;
-    others = λ m ne. ⊎_elim
-        (λ same.
-        ap (λ i. bit_at (get_or (set words (n % 1024 / 64) x) i 0) (m % 64)) same
-        ∙ ap (λ y. bit_at y (m % 64)) (get_or-set_same words (n % 1024 / 64) x 0 (omega (arith, long)))
-        ∙ others (m % 64) (omega arith) (two_bits m n ne same)
-        ∙ ap (λ i. bit_at (get_or words i 0) (m % 64)) (sym same))
-        (λ other. ap (λ y. bit_at y (m % 64)) (get_or-set_other words (n % 1024 / 64) (m % 1024 / 64) x 0 other))
-        (cases_eq (m % 1024 / 64) (n % 1024 / 64));
-  }
+  written = grind (arith, nat_tests, get_or-set_same, two_bits, get_or-set_other)
 
 pub bit_set : (words : List ℕ) (n : ℕ) → length words ≡ 16 → IsSlotSet words (set words (n % 1024 / 64) (bit_or (get_or words (n % 1024 / 64) 0) (1 * 2 ^ (n % 64) % 2 ^ 64))) n 1
 bit_set words n long =
@@ -54,9 +44,7 @@ bit_cleared words n long =
 -- ---- a place is written, or the first one turns
 
 pub none_filled : (size : ℕ) → AreFilled (replicate 16 0) 0 (replicate size None)
-none_filled size = record {
-  marked = λ k r is fits. let none = nothing_at {X = Option HeldRequest} size k in absurd cc;
-}
+none_filled size = grind (arith, nat_tests, nothing_at, Option)
 
 pub filled_put : (old new : List ℕ) (turned : ℕ) (xs : List (Option (Option HeldRequest))) (k : ℕ) (v : Option (Option HeldRequest)) → AreFilled old turned xs → IsSlotSet old new (min (turned + k) (2 ^ 64 - 1)) 1 → length xs ≤ 1024 → k < length xs → AreFilled new turned (set xs k v)
 filled_put old new turned xs k v f at few within = record {
@@ -72,20 +60,11 @@ filled_put old new turned xs k v f at few within = record {
 
 -- a place has no request any more
 pub filled_cleared : (words : List ℕ) (turned : ℕ) (xs : List (Option (Option HeldRequest))) (k : ℕ) → AreFilled words turned xs → k < length xs → AreFilled words turned (set xs k (Some None))
-filled_cleared words turned xs k f within = record {
-  marked = λ j r is fits. ⊎_elim
-      (λ same. absurd (let b : Some None ≡ Some (Some r) = sym (get_or-set_same xs k (Some None) None within) ∙ ap (λ i. get_or (set xs k (Some None)) i None) (sym same) ∙ is in cc))
-      (λ ne. f.marked j r (sym (get_or-set_other xs k j (Some None) None ne) ∙ is) fits)
-      (cases_eq j k);
-}
+filled_cleared words turned xs k f within = grind (arith, nat_tests, get_or-set_same, get_or-set_other)
 
 -- the first place turns, whether its bit is cleared or not
 pub filled_passed : (words : List ℕ) (turned : ℕ) (xs : List (Option (Option HeldRequest))) → AreFilled words turned xs → AreFilled words (turned + 1) (drop 1 xs ++ None ∷ [])
-filled_passed words turned xs f = record {
-  marked = λ j r is fits.
-      let number : turned + 1 + j ≡ turned + suc j = omega arith in
-      ap (slot_bit words) number ∙ f.marked (suc j) r (sym (passed xs j) ∙ is) (omega (arith, fits, number));
-}
+filled_passed words turned xs f = grind (arith, nat_tests, passed)
 
 pub filled_turned : (old new : List ℕ) (turned : ℕ) (xs : List (Option (Option HeldRequest))) → AreFilled old turned xs → IsSlotSet old new turned 0 → length xs ≤ 1024 → AreFilled new (turned + 1) (drop 1 xs ++ None ∷ [])
 filled_turned old new turned xs f at few = record {

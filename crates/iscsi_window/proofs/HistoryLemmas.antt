@@ -43,10 +43,7 @@ is_some-place_of h n = grind arith
 
 -- a place shows its number, also beyond the last one
 pub place_shows : (s : Received) (h : List Change) (k : ℕ) → StandsFor s h → at_place s k ≡ place_of h (number_expected s + k)
-place_shows s h k st = ⊎_elim
-    (λ within. st.inside k within)
-    (λ past. get_or_past s.places k None past ∙ sym (place_missing h (number_expected s + k) (st.above (number_expected s + k) (omega arith))))
-    (cases_lt k (length s.places))
+place_shows s h k st = grind (arith, nat_tests, get_or_past, place_missing)
 
 -- ---- changes of one number
 
@@ -63,27 +60,7 @@ other_number m n apart = grind (arith, nat_tests)
 
 StandsFor-place : (s : Received) (k₀ : ℕ) (v : Option (Option Request)) (h h' : List Change) → StandsFor s h → k₀ < room_of s → SameBut h h' (number_expected s + k₀) → place_of h' (number_expected s + k₀) ≡ v
     → ((r : Request) → held h' (number_expected s + k₀) ≡ Some r → wire (cmd_sn r) ≡ wire (number_expected s + k₀)) → StandsFor (with_place s k₀ v) h'
-StandsFor-place s k₀ v h h' st within same here shows =
-    let e : ℕ = number_expected s in
-    let in_range : k₀ < length s.places = omega arith in
-    let long : length (set s.places k₀ v) ≡ length s.places = length-set s.places k₀ v in
-    record {
-      turned = st.turned ∙ sym same.turned_is;
-      unfinished = st.unfinished ∙ sym same.unfinished_is;
-      inside = λ k lt. ⊎_elim
-          (λ this. ap (λ i. get_or (set s.places k₀ v) i None) this ∙ get_or-set_same s.places k₀ v None in_range ∙ sym here ∙ ap (λ i. place_of h' (e + i)) (sym this))
-          (λ apart. get_or-set_other s.places k₀ k v None apart ∙ st.inside k (omega (arith, long))
-          ∙ sym (let far : e + k ≢ e + k₀ = λ x. apart (omega (arith, x)) in ap (λ b. cond b (Some (held h' (e + k))) None) (same.received_is (e + k) far) ∙ ap (λ x. cond (is_received h (e + k)) (Some x) None) (same.held_is (e + k) far)))
-          (cases_eq k k₀);
-      before = λ n low. let far : n ≢ e + k₀ = λ x. omega (arith, x, low) in (same.received_is n far ∙ (st.before n low).0, same.has_turned_is n ∙ (st.before n low).1);
-      past = λ n from low. let far : n ≢ e + k₀ = λ x. omega (arith, x, low) in let p = st.past n from low in (same.received_is n far ∙ p.0, same.has_turned_is n ∙ p.1, same.held_is n far ∙ p.2);
-      ahead = λ n from. same.has_turned_is n ∙ st.ahead n from;
-      above = λ n high. let far : n ≢ e + k₀ = λ x. omega (arith, x, high, within, long) in same.received_is n far ∙ st.above n (omega (arith, high, long));
-      numbers = λ n r is. ⊎_elim
-          (λ this. shows r (ap (held h') (sym this) ∙ is) ∙ ap wire (sym this))
-          (λ apart. st.numbers n r (sym (same.held_is n apart) ∙ is))
-          (cases_eq n (e + k₀));
-    }
+StandsFor-place s k₀ v h h' st within same here shows = grind (arith, nat_tests, length-set, get_or-set_same, get_or-set_other)
 
 -- a request is admitted at a number from ExpCmdSN to MaxCmdSN
 pub StandsFor-admitted : (s : Received) (k : ℕ) (r : Request) (h : List Change) → StandsFor s h → k < room_of s → wire (cmd_sn r) ≡ wire (number_expected s + k) → StandsFor (with_place s k (Some (Some r))) (Admitted (number_expected s + k) r ∷ h)
@@ -197,29 +174,7 @@ StandsFor-turned s h st some there =
 -- ---- commands that are being executed
 
 pub StandsFor-started : (s : Received) (h : List Change) → StandsFor s h → HasRoom s → StandsFor (with_unfinished s (s.unfinished + 1)) (Started ∷ h)
-StandsFor-started s h st room = record {
-  turned = st.turned;
-  unfinished = ap (λ n. n + 1) st.unfinished;
-  inside = st.inside;
-  before = st.before;
-  past = st.past;
-  ahead = st.ahead;
-  above = λ n high.
-      let e : ℕ = number_expected s in
-      let free : ℕ = length s.places - 1 - s.unfinished in
-      let last : is_received h (e + free) ≡ false = sym (is_some-place_of h (e + free)) ∙ ap is_some (sym (place_shows s h free st) ∙ room.last_free) in
-      ⊎_elim (λ this. ap (is_received h) this ∙ last) (λ apart. st.above n (omega (arith, high, apart, room.not_full))) (cases_eq n (e + free));
-  numbers = st.numbers;
-}
+StandsFor-started s h st room = grind (arith, nat_tests, false, is_some-place_of, place_shows)
 
 pub StandsFor-finished : (s : Received) (h : List Change) → StandsFor s h → StandsFor (with_unfinished s (s.unfinished - 1)) (Finished ∷ h)
-StandsFor-finished s h st = record {
-  turned = st.turned;
-  unfinished = ap (λ n. n - 1) st.unfinished;
-  inside = st.inside;
-  before = st.before;
-  past = st.past;
-  ahead = st.ahead;
-  above = λ n high. st.above n (omega (arith, high));
-  numbers = st.numbers;
-}
+StandsFor-finished s h st = grind (arith, nat_tests)

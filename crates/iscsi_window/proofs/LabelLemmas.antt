@@ -1,7 +1,8 @@
 -- The tags beside the places stay right where a place is written, and where the first one turns; a search by them.
 use Rattle.std.proofs.Common.{◌^◌, min, ◌≡◌, ◌≢◌, ◌∙◌, ℕ, suc, ◌+◌, ◌-◌, ◌%◌, ◌<◌, ◌≤◌, ◌++◌, Bool, true, false, List, [], ◌∷◌, length, take, drop, replicate, set, get_or, position, is_some, Option, Some, None, arith, ap, sym, refl, ⊎_elim, length-set, get_or-set_same, get_or-set_other}
-use Rattle.std.proofs.lemmas.Bool.{cases_eq, cases_lt}
+use Rattle.std.proofs.lemmas.Bool.{cases_lt}
 use Rattle.std.proofs.lemmas.List.{get_or_past, length-replicate}
+use Rattle.std.proofs.lemmas.Bool.Decides.{nat_tests}
 use Rattle.iscsi_window.specs.declared.held_request.HeldRequest.{HeldRequest}
 use Rattle.iscsi_window.specs.PlaceTags.{labelled, AreLabelled, IsFirstBetween}
 use Rattle.iscsi_window.proofs.PlaceLemmas.{nothing_at, passed}
@@ -12,10 +13,7 @@ pub inside : (xs : List (Option (Option HeldRequest))) (k : ℕ) (x : Option Hel
 inside xs k x is = ⊎_elim (λ lt. lt) (λ past. let none : get_or xs k None ≡ None = get_or_past xs k None past in absurd cc) (cases_lt k (length xs))
 
 pub opened_labels : (size : ℕ) → AreLabelled (replicate 1024 0) 0 (replicate size None)
-opened_labels size = record {
-  as_many = length-replicate {A = ℕ} 1024 0;
-  named = λ k r is fits. let none = nothing_at {X = Option HeldRequest} size k in absurd cc;
-}
+opened_labels size = grind (arith, nat_tests, length-replicate, nothing_at, Option)
 
 -- ---- a place is written
 
@@ -34,20 +32,7 @@ labels_put tags turned xs k v l few within = by_request v refl
     here j r same is = sym (get_or-set_same xs k v None within) ∙ ap (λ i. get_or (set xs k v) i None) (sym same) ∙ is
 
     by_request : (x : Option (Option HeldRequest)) → v ≡ x → AreLabelled (labelled tags x (min (turned + k) (2 ^ 64 - 1))) turned (set xs k v)
-    by_request x is = record {
-      as_many = grind (arith, l.as_many, length-set);
-      named = λ j r at fits. ⊎_elim
-          (λ same.
-          let it = here j r same at in
-          let number : turned + j ≡ min (turned + k) (2 ^ 64 - 1) = omega (arith, same, fits) in
-          grind (arith, l.as_many, get_or-set_same tags (min (turned + k) (2 ^ 64 - 1) % 1024)))
-          (λ ne.
-          let old = there j r ne at in
-          let other = apart turned j k ne (omega (arith, inside xs j (Some r) old, few)) (omega (arith, within, few)) fits in
-          let named = l.named j r old fits in
-          grind (arith, get_or-set_other tags (min (turned + k) (2 ^ 64 - 1) % 1024) ((turned + j) % 1024)))
-          (cases_eq j k);
-    }
+    by_request x is = grind (arith, nat_tests, length-set, here, get_or-set_same, there, apart, inside, get_or-set_other)
 
 -- a place has no request any more
 pub labels_cleared : (tags : List ℕ) (turned : ℕ) (xs : List (Option (Option HeldRequest))) (k : ℕ) → AreLabelled tags turned xs → length xs ≤ 1024 → k < length xs → AreLabelled tags turned (set xs k (Some None))
@@ -55,12 +40,7 @@ labels_cleared tags turned xs k l few within = labels_put tags turned xs k (Some
 
 -- the first place turns
 pub labels_turned : (tags : List ℕ) (turned : ℕ) (xs : List (Option (Option HeldRequest))) → AreLabelled tags turned xs → AreLabelled tags (turned + 1) (drop 1 xs ++ None ∷ [])
-labels_turned tags turned xs l = record {
-  as_many = l.as_many;
-  named = λ j r is fits.
-      let number : turned + 1 + j ≡ turned + suc j = omega arith in
-      ap (λ n. get_or tags (n % 1024) 0) number ∙ l.named (suc j) r (sym (passed xs j) ∙ is) (omega (arith, fits, number));
-}
+labels_turned tags turned xs l = grind (arith, nat_tests, passed)
 
 -- ---- a block of places
 
@@ -72,6 +52,4 @@ none_between p xs from end (Some k) is none = absurd cc
 pub first_between : (p : Option (Option HeldRequest) → Bool) (xs : List (Option (Option HeldRequest))) (end from to : ℕ) (found : Option ℕ) → IsFirstBetween p xs from to found → is_some found ≡ true → to ≤ end → to ≤ length xs → ((j : ℕ) → j < from → p (get_or xs j None) ≡ false)
     → found ≡ position p (take end xs)
 first_between p xs end from to None is some most within before = absurd cc
-first_between p xs end from to (Some k) is some most within before =
-    found_below p xs end None k (omega (arith, is.0, within)) (omega (arith, is.0, most))
-    (λ j low. ⊎_elim (λ lt. before j lt) (λ ge. is.2 j ge low) (cases_lt j from)) is.1
+first_between p xs end from to (Some k) is some most within before = grind (arith, nat_tests, found_below)

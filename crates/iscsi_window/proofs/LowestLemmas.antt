@@ -1,6 +1,5 @@
 -- The first place that passes has the lowest number that fits.
-use Rattle.std.proofs.Common.{◌≡◌, ℕ, ◌+◌, ◌-◌, ◌<◌, ◌≤◌, ◌&&◌, ⊎_elim, cond, Bool, true, false, List, length, take, get_or, position, Option, Some, None, option_map, nat_lt, refl, ap, sym, subst, ◌∙◌, arith}
-use Rattle.std.specs.List.{position_or_len}
+use Rattle.std.proofs.Common.{◌≡◌, ℕ, ◌+◌, ◌-◌, ◌<◌, ◌≤◌, ⊎_elim, cond, Bool, true, false, List, length, take, get_or, position, Option, Some, None, option_map, nat_lt, refl, ap, sym, subst, ◌∙◌, arith}
 use Rattle.std.proofs.lemmas.Bool.{cases_lt}
 use Rattle.std.proofs.lemmas.Bool.Decides.{nat_tests}
 use Rattle.std.proofs.lemmas.List.{get_or_past, get_or-take, length-take}
@@ -16,13 +15,7 @@ use Rattle.iscsi_window.proofs.SinceLemmas.{expected_is, test_held, received_of_
 
 -- no place passes
 none_passes : {A : Type 0} (f : Option A → Bool) (xs : List (Option A)) (k : ℕ) → f None ≡ false → position f xs ≡ None → f (get_or xs k None) ≡ false
-none_passes f xs k missing none = ⊎_elim
-    (λ within. elim (nat_lt (position_or_len f xs) (length xs)) as (λ b. nat_lt (position_or_len f xs) (length xs) ≡ b → cond b (Some (position_or_len f xs)) None ≡ None → f (get_or xs k None) ≡ false) [
-      | true ↦ λ is said. absurd cc
-      | false ↦ λ is said. let later : k < position_or_len f xs = grind (arith, nat_tests) in fails_before_first f xs k None later
-    ] refl none)
-    (λ past. ap f (get_or_past xs k None past) ∙ missing)
-    (cases_lt k (length xs))
+none_passes f xs k missing none = grind (arith, nat_tests, false, true, nat_tests, fails_before_first, get_or_past)
 
 lowest_at : (f : Option (Option Request) → Bool) (xs : List (Option (Option Request))) (e : ℕ) (fits : ℕ → Bool) → f None ≡ false
     → ((k : ℕ) → f (get_or xs k None) ≡ fits (e + k)) → ((n : ℕ) → n < e → fits n ≡ false) → IsLowest fits (option_map (λ k. e + k) (position f xs))
@@ -44,10 +37,7 @@ shown_by s (Some k) = refl
 -- ---- a SCSI Command with a tag
 
 read_front : {A : Type 0} (xs : List (Option A)) (m k : ℕ) → get_or (take m xs) k None ≡ cond (nat_lt k m) (get_or xs k None) None
-read_front xs m k = ⊎_elim
-    (λ lt. let test : nat_lt k m ≡ true = grind (arith, nat_tests) in rw (get_or-take m xs k None lt, test))
-    (λ ge. let test : nat_lt k m ≡ false = grind (arith, nat_tests) in rw (get_or_past (take m xs) k None (simp length-take (omega (arith, ge))), test))
-    (cases_lt k m)
+read_front xs m k = grind (arith, nat_tests, true, nat_tests, get_or-take, false, get_or_past, length-take)
 
 pub find_since : (s : Received) (tag unit w : ℕ) (h : List Change) → StandsFor s h → ShowsLowest (is_command_below h tag unit (number_of s.first h w)) (option_map (number_shown s) (find_command s tag unit w))
 find_since s tag unit w h st = record {
@@ -73,11 +63,7 @@ find_since s tag unit w h st = record {
     here k = ap f (place_shows s h k st) ∙ test_held f h (e + k) refl refl
 
     same : (k : ℕ) → f (get_or (take (below - e) s.places) k None) ≡ is_command_below h tag unit below (e + k)
-    same k =
-        ap f (read_front s.places (below - e) k)
-        ∙ elim (nat_lt k (below - e)) as (λ b. f (cond b (at_place s k) None) ≡ (b && f (at_place s k))) [ true ↦ refl | false ↦ refl ]
-        ∙ ap (λ b. b && f (at_place s k)) (let z : nat_lt k (below - e) ≡ nat_lt (e + k) below = grind (arith, nat_tests) in z)
-        ∙ ap (λ b. nat_lt (e + k) below && b) (here k)
+    same k = grind (arith, nat_tests, f, read_front, below, e, true, false, nat_tests, here)
 
 -- ---- a request of a connection
 

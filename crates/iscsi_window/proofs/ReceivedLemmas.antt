@@ -1,9 +1,10 @@
 -- How many places are received, and how many hold a request, where one is written and where the first one turns.
-use Rattle.std.proofs.Common.{◌≡◌, ℕ, zero, suc, ◌+◌, ◌-◌, ◌<◌, ◌≤◌, ◌++◌, cond, Bool, true, false, is_some, List, [], ◌∷◌, length, drop, replicate, set, get_or, count_by, Option, Some, None, arith, ap, refl, subst}
+use Rattle.std.proofs.Common.{◌≡◌, ℕ, zero, suc, ◌+◌, ◌-◌, ◌<◌, ◌≤◌, ◌++◌, cond, Bool, true, false, is_some, List, [], ◌∷◌, length, drop, replicate, set, get_or, count_by, Option, Some, None, arith, ap, refl}
 use Rattle.std.proofs.lemmas.List.Sums.{sum_by-set, sum_by-cons, sum_by_push, get_or-le-sum_by}
+use Rattle.std.proofs.lemmas.Bool.Decides.{nat_tests}
 use Rattle.iscsi_window.specs.declared.held_request.HeldRequest.{HeldRequest}
 use Rattle.iscsi_window.specs.Received.{is_held}
-use Rattle.iscsi_window.specs.Tags.{group_of, lowered, AreBounds, ArePlacesSound}
+use Rattle.iscsi_window.specs.Tags.{group_of, lowered, ArePlacesSound}
 use Rattle.iscsi_window.proofs.TagLemmas.{turned_counted}
 use Rattle.iscsi_window.proofs.BoundLemmas.{turned_bounds}
 
@@ -23,11 +24,7 @@ module _ (p : Option (Option HeldRequest) → Bool) where
 
   pub none_pass : p None ≡ false → (size : ℕ) → 0 ≡ count_by p (replicate size None)
   none_pass fails zero = refl
-  none_pass fails (suc size) =
-      let rest = none_pass fails size in
-      let first = sum_by-cons one None (replicate size None) in
-      let none : ◌≡◌ {A = ℕ} (one None) 0 = ap (λ b. cond b 1 0) fails in
-      omega (arith, rest, first, none)
+  none_pass fails (suc size) = grind (arith, nat_tests, none_pass fails size, sum_by-cons)
 
   count_turned : p None ≡ false → (xs : List (Option (Option HeldRequest))) → count_by p (drop 1 xs ++ None ∷ []) + one (get_or xs 0 None) ≡ count_by p xs
   count_turned fails [] = let none : ◌≡◌ {A = ℕ} (one None) 0 = ap (λ b. cond b 1 0) fails in let push = sum_by_push one [] None in omega (arith, none, push)
@@ -57,9 +54,4 @@ turned_sound counts bounds turned received held xs sound some = record {
 
 pub passed_sound : (counts bounds : List ℕ) (turned received held : ℕ) (xs : List (Option (Option HeldRequest))) → ArePlacesSound counts bounds turned received held xs → 0 < length xs
     → 0 ≡ count_by is_some xs → ArePlacesSound counts bounds (turned + 1) received held xs
-passed_sound counts bounds turned received held xs sound some none = record {
-  tags = sound.tags;
-  lowest = subst (AreBounds bounds (turned + 1)) (turns_into_itself xs some none) (turned_bounds bounds turned xs sound.lowest);
-  as_many = sound.as_many;
-  held_are = sound.held_are;
-}
+passed_sound counts bounds turned received held xs sound some none = grind (arith, nat_tests, turns_into_itself, turned_bounds)

@@ -3,6 +3,7 @@ use Rattle.std.proofs.Common.{◌≡◌, ◌∙◌, ℕ, zero, suc, ◌-◌, ari
 use Rattle.std.specs.List.{position_or_len}
 use Rattle.std.proofs.Math.ListN.{get_or-map}
 use Rattle.std.proofs.lemmas.List.{length-map, map-append, map-set, drop-map, take-map}
+use Rattle.std.proofs.lemmas.Bool.Decides.{nat_tests}
 use Rattle.iscsi_wire.specs.Fields.{cmd_sn}
 use Rattle.iscsi_wire.specs.Serial.{wire, lift}
 use Rattle.iscsi_wire.specs.declared.request.Request.{Request}
@@ -131,12 +132,7 @@ passed_shown s r = advanced_shown (offered_in s r 0) ∙ ap advanced (offered_sh
 -- ---- what holds of it
 
 pub sound_shown : (s : Arrived) → IsSound s → IsSound (shown s)
-sound_shown s sound = record {
-  not_empty = rw length-map sound.not_empty;
-  at_most = rw length-map sound.at_most;
-  counted = rw length-map sound.counted;
-  none_above = λ k above. rw (at_shown s k, sound.none_above k (rw length-map at above));
-}
+sound_shown s sound = grind (arith, nat_tests, length-map, at_shown)
 
 pub room_shown : (s : Arrived) → HasRoom s → HasRoom (shown s)
 room_shown s room = record { not_full = rw length-map room.not_full; last_free = rw (length-map, at_shown, room.last_free) }

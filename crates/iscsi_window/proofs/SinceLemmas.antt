@@ -11,8 +11,8 @@ use Rattle.iscsi_window.specs.declared.answer.Offer.{Offer}
 use Rattle.iscsi_window.specs.declared.answer.Offer.TheVariants.{Held, Duplicate}
 use Rattle.iscsi_window.specs.declared.answer.Turned.{Turned as Turn}
 use Rattle.iscsi_window.specs.Received.{Received, number_expected, room_of, at_place, IsSound}
-use Rattle.iscsi_window.specs.Windows.{number_last, place_in, IsInside, with_place, held_at, is_received_at, received_at, offer_at, offer_to, offered_to, voided, is_held_from, number_shown, emptied, emptied_if, taken_at, turned_by, advanced, advanced_if, is_next_at, is_next}
-use Rattle.iscsi_window.specs.History.{Change, Admitted, Voided, Emptied, Turned, is_received, held, has_turned, expected, last, place_of, StandsFor, number_of, after_offer, after_voiding, after_taking, after_emptying, after_turning, offer_since, is_next_since, turn_since, is_held_at, held_number, Law}
+use Rattle.iscsi_window.specs.Windows.{place_in, IsInside, with_place, held_at, is_received_at, received_at, offer_at, offer_to, offered_to, voided, is_held_from, number_shown, emptied, emptied_if, taken_at, turned_by, advanced, advanced_if, is_next_at, is_next}
+use Rattle.iscsi_window.specs.History.{Change, Admitted, Voided, Emptied, Turned, is_received, held, expected, place_of, StandsFor, number_of, after_offer, after_voiding, after_taking, after_emptying, after_turning, offer_since, is_next_since, turn_since, is_held_at, held_number, Law}
 use Rattle.iscsi_window.proofs.HistoryLemmas.{received_of_held, unheld, unheld_below, is_some-place_of, place_shows, StandsFor-admitted, StandsFor-voided, StandsFor-emptied, StandsFor-turned}
 
 -- ExpCmdSN, as the history has it
@@ -66,10 +66,7 @@ offered_stands s r h st =
     by_received k x false is = subst (λ m. StandsFor (with_place s k (Some (Some r))) (Admitted m r ∷ h)) x.number (StandsFor-admitted s k r h st x.within (omega (arith, x.number)))
 
     inside : Stands s (cmd_sn r) (n - number_expected s) → StandsFor (offered_to s r) (after_offer (offer_to s r) n r h)
-    inside x =
-        let k : ℕ = n - number_expected s in
-        subst (λ p. StandsFor (received_at s p (Some r)) (after_offer (offer_at s p) n r h)) (sym x.place)
-        (subst (λ b. StandsFor (cond b s (with_place s k (Some (Some r)))) (after_offer (cond b Duplicate Held) n r h)) (sym (received_here s (cmd_sn r) k h st x)) (by_received k x (is_received h n) refl))
+    inside x = grind (arith, nat_tests, n, received_here, by_received)
 
 pub StandsFor-offer : (s : Received) (r : Request) (answer : Offer) (now : Received) (h : List Change) → StandsFor s h → answer ≡ offer_to s r → now ≡ offered_to s r → StandsFor now (after_offer answer (number_of s.first h (cmd_sn r)) r h)
 StandsFor-offer s r answer now h st told state =
@@ -77,10 +74,7 @@ StandsFor-offer s r answer now h st told state =
     (subst (λ o. StandsFor (offered_to s r) (after_offer o (number_of s.first h (cmd_sn r)) r h)) (sym told) (offered_stands s r h st))
 
 pub offered_since : (s : Received) (r : Request) (h : List Change) → IsSound s → StandsFor s h → offer_to s r ≡ offer_since s.first (length s.places) h (number_of s.first h (cmd_sn r))
-offered_since s r h sound st =
-    let e : ℕ = number_expected s in
-    let k : ℕ = lift e (cmd_sn r) - e in
-    grind (arith, nat_tests, expected_is s h st, st.unfinished, place_shows s h k st, is_some-place_of h (e + k))
+offered_since s r h sound st = grind (arith, nat_tests, nat_tests, expected_is, place_shows, is_some-place_of)
 
 -- the number that comes next
 pub next_since : (s : Received) (r : Request) (h : List Change) → IsSound s → StandsFor s h → is_next s r ≡ is_next_since s.first (length s.places) h (number_of s.first h (cmd_sn r))
@@ -89,10 +83,7 @@ next_since s r h sound st = let first = place_shows s h 0 st in let some = is_so
 -- ---- a number without a request
 
 pub voided_since : (s : Received) (w : ℕ) (h : List Change) → StandsFor s h → IsInside (place_in s w) → is_received_at s (place_in s w) ≡ is_received h (number_of s.first h w)
-voided_since s w h st there =
-    let e : ℕ = number_expected s in
-    let k : ℕ = lift e w - e in
-    grind (arith, nat_tests, expected_is s h st, place_shows s h k st, is_some-place_of h (e + k))
+voided_since s w h st there = grind (arith, nat_tests, nat_tests, expected_is, place_shows, is_some-place_of)
 
 voided_stands : (s : Received) (w : ℕ) (h : List Change) → StandsFor s h → IsInside (place_in s w) → StandsFor (voided s w) (after_voiding (not (is_received_at s (place_in s w))) (number_of s.first h w) h)
 voided_stands s w h st there =
@@ -107,15 +98,10 @@ voided_stands s w h st there =
     by_received k x false is = subst (λ m. StandsFor (with_place s k (Some None)) (Voided m ∷ h)) x.number (StandsFor-voided s k h st x.within (ap (is_received h) x.number ∙ is))
 
     inside : Stands s w (n - number_expected s) → StandsFor (voided s w) (after_voiding (not (is_received_at s (place_in s w))) n h)
-    inside x =
-        let k : ℕ = n - number_expected s in
-        subst (λ p. StandsFor (received_at s p None) (after_voiding (not (is_received_at s p)) n h)) (sym x.place)
-        (subst (λ b. StandsFor (cond b s (with_place s k (Some None))) (after_voiding (not b) n h)) (sym (received_here s w k h st x)) (by_received k x (is_received h n) refl))
+    inside x = grind (arith, nat_tests, n, received_here, by_received)
 
 pub StandsFor-void : (s : Received) (w : ℕ) (answer : Bool) (now : Received) (h : List Change) → StandsFor s h → IsInside (place_in s w) → answer ≡ not (is_received_at s (place_in s w)) → now ≡ voided s w → StandsFor now (after_voiding answer (number_of s.first h w) h)
-StandsFor-void s w answer now h st there told state =
-    subst (λ x. StandsFor x (after_voiding answer (number_of s.first h w) h)) (sym state)
-    (subst (λ b. StandsFor (voided s w) (after_voiding b (number_of s.first h w) h)) (sym told) (voided_stands s w h st there))
+StandsFor-void s w answer now h st there told state = grind (arith, nat_tests, voided_stands)
 
 -- ---- requests that are taken out
 
@@ -127,10 +113,7 @@ held_place : (h : List Change) (n : ℕ) → option_flatten (place_of h n) ≡ h
 held_place h n = grind (arith, unheld h n)
 
 held_here : (s : Received) (w : ℕ) (h : List Change) → StandsFor s h → held_at s (place_in s w) ≡ held h (lift (number_expected s) w)
-held_here s w h st =
-    let e : ℕ = number_expected s in
-    let n : ℕ = lift e w in
-    grind (arith, nat_tests, place_shows s h (n - e) st, held_place h (e + (n - e)), unheld_below s h n st, unheld h n, st.above n)
+held_here s w h st = grind (arith, nat_tests, nat_tests, place_shows, held_place, unheld_below, unheld)
 
 pub emptied_since : (s : Received) (w : ℕ) (h : List Change) → StandsFor s h → held_at s (place_in s w) ≡ held h (number_of s.first h w)
 emptied_since s w h st = held_here s w h st ∙ ap (λ e. held h (lift e w)) (expected_is s h st)
@@ -148,9 +131,7 @@ emptied_stands s w h st =
     by_held k x (Some r) is = subst (λ m. StandsFor (with_place s k (Some None)) (Emptied m ∷ h)) x.number (StandsFor-emptied s k h st x.within (ap (is_received h) x.number ∙ received_of_held h n r is))
 
     inside : Stands s w (n - number_expected s) → StandsFor (emptied s w) (after_taking (held_at s (place_in s w)) n h)
-    inside x =
-        subst (λ y. StandsFor (emptied_if s (place_in s w) y) (after_taking y n h)) (sym (held_here s w h st))
-        (subst (λ p. StandsFor (emptied_if s p (held h n)) (after_taking (held h n) n h)) (sym x.place) (by_held (n - number_expected s) x (held h n) refl))
+    inside x = grind (arith, nat_tests, n, held_here, by_held)
 
 pub StandsFor-empty : (s : Received) (w : ℕ) (answer : Option Request) (now : Received) (h : List Change) → StandsFor s h → answer ≡ held_at s (place_in s w) → now ≡ emptied s w → StandsFor now (after_taking answer (number_of s.first h w) h)
 StandsFor-empty s w answer now h st told state =
@@ -219,15 +200,11 @@ advanced_stands s h st =
     e = number_expected s
 
     by_received : (b : Bool) → is_received h e ≡ b → StandsFor (advanced_if s (cond b (Some (held h e)) None)) (after_turning (cond b (Some (record { sn = wire e; request = held h e })) None) e h)
-    by_received true is =
-        let first : 0 < room_of s = within_room s 0 h st (ap (is_received h) (let z : e + 0 ≡ e = omega arith in z) ∙ is) in
-        StandsFor-turned s h st (omega arith) is
+    by_received true is = grind (arith, nat_tests, within_room, e, StandsFor-turned)
     by_received false is = st
 
 pub StandsFor-advance : (s : Received) (answer : Option Turn) (now : Received) (h : List Change) → StandsFor s h → answer ≡ turned_by s → now ≡ advanced s → StandsFor now (after_turning answer (expected s.first h) h)
-StandsFor-advance s answer now h st told state =
-    subst (λ x. StandsFor x (after_turning answer (expected s.first h) h)) (sym state)
-    (subst (λ t. StandsFor (advanced s) (after_turning t (expected s.first h) h)) (sym told) (advanced_stands s h st))
+StandsFor-advance s answer now h st told state = grind (arith, nat_tests, advanced_stands)
 
 -- ---- a request that turns as it comes
 
@@ -264,30 +241,4 @@ StandsFor-pass s r now h st next state = subst (λ w. StandsFor w (Turned (numbe
 -- ---- the law
 
 pub Law-stands : (s : Received) (h : List Change) → IsSound s → StandsFor s h → Law s h
-Law-stands s h sound st =
-    let is : number_expected s ≡ expected s.first h = expected_is s h st in
-    let last_same : number_last s ≡ last s.first (length s.places) h = omega (arith, is, st.unfinished) in
-    let above : (n : ℕ) → last s.first (length s.places) h < n → is_received h n ≡ false = λ n high. st.above n (omega (arith, high, last_same, sound.counted, sound.not_empty)) in
-    let past : (n : ℕ) → number_of_first s.first ≤ n → n < expected s.first h → (is_received h n ≡ true) × (has_turned h n ≡ true) × (held h n ≡ None) = λ n from low. st.past n from (omega (arith, low, is)) in
-    record {
-      expected_is = is;
-      last_is = last_same;
-      turned_are = λ n. (
-        λ has. (
-          ⊎_elim (λ lt. absurd (false≢true (sym (st.before n lt).1 ∙ has))) (λ ge. ge) (cases_lt n (number_of_first s.first)),
-          ⊎_elim (λ lt. lt) (λ ge. absurd (false≢true (sym (st.ahead n (omega (arith, ge, is))) ∙ has))) (cases_lt n (expected s.first h)),
-        ),
-        λ between. (past n between.0 between.1).1,
-      );
-      gapless = λ n from low. (past n from low).0;
-      none_before = λ n low. (st.before n low).0;
-      none_above = above;
-      least = λ missing. record { from_first = omega arith; missing = missing; none_lower = λ k from low. (past k from low).0 };
-      held_are = λ n r has.
-          let there : is_received h n ≡ true = received_of_held h n r has in (
-            there,
-            ⊎_elim (λ lt. absurd (let z : None ≡ Some r = sym (unheld_below s h n st (omega (arith, lt, is))) ∙ has in cc)) (λ ge. ge) (cases_lt n (expected s.first h)),
-            ⊎_elim (λ lt. absurd (false≢true (sym (above n lt) ∙ there))) (λ ge. ge) (cases_lt (last s.first (length s.places) h) n),
-            st.numbers n r has,
-          );
-    }
+Law-stands s h sound st = grind (arith, nat_tests, expected_is, false, true, false≢true, received_of_held, unheld_below)

@@ -1,8 +1,8 @@
 -- Every call keeps what holds of every window.
-use Rattle.std.proofs.Common.{◌≡◌, ◌∙◌, ℕ, ◌-◌, ◌<◌, ◌≤◌, ◌≢◌, length, position, set, Option, Some, None, arith, sym, refl, subst, ⊎_elim, true, length-set, get_or-set_other}
+use Rattle.std.proofs.Common.{◌≡◌, ◌∙◌, ℕ, ◌-◌, ◌<◌, length, position, set, Option, Some, None, arith, sym, refl, subst, true, length-set, get_or-set_other}
 use Rattle.iscsi_window.specs.declared.held_request.HeldRequest.{HeldRequest}
-use Rattle.std.proofs.lemmas.Bool.{cases_lt}
 use Rattle.std.proofs.lemmas.List.Quantifiers.{position-Some}
+use Rattle.std.proofs.lemmas.Bool.Decides.{nat_tests}
 use Rattle.iscsi_window.specs.PlaceTags.{Placed}
 use Rattle.iscsi_window.specs.Windows.{holds_from}
 use Rattle.iscsi_window.specs.Received.{Arrived, room_of, at_place, IsSound}
@@ -14,8 +14,7 @@ is_received conn (Some r) held = (r, refl)
 
 -- a received number has a place below the room
 pub received_within : (s : Arrived) (k : ℕ) (r : Option HeldRequest) → IsSound s → at_place s k ≡ Some r → k < room_of s
-received_within s k r sound received =
-    ⊎_elim (λ within. within) (λ above. let none : at_place s k ≡ None = sound.none_above k above in cc) (cases_lt k (room_of s))
+received_within s k r sound received = grind (arith, nat_tests)
 
 -- so has one whose request is held
 pub held_within : (s : Arrived) (conn : Option ℕ) (k : ℕ) → IsSound s → position (holds_from conn) s.places ≡ Some k → k < room_of s
@@ -24,15 +23,7 @@ held_within s conn k sound found =
     let received = is_received conn (at_place s k) held in received_within s k received.0 sound received.1
 
 pub sound_set : (s : Arrived) (k : ℕ) (v : Option (Option HeldRequest)) → IsSound s → k < room_of s → IsSound (record s { places = set s.places k v })
-sound_set s k v sound within = record {
-  not_empty = simp length-set sound.not_empty;
-  at_most = simp length-set sound.at_most;
-  counted = simp length-set sound.counted;
-  none_above = λ j above.
-      let old : room_of s ≤ j = omega (arith, length-set s.places k v) in
-      let apart : j ≢ k = omega arith in
-      get_or-set_other s.places k j v None apart ∙ sound.none_above j old;
-}
+sound_set s k v sound within = grind (arith, nat_tests, length-set, get_or-set_other)
 
 -- ---- the fields
 

@@ -70,9 +70,7 @@ raised_counted counts xs k v c within free = by_group (group_of v) refl
     }
 
 put_within : (counts : List ℕ) (xs : List (Option (Option HeldRequest))) (k : ℕ) (v : Option (Option HeldRequest)) → IsCounted counts xs → k < length xs → IsCounted (raised (lowered counts (group_of (get_or xs k None))) (group_of v)) (set xs k v)
-put_within counts xs k v c within =
-    subst (IsCounted (raised (lowered counts (group_of (get_or xs k None))) (group_of v))) (set-set xs k None v)
-    (raised_counted (lowered counts (group_of (get_or xs k None))) (set xs k None) k v (lowered_counted counts xs k c within) (simp length-set within) (get_or-set_same xs k None None within))
+put_within counts xs k v c within = grind (arith, nat_tests, set-set, raised_counted, lowered_counted, length-set, get_or-set_same)
 
 -- ---- as it is read before the write
 
