@@ -17,11 +17,7 @@ zeros : (n g : ℕ) → get_or {A = ℕ} (replicate n 0) g 0 ≡ 0
 zeros n g = ⊎_elim (λ lt. get_or-replicate n g 0 0 lt) (λ ge. get_or_past (replicate n 0) g 0 (simp length-replicate ge)) (cases_lt g n)
 
 pub opened_bounds : (size : ℕ) → AreBounds (replicate 4093 0) 0 (replicate size None)
-opened_bounds size = record {
-  as_many = length-replicate {A = ℕ} 4093 0;
-  small = λ g. omega (arith, zeros 4093 g);
-  below = λ k g is. omega (arith, zeros 4093 g);
-}
+opened_bounds size = search (arith, length-replicate, zeros)
 
 -- ---- a place is written
 
@@ -125,11 +121,7 @@ turned_bounds bounds turned xs b = grind (arith, nat_tests, passed)
 
 -- no such command is held below the bound of its tag
 pub none_before : (bounds : List ℕ) (turned : ℕ) (xs : List (Option (Option HeldRequest))) (tag unit k : ℕ) → AreBounds bounds turned xs → k < get_or bounds (tag % 4093) 0 - turned → holds_command tag unit (get_or xs k None) ≡ false
-none_before bounds turned xs tag unit k b short = by_answer (holds_command tag unit (get_or xs k None)) refl
-  where
-    by_answer : (p : Bool) → holds_command tag unit (get_or xs k None) ≡ p → p ≡ false
-    by_answer false is = refl
-    by_answer true is = grind (arith, nat_tests, group_of_true, command_of)
+none_before bounds turned xs tag unit k b short = grind (arith, nat_tests, group_of_true, command_of)
 
 module _ {X : Type 0} (p : X → Bool) (xs : List X) (end : ℕ) (d : X) where
   -- the first place that passes
@@ -142,14 +134,7 @@ module _ {X : Type 0} (p : X → Bool) (xs : List X) (end : ℕ) (d : X) where
     where
       by_place : (r : Option ℕ) → position p (take end xs) ≡ r → r ≡ None
       by_place None is = refl
-      by_place (Some k) is =
-          let found = position-Some p (take end xs) k d is in
-          let within : k < length (take end xs) = found.0 in
-          let short : k < end = omega (arith, within, length-take end xs) in
-          let there : k < length xs = omega (arith, within, length-take end xs) in
-          let passes : p (get_or xs k d) ≡ true = ap p (sym (get_or-take end xs k d short)) ∙ found.1 in
-          let fails = none k short there in
-          absurd cc
+      by_place (Some k) is = grind (arith, nat_tests, position-Some p (take end xs) k d is, length-take end xs, get_or-take)
 
 -- where none of the group is held the search finds nothing
 pub none_found : (counts : List ℕ) (xs : List (Option (Option HeldRequest))) (tag unit end : ℕ) → IsCounted counts xs → get_or counts (tag % 4093) 0 ≡ 0 → None ≡ position (holds_command tag unit) (take end xs)

@@ -88,16 +88,11 @@ of_one_word n d low = omega (arith, low)
 
 -- none of them is one that isn't among them
 pub none_of_word : (tags part : List ℕ) (from tag : ℕ) → part ≡ take 64 (drop from tags) → length part ≡ 64 → list_any (λ t. t == tag) part ≡ false → (i : ℕ) → i < 64 → get_or tags (from + i) 0 ≢ tag
-none_of_word tags part from tag is long none i low same =
-    let tagged : get_or part i 0 ≡ tag = read_of_word tags part from is i low ∙ same in
-    let any : list_any (λ t. t == tag) part ≡ true = list_any_at (λ t. t == tag) part i 0 (omega (arith, low, long)) (eq-eqb _ _ tagged) in
-    absurd cc
+none_of_word tags part from tag is long none i low same = grind (arith, nat_tests, read_of_word tags part from is i low, list_any_at, eq-eqb)
 
 -- what holds a command with the tag has the tag
 command_tag : (tag unit : ℕ) (x : Option (Option HeldRequest)) → ((r : HeldRequest) → x ≡ Some (Some r) → itt r.request ≡ tag → ⊥) → holds_command tag unit x ≡ false
-command_tag tag unit None other = refl
-command_tag tag unit (Some None) other = refl
-command_tag tag unit (Some (Some r)) other = let apart = other r refl in grind (arith, nat_tests)
+command_tag tag unit x2 other = grind (arith, nat_tests)
 
 -- no command with the tag is held where no slot with a bit has it
 pub none_filled_with : (tags words : List ℕ) (turned : ℕ) (xs : List (Option (Option HeldRequest))) (tag unit j : ℕ) → AreLabelled tags turned xs → AreFilled words turned xs → turned ≤ 2 ^ 64 - 2049 → NoneTagged tags words tag → j < 1024 → holds_command tag unit (get_or xs j None) ≡ false

@@ -114,19 +114,7 @@ StandsFor-emptied s k h st within there =
 -- ---- the first history
 
 pub StandsFor-opened : (first size : ℕ) → StandsFor (opened first size) []
-StandsFor-opened first size = record {
-  turned = refl;
-  unfinished = refl;
-  inside = λ k lt. get_or-none k size;
-  before = λ n low. (refl, refl);
-  past = λ n from low. absurd (omega arith);
-  ahead = λ n from. refl;
-  above = λ n high. refl;
-  numbers = λ n r is. absurd (let z : None ≡ Some r = is in cc);
-}
-  where
-    get_or-none : (k n : ℕ) → get_or {A = Option (Option Request)} (replicate n None) k None ≡ None
-    get_or-none k n = ⊎_elim (λ lt. get_or-replicate n k None None lt) (λ ge. get_or_past (replicate n None) k None (simp length-replicate ge)) (cases_lt k n)
+StandsFor-opened first size = grind (arith, nat_tests, get_or-replicate, get_or_past, length-replicate)
 
 -- ---- a turn
 
@@ -159,16 +147,10 @@ StandsFor-turned s h st some there =
           (λ outer. last_none (drop 1 old) k (omega (arith, rest)) ∙ sym (place_missing h' (next + k) (st.above (next + k) (omega arith))))
           (cases_lt (k + 1) (length old));
       before = λ n low. ((st.before n low).0, same_turned n (λ x. omega (arith, x, low)) ∙ (st.before n low).1);
-      past = λ n from low. ⊎_elim
-          (λ is. (ap (is_received h) is ∙ there, ap (λ b. b || has_turned h n) (ap (λ m. e == m) is ∙ this), ap (λ b. cond b None (held h n)) (ap (λ m. e == m) is ∙ this)))
-          (λ apart. let p = st.past n from (omega (arith, low, apart)) in (p.0, same_turned n apart ∙ p.1, same_held n apart ∙ p.2))
-          (cases_eq n e);
+      past = λ n from low. grind (arith, nat_tests);
       ahead = λ n from. same_turned n (λ x. omega (arith, x, from)) ∙ st.ahead n (omega (arith, from));
       above = λ n high. st.above n (omega (arith, high, long));
-      numbers = λ n r is. ⊎_elim
-          (λ x. absurd (let z : None ≡ Some r = sym (ap (λ b. cond b None (held h n)) (ap (λ m. e == m) x ∙ this)) ∙ is in cc))
-          (λ apart. st.numbers n r (sym (same_held n apart) ∙ is))
-          (cases_eq n e);
+      numbers = λ n r is. grind (arith, nat_tests);
     }
 
 -- ---- commands that are being executed

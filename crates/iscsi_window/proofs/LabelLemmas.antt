@@ -45,11 +45,9 @@ labels_turned tags turned xs l = grind (arith, nat_tests, passed)
 -- ---- a block of places
 
 pub none_between : (p : Option (Option HeldRequest) → Bool) (xs : List (Option (Option HeldRequest))) (from end : ℕ) (found : Option ℕ) → IsFirstBetween p xs from end found → is_some found ≡ false → (j : ℕ) → from ≤ j → j < end → p (get_or xs j None) ≡ false
-none_between p xs from end None is none = is
-none_between p xs from end (Some k) is none = absurd cc
+none_between p xs from end j is none = grind (arith, nat_tests)
 
 -- the first one of the block is the first of all, where none passes before
 pub first_between : (p : Option (Option HeldRequest) → Bool) (xs : List (Option (Option HeldRequest))) (end from to : ℕ) (found : Option ℕ) → IsFirstBetween p xs from to found → is_some found ≡ true → to ≤ end → to ≤ length xs → ((j : ℕ) → j < from → p (get_or xs j None) ≡ false)
     → found ≡ position p (take end xs)
-first_between p xs end from to None is some most within before = absurd cc
-first_between p xs end from to (Some k) is some most within before = grind (arith, nat_tests, found_below)
+first_between p xs end from to j is some most within before = search (arith, found_below)

@@ -31,8 +31,7 @@ lowest_at f xs e fits missing same below = by_place (position f xs) refl
         (sym (same k) ∙ first.1, λ n lower. ⊎_elim (λ lt. below n lt) (λ ge. at n ge ∙ first.2 (n - e) (omega (arith, lower, ge))) (cases_lt n e))
 
 shown_by : (s : Received) (x : Option ℕ) → option_map (number_shown s) x ≡ option_map wire (option_map (λ k. number_expected s + k) x)
-shown_by s None = refl
-shown_by s (Some k) = refl
+shown_by s x1 = grind (arith, nat_tests)
 
 -- ---- a SCSI Command with a tag
 
@@ -94,6 +93,4 @@ drop_since s conn h st = record {
         StandsFor-emptied s k h st (within_room s k h st there) there
 
 pub TookLowest-drop : (s : Received) (conn answer : Option ℕ) (now : Received) (h : List Change) → StandsFor s h → answer ≡ option_map (number_shown s) (first_from s conn) → now ≡ dropped_at s (first_from s conn) → TookLowest (is_held_at h conn) answer now h
-TookLowest-drop s conn answer now h st told state =
-    subst (λ x. TookLowest (is_held_at h conn) answer x h) (sym state)
-    (subst (λ x. TookLowest (is_held_at h conn) x (dropped_at s (first_from s conn)) h) (sym told) (drop_since s conn h st))
+TookLowest-drop s conn answer now h st told state = grind (arith, nat_tests, drop_since s conn h st)

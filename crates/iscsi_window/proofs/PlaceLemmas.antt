@@ -1,6 +1,7 @@
 -- Places that are read and written, also beyond the last one.
-use Rattle.std.proofs.Common.{◌++◌, drop, replicate, is_some, false, ◌≡◌, ℕ, zero, suc, List, [], ◌∷◌, get_or, set, slice_get, Option, Some, None, ap, sym, refl}
+use Rattle.std.proofs.Common.{◌++◌, drop, replicate, is_some, false, ◌≡◌, ℕ, zero, suc, List, [], ◌∷◌, get_or, set, slice_get, Option, Some, None, ap, sym, refl, arith}
 use Rattle.std.specs.Option.{option_flatten}
+use Rattle.std.proofs.lemmas.Bool.Decides.{nat_tests}
 
 pub option_flatten-slice_get : {X : Type 0} (xs : List (Option X)) (k : ℕ) → option_flatten (slice_get xs k) ≡ get_or xs k None
 option_flatten-slice_get [] k = refl
@@ -19,8 +20,7 @@ set_same (y ∷ xs) zero x read = let same : y ≡ x = cc in ap (λ z. z ∷ xs)
 set_same (y ∷ xs) (suc k) x read = ap (λ zs. y ∷ zs) (set_same xs k x read)
 
 pub none_there : {X : Type 0} (x : Option X) → is_some x ≡ false → x ≡ None
-none_there None none = refl
-none_there (Some x) none = cc
+none_there x none = grind (arith, nat_tests)
 
 pub nothing_at : {X : Type 0} (size k : ℕ) → get_or (let xs : List (Option X) = replicate size None in xs) k None ≡ None
 nothing_at zero k = refl
@@ -35,6 +35,4 @@ pushed (x ∷ xs) zero = refl
 pushed (x ∷ xs) (suc j) = pushed xs j
 
 pub passed : {X : Type 0} (xs : List (Option X)) (j : ℕ) → get_or (drop 1 xs ++ None ∷ []) j None ≡ get_or xs (suc j) None
-passed [] zero = refl
-passed [] (suc j) = refl
-passed (x ∷ xs) j = pushed xs j
+passed xs j = grind (arith, nat_tests, pushed)

@@ -36,10 +36,7 @@ opened_shown first size = rw (none size)
 -- ---- numbers that come
 
 pub offer_shown : (s : Arrived) (r : Request) → offer_to (shown s) r ≡ offer_to s r
-offer_shown s r = rw (place_shown s (cmd_sn r)) (by_place (place_in s (cmd_sn r)))
-  where
-    by_place : (p : Place) → offer_at (shown s) p ≡ offer_at s p
-    by_place p = grind (arith, at_shown s, some_shown)
+offer_shown s r = grind (arith, nat_tests, place_shown s (cmd_sn r), at_shown s, some_shown)
 
 received_shown : (s : Arrived) (p : Place) (x : Option HeldRequest) (y : Option Request) → request_at (Some x) ≡ Some y → shown (received_at s p x) ≡ received_at (shown s) p y
 received_shown s p x y is = grind (arith, at_shown s, some_shown, put_shown s)
@@ -51,10 +48,7 @@ pub voided_shown : (s : Arrived) (w : ℕ) → shown (voided s w) ≡ voided (sh
 voided_shown s w = rw (place_shown s w) (received_shown s (place_in s w) None None refl)
 
 pub received_same : (s : Arrived) (w : ℕ) → is_received_at s (place_in s w) ≡ is_received_at (shown s) (place_in (shown s) w)
-received_same s w = rw (place_shown s w) (by_place (place_in s w))
-  where
-    by_place : (p : Place) → is_received_at s p ≡ is_received_at (shown s) p
-    by_place p = grind (arith, at_shown s, some_shown)
+received_same s w = grind (arith, nat_tests, place_shown s w, at_shown s, some_shown)
 
 -- ---- requests that are taken out
 
@@ -79,22 +73,13 @@ held_at_place : (s : Arrived) (p : Place) → held_at (shown s) p ≡ request_of
 held_at_place s p = grind (arith, at_shown s)
 
 pub held_shown : (s : Arrived) (w : ℕ) (x : Option HeldRequest) (y : Option Request) → x ≡ held_at s (place_in s w) → Some y ≡ request_at (Some x) → y ≡ held_at (shown s) (place_in (shown s) w)
-held_shown s w x y is are = rw (place_shown s w, held_at_place s (place_in s w), ← is) (by_held x y are)
-  where
-    by_held : (x : Option HeldRequest) (y : Option Request) → Some y ≡ request_at (Some x) → y ≡ request_of x
-    by_held x y are = grind arith
+held_shown s w x y is are = grind (arith, nat_tests, place_shown s w, held_at_place s (place_in s w))
 
 pub emptied_shown : (s : Arrived) (w : ℕ) → shown (emptied s w) ≡ emptied (shown s) w
-emptied_shown s w = rw (place_shown s w, held_at_place s (place_in s w)) (by_place (place_in s w) (held_at s (place_in s w)))
-  where
-    by_place : (p : Place) (x : Option HeldRequest) → shown (emptied_if s p x) ≡ emptied_if (shown s) p (request_of x)
-    by_place p x = grind (arith, put_shown s)
+emptied_shown s w = grind (arith, nat_tests, place_shown s w, held_at_place s (place_in s w), put_shown s)
 
 pub dropped_shown : (s : Arrived) (conn : Option ℕ) → shown (dropped_at s (position (holds_from conn) s.places)) ≡ dropped_at (shown s) (first_from (shown s) conn)
-dropped_shown s conn = rw (← first_shown s conn) (by_place (position (holds_from conn) s.places))
-  where
-    by_place : (x : Option ℕ) → shown (dropped_at s x) ≡ dropped_at (shown s) x
-    by_place x = grind (arith, put_shown s)
+dropped_shown s conn = grind (arith, nat_tests, first_shown s conn, put_shown s)
 
 pub from_shown : (s : Arrived) (k : ℕ) (conn : Option ℕ) → holds_from conn (at_place s k) ≡ is_held_from conn (at_place (shown s) k)
 from_shown s k conn = rw (at_shown s k)
@@ -108,10 +93,7 @@ turned_shown : (s : Arrived) → shown (turned_on s) ≡ turned_on (shown s)
 turned_shown s = rw (map-append, drop-map)
 
 pub advanced_shown : (s : Arrived) → shown (advanced s) ≡ advanced (shown s)
-advanced_shown s = rw (at_shown s 0) (by_place (at_place s 0))
-  where
-    by_place : (x : Option (Option HeldRequest)) → shown (advanced_if s x) ≡ advanced_if (shown s) (request_at x)
-    by_place x = grind (arith, turned_shown s)
+advanced_shown s = grind (arith, nat_tests, at_shown s 0, turned_shown s)
 
 -- what turned, where it is shown so
 pub turn_shown : (s : Arrived) (x : Option HeldRequest) (y : Option Request) → at_place s 0 ≡ Some x → Some y ≡ request_at (Some x) → Some (record { sn = wire (number_expected s); request = y }) ≡ turned_by (shown s)
@@ -121,10 +103,7 @@ pub none_shown : (s : Arrived) → at_place s 0 ≡ None → None ≡ turned_by 
 none_shown s none = rw (at_shown s 0, none)
 
 pub next_shown : (s : Arrived) (r : Request) → is_next s r ≡ is_next (shown s) r
-next_shown s r = rw (place_shown s (cmd_sn r)) (by_place (place_in s (cmd_sn r)))
-  where
-    by_place : (p : Place) → is_next_at s p ≡ is_next_at (shown s) p
-    by_place p = grind (arith, at_shown s, some_shown)
+next_shown s r = grind (arith, nat_tests, place_shown s (cmd_sn r), at_shown s, some_shown)
 
 pub passed_shown : (s : Arrived) (r : Request) → shown (advanced (offered_in s r 0)) ≡ advanced (offered_to (shown s) r)
 passed_shown s r = advanced_shown (offered_in s r 0) ∙ ap advanced (offered_shown s r 0)

@@ -61,10 +61,7 @@ pub emptied_since : (s : Received) (w : ℕ) (h : List Change) → StandsFor s h
 emptied_since s w h st = held_here s w h st ∙ ap (λ e. held h (lift e w)) (expected_is s h st)
 
 pub StandsFor-empty : (s : Received) (w : ℕ) (answer : Option Request) (now : Received) (h : List Change) → StandsFor s h → answer ≡ held_at s (place_in s w) → now ≡ emptied s w → StandsFor now (after_taking answer (number_of s.first h w) h)
-StandsFor-empty s w answer now h st told state =
-    let e : ℕ = number_expected s in
-    let k : ℕ = lift e w - e in
-    grind (arith, nat_tests, expected_is s h st, held_here s w h st, received_of_held h (e + k), StandsFor-emptied s k h st)
+StandsFor-empty s w answer now h st told state = grind (arith, nat_tests, expected_is s h st, held_here s w h st, received_of_held, StandsFor-emptied)
 
 -- ---- the request of one place
 

@@ -9,8 +9,7 @@ use Rattle.iscsi_window.specs.Received.{Arrived, room_of, at_place, IsSound}
 
 -- a place with a held request is received
 is_received : (conn : Option ℕ) (place : Option (Option HeldRequest)) → holds_from conn place ≡ true → (r : Option HeldRequest) × (place ≡ Some r)
-is_received conn None held = cc
-is_received conn (Some r) held = (r, refl)
+is_received conn r held = grind (arith, nat_tests)
 
 -- a received number has a place below the room
 pub received_within : (s : Arrived) (k : ℕ) (r : Option HeldRequest) → IsSound s → at_place s k ≡ Some r → k < room_of s
@@ -18,9 +17,7 @@ received_within s k r sound received = grind (arith, nat_tests)
 
 -- so has one whose request is held
 pub held_within : (s : Arrived) (conn : Option ℕ) (k : ℕ) → IsSound s → position (holds_from conn) s.places ≡ Some k → k < room_of s
-held_within s conn k sound found =
-    let held : holds_from conn (at_place s k) ≡ true = (position-Some (holds_from conn) s.places k None found).1 in
-    let received = is_received conn (at_place s k) held in received_within s k received.0 sound received.1
+held_within s conn k sound found = grind (arith, nat_tests, position-Some (holds_from conn) s.places k None found, is_received, received_within)
 
 pub sound_set : (s : Arrived) (k : ℕ) (v : Option (Option HeldRequest)) → IsSound s → k < room_of s → IsSound (record s { places = set s.places k v })
 sound_set s k v sound within = grind (arith, nat_tests, length-set, get_or-set_other)

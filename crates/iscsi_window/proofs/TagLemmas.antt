@@ -17,14 +17,11 @@ count_set : (g : ℕ) (xs : List (Option (Option HeldRequest))) (k : ℕ) (v : O
 count_set g xs k v within = sum_by-set (λ x. cond (is_of g x) 1 0) xs k v None within
 
 pub group_of_true : (g : ℕ) (x : Option ℕ) → is_group g x ≡ true → x ≡ Some g
-group_of_true g None passes = cc
-group_of_true g (Some h) passes = ap Some (eqb-true h g passes)
+group_of_true g x1 passes = grind (arith, nat_tests, eqb-true)
 
 -- a counter that a group of a place has stands in the table
 pub group_within : (place : Option (Option HeldRequest)) (g : ℕ) → group_of place ≡ Some g → g < 4093
-group_within None g is = cc
-group_within (Some None) g is = cc
-group_within (Some (Some r)) g is = let same : Some (itt r.request % 4093) ≡ Some g = is in let eq : itt r.request % 4093 ≡ g = cc in omega (arith, eq)
+group_within g g' is = grind (arith, nat_tests)
 
 pub is_held : (counts : List ℕ) (xs : List (Option (Option HeldRequest))) (k g : ℕ) → IsCounted counts xs → k < length xs → group_of (get_or xs k None) ≡ Some g → 0 < get_or counts g 0
 is_held counts xs k g c within is = let least = get_or-le-sum_by (λ x. cond (is_of g x) 1 0) xs k None within in grind (arith, nat_tests, c.exact g)
@@ -83,13 +80,7 @@ put_counted counts xs k x v c read = subst (λ y. IsCounted (raised (lowered cou
 -- ---- the first place turns
 
 pub turned_counted : (counts : List ℕ) (xs : List (Option (Option HeldRequest))) → IsCounted counts xs → 0 < length xs → IsCounted (lowered counts (group_of (get_or xs 0 None))) (drop 1 xs ++ None ∷ [])
-turned_counted counts [] c some = absurd (omega (arith, some))
-turned_counted counts (x ∷ xs) c some =
-    let set_first : IsCounted (lowered counts (group_of x)) (None ∷ xs) = lowered_counted counts (x ∷ xs) 0 c some in record {
-      as_many = set_first.as_many;
-      few = simp length-append (omega (arith, set_first.few));
-      exact = λ g. set_first.exact g ∙ sum_by-cons (λ x. cond (is_of g x) 1 0) None xs ∙ (let z = sum_by_push (λ x. cond (is_of g x) 1 0) xs None in omega (arith, z));
-    }
+turned_counted counts x1 c some = grind (arith, nat_tests, lowered_counted, length-append, sum_by-cons, sum_by_push)
 
 -- ---- at the opening
 
