@@ -37,14 +37,11 @@ module _ (list : List Connection) (cid k : ℕ) (found : position (has_cid cid) 
 
   pub number_is : read.stat_sn < 2 ^ 32 → read.stat_sn ≡ stat_sn_on cid (map cid_and_stat_sn list)
   number_is fits =
-      let there = position-Some (has_cid cid) (map cid_and_stat_sn list) k (cid_and_stat_sn read) found in
       let whole : wire read.stat_sn ≡ read.stat_sn = omega arith in
-      cc (here, stat_sn_on-at (map cid_and_stat_sn list) cid k (cid_and_stat_sn read) there.0 there.1 there.2)
+      cc (here, stat_sn_on-at (map cid_and_stat_sn list) cid k (cid_and_stat_sn read) found)
 
   conns_numbered : map cid_and_stat_sn (set list k (numbered read ((read.stat_sn + 1) % 4294967296))) ≡ count_reply cid (map cid_and_stat_sn list)
-  conns_numbered =
-      let there = position-Some (has_cid cid) (map cid_and_stat_sn list) k (cid_and_stat_sn read) found in
-      cc (map-set cid_and_stat_sn list k (numbered read ((read.stat_sn + 1) % 4294967296)), here, count_reply-at (map cid_and_stat_sn list) cid k (cid_and_stat_sn read) there.0 there.1 there.2)
+  conns_numbered = cc (map-set cid_and_stat_sn list k (numbered read ((read.stat_sn + 1) % 4294967296)), here, count_reply-at (map cid_and_stat_sn list) cid k (cid_and_stat_sn read) found)
 
   read_is : {A : Type 0} (f : Connection → A) (new : Connection) → f new ≡ f read → f new ≡ f (get_or list k new)
   read_is f new same = same ∙ ap f (is ∙ get_or_default list k read new within)

@@ -1,5 +1,6 @@
 -- A connection's place, and the table that tells it.
 use Rattle.std.proofs.Common.{◌≡◌, ℕ, zero, suc, ◌+◌, ◌<◌, ◌≤◌, ◌==◌, cond, Bool, true, false, List, [], ◌∷◌, length, map, get_or, position, Option, Some, None, refl, ap, sym, ◌∙◌, arith, ⊎_elim}
+use Rattle.std.proofs.lemmas.Bool.Decides.{nat_tests}
 use Rattle.std.proofs.lemmas.Bool.{eq-eqb, eqb-true, ne_eqb, or_parts, lt-ltb, le-ltb, cases_lt}
 use Rattle.std.proofs.lemmas.List.{get_or-map, get_or_default, length-map}
 use Rattle.std.proofs.lemmas.List.Sums.{position_or_len_is}
@@ -23,29 +24,12 @@ position_at p xs k d within here before =
     cc (lt-ltb k (length xs) within)
 
 pub position_nowhere : {X : Type 0} (p : X → Bool) (xs : List X) → ((j : ℕ) (d : X) → j < length xs → p (get_or xs j d) ≡ false) → position p xs ≡ None
-position_nowhere {X = X} p xs none =
-    let is : position_or_len p xs ≡ length xs = past xs none in
-    cc (le-ltb (length xs) (length xs) (omega arith))
-  where
-    past : (xs : List X) → ((j : ℕ) (d : X) → j < length xs → p (get_or xs j d) ≡ false) → position_or_len p xs ≡ length xs
-    past [] none = refl
-    past (x ∷ xs) none = position_or_len_is p (x ∷ xs) (length (x ∷ xs)) x (omega arith) (λ j l. none j x l) (λ l. absurd (omega arith))
+position_nowhere p [] none = refl
+position_nowhere p (x ∷ xs) none = grind (arith, nat_tests, position_nowhere p xs (λ j d l. none (suc j) d (omega (arith, l))), none 0 x)
 
 pub known_by_place : (p : ℕ × ℕ → Bool) (xs : List (ℕ × ℕ)) → is_some (position p xs) ≡ list_any p xs
-known_by_place p xs = by_tests (list_any p xs) refl
-  where
-    some_is : (x : Option ℕ) → IsSome x → is_some x ≡ true
-    some_is None h = absurd cc
-    some_is (Some n) h = refl
-
-    none_at : (xs : List (ℕ × ℕ)) → list_any p xs ≡ false → (j : ℕ) (d : ℕ × ℕ) → j < length xs → p (get_or xs j d) ≡ false
-    none_at [] is j d within = absurd (omega (arith, within))
-    none_at (x ∷ xs) is zero d within = (or_parts _ _ is).0
-    none_at (x ∷ xs) is (suc j) d within = none_at xs (or_parts _ _ is).1 j d (omega (arith, within))
-
-    by_tests : (b : Bool) → list_any p xs ≡ b → is_some (position p xs) ≡ list_any p xs
-    by_tests true is = some_is (position p xs) (IsSome-position p xs is) ∙ sym is
-    by_tests false is = ap is_some (position_nowhere p xs (none_at xs is)) ∙ sym is
+known_by_place p [] = refl
+known_by_place p (x ∷ xs) = grind (arith, nat_tests, known_by_place p xs)
 
 -- ---- what the table tells
 
@@ -86,11 +70,9 @@ known_at (c ∷ list) cid (suc k) d none within = known_at list cid k d (or_part
 
 pub apart_at : (list : List Connection) (j k : ℕ) (d : Connection) → are_distinct (map cid_and_stat_sn list) ≡ true → j < k → k < length list → ((get_or list k d).cid == (get_or list j d).cid) ≡ false
 apart_at [] j k d distinct before within = absurd (omega arith)
-apart_at (c ∷ list) zero zero d distinct before within = absurd (omega arith)
-apart_at (c ∷ list) zero (suc k) d distinct before within = known_at list c.cid k d (not_true _ (and_parts _ _ distinct).0) (omega arith)
-apart_at (c ∷ list) (suc j) zero d distinct before within = absurd (omega arith)
-apart_at (c ∷ list) (suc j) (suc k) d distinct before within =
-    apart_at list j k d (and_parts _ _ distinct).1 (omega arith) (omega arith)
+apart_at (c ∷ list) j zero d distinct before within = absurd (omega arith)
+apart_at (c ∷ list) zero (suc k) d distinct before within = grind (arith, known_at list c.cid k d)
+apart_at (c ∷ list) (suc j) (suc k) d distinct before within = grind (arith, apart_at list j k d)
 
 pub told_more : (places new : List ℕ) (list : List Connection) (n : ℕ) (e : Connection) → TellsPlaces places list n → are_distinct (map cid_and_stat_sn list) ≡ true → n < length list → length list ≤ 64
     → ((other : ℕ) → get_or new other 255 ≡ cond (other == (get_or list n e).cid) n (get_or places other 255))

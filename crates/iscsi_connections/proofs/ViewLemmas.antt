@@ -29,14 +29,10 @@ placed_same places list list' same are =
 
 -- ---- one connection changed, and not its CID
 
-module _ (list : List Connection) (k : ℕ) (new : Connection) (cid_is : new.cid ≡ (get_or list k new).cid) where
-  pub open_set : new.is_open ≡ (get_or list k new).is_open → open_in (set list k new) ≡ open_in list
-  open_set open_is = kept list k cid_is open_is
-    where
-      kept : (list : List Connection) (k : ℕ) → new.cid ≡ (get_or list k new).cid → new.is_open ≡ (get_or list k new).is_open → open_in (set list k new) ≡ open_in list
-      kept [] k cid_is open_is = refl
-      kept (c ∷ list) zero cid_is open_is = grind arith
-      kept (c ∷ list) (suc k) cid_is open_is = grind (arith, kept list k cid_is open_is)
+pub open_set : (list : List Connection) (k : ℕ) (new : Connection) → new.cid ≡ (get_or list k new).cid → new.is_open ≡ (get_or list k new).is_open → open_in (set list k new) ≡ open_in list
+open_set [] k new cid_is open_is = refl
+open_set (c ∷ list) zero new cid_is open_is = grind arith
+open_set (c ∷ list) (suc k) new cid_is open_is = grind (arith, open_set list k new)
 
 -- ---- closing
 
