@@ -7,6 +7,7 @@ use Rattle.std.proofs.lemmas.List.Quantifiers.{all_pairs_push}
 use Rattle.std.proofs.lemmas.List.Folds.{list_any_at}
 use Rattle.std.proofs.lemmas.List.Elements.{filter-append}
 use Rattle.std.proofs.lemmas.List.Kept.{AllPairs-filter}
+use Rattle.std.proofs.lemmas.Bool.Decides.{nat_tests}
 use Rattle.iscsi_slots.specs.Places.{AreAscending}
 use Rattle.iscsi_slots.proofs.SortedLemmas.{not_greater, same_place}
 use Rattle.iscsi_commands.specs.declared.live.Live.{Live}
@@ -72,10 +73,7 @@ one_fewer (e ∷ log) (suc k) live = grind (arith, one_fewer log k live)
 -- ---- a command enters
 
 pub live_pushed : (log : List Entry) (command : Live) (slot : ℕ) → live_in (log ++ record { command = command; slot = slot; is_live = true } ∷ []) ≡ live_in log ++ command ∷ []
-live_pushed log command slot =
-    let e : Entry = record { command = command; slot = slot; is_live = true } in
-    ap (map (λ (x : Entry). x.command)) (filter-append (λ (x : Entry). x.is_live) log (e ∷ []))
-    ∙ map-append (λ (x : Entry). x.command) (filter (λ (x : Entry). x.is_live) log) (e ∷ [])
+live_pushed log command slot = grind (arith, nat_tests, filter-append, map-append)
 
 -- ---- the live ones alone
 
@@ -92,9 +90,7 @@ pub kept_up : (log : List Entry) → AreAscending ticket_of log → AreAscending
 kept_up log up = AllPairs-filter (λ (x y : Entry). ticket_of x < ticket_of y) (λ (x : Entry). x.is_live) log up
 
 pub tickets_up : (log : List Entry) → AreAscending ticket_of log → AreTicketsAscending (live_in log)
-tickets_up log up i j d lt l =
-    let kept = filter (λ (x : Entry). x.is_live) log in
-    grind (arith, length-map kept (λ (x : Entry). x.command), get_or-map (λ (x : Entry). x.command) kept i NOTHING d, get_or-map (λ (x : Entry). x.command) kept j NOTHING d, kept_up log up i j NOTHING lt)
+tickets_up log up i j d lt l = grind (arith, nat_tests, length-map, get_or-map, kept_up log up i j NOTHING lt)
 
 -- ---- a ticket above all
 
@@ -106,10 +102,7 @@ newest log n up last k d l = grind (arith, not_greater ticket_of log up k (lengt
 
 -- where all live commands have lower tickets, one with a ticket that isn't lower isn't live
 pub live_below : (log : List Entry) (n : ℕ) → All (λ l. l.ticket < n) (live_in log) → (k : ℕ) → IsLiveAt log k → ticket_of (entry_at log k) < n
-live_below log n low k live =
-    let at = command_at log k BLANK live in
-    let lower : (get_or (live_in log) (rank log k) BLANK).ticket < n = low (rank log k) BLANK at.0 in
-    grind (arith, at.1)
+live_below log n low k live = grind (arith, nat_tests, command_at log k BLANK live)
 
 none_live : (log : List Entry) → ((k : ℕ) → IsLiveAt log k → ⊥) → live_in log ≡ []
 none_live [] none = refl
@@ -142,17 +135,12 @@ live_fewer (e ∷ log) = grind (arith, live_fewer log)
 
 -- no live command has the tag, where the test of all says so
 pub unused_at : (log : List Entry) (itt : ℕ) → list_any (λ l. l.itt == itt) (live_in log) ≡ false → (j : ℕ) → IsLiveAt log j → tag_at log j ≢ itt
-unused_at log itt none j live same =
-    let at = command_at log j BLANK live in
-    let any = list_any_at (λ (l : Live). l.itt == itt) (live_in log) (rank log j) BLANK at.0 (eq-eqb _ _ (ap (λ (l : Live). l.itt) at.1 ∙ same)) in
-    false≢true (sym none ∙ any)
+unused_at log itt none j live same = grind (arith, nat_tests, command_at log j BLANK live, list_any_at, eq-eqb)
 
 -- two live commands with one tag are one
 earlier_apart : (log : List Entry) → AreTagsApart (live_in log) → (j k : ℕ) → IsLiveAt log j → IsLiveAt log k → j < k → tag_at log j ≢ tag_at log k
 earlier_apart log apart j k j_live k_live l same =
-    let a = command_at log j BLANK j_live in
-    let b = command_at log k BLANK k_live in
-    apart (rank log j) (rank log k) BLANK (rank_up log j k j_live l) b.0 (cc (a.1, b.1))
+    grind (arith, nat_tests, command_at log j BLANK j_live, command_at log k BLANK k_live, rank_up log j k j_live l)
 
 pub same_tagged : (log : List Entry) → AreTagsApart (live_in log) → (j k : ℕ) → IsLiveAt log j → IsLiveAt log k → tag_at log j ≡ tag_at log k → j ≡ k
 same_tagged log apart j k j_live k_live same = grind (arith, earlier_apart log apart j k j_live k_live, earlier_apart log apart k j k_live j_live)
@@ -173,15 +161,13 @@ ticket_at log n at up below above k l is = grind (arith, below k, above at, up a
 -- ---- what is found by ticket and by tag
 
 pub found_ticket : (log : List Entry) (n k : ℕ) → AreAscending ticket_of log → IsLiveAt log k → ticket_of (entry_at log k) ≡ n → find_ticket n (live_in log) ≡ Some (entry_at log k).command
-found_ticket log n k up live is = find_live (λ l. l.ticket == n) log k live (eq-eqb _ _ is)
-    (λ j j_live same. same_ticket log up j k (live_within log j j_live) (live_within log k live) (eqb-true _ _ same ∙ sym is))
+found_ticket log n k up live is = grind (arith, nat_tests, find_live, eq-eqb _ _ is, same_ticket, live_within, live_within log k live, eqb-true)
 
 pub no_ticket : (log : List Entry) (n : ℕ) → ((k : ℕ) → IsLiveAt log k → ticket_of (entry_at log k) ≢ n) → find_ticket n (live_in log) ≡ None
 no_ticket log n none = find_none (λ l. l.ticket == n) log (λ j live. ne_eqb _ _ (none j live))
 
 pub found_tag : (log : List Entry) (n k : ℕ) → AreTagsApart (live_in log) → IsLiveAt log k → tag_at log k ≡ n → find_tag n (live_in log) ≡ Some (entry_at log k).command
-found_tag log n k apart live is = find_live (λ l. l.itt == n) log k live (eq-eqb _ _ is)
-    (λ j j_live same. same_tagged log apart j k j_live live (eqb-true _ _ same ∙ sym is))
+found_tag log n k apart live is = grind (arith, nat_tests, find_live, eq-eqb _ _ is, same_tagged, eqb-true)
 
 pub no_tag : (log : List Entry) (n : ℕ) → ((k : ℕ) → IsLiveAt log k → tag_at log k ≢ n) → find_tag n (live_in log) ≡ None
 no_tag log n none = find_none (λ l. l.itt == n) log (λ j live. ne_eqb _ _ (none j live))
@@ -196,9 +182,7 @@ no_ticket_leaves log n none = none_stays (λ l. l.ticket == n) log (λ j live. n
 -- ---- what is kept of the log, as one leaves
 
 set_up : (log : List Entry) (k : ℕ) → AreAscending ticket_of log → k < length log → AreAscending ticket_of (set log k (ended (entry_at log k)))
-set_up log k up within i j d lt l =
-    let new : Entry = ended (entry_at log k) in
-    grind (arith, length-set log k new, get_or-set_same log k new d within, get_or-set_other log k i new d, get_or-set_other log k j new d, get_or_default log k NOTHING d within, up i j d lt)
+set_up log k up within i j d lt l = grind (arith, nat_tests, length-set, get_or-set_same, get_or-set_other, get_or_default log k NOTHING d within)
 
 pub logged_without : {log : List Entry} {capacity live room hints : ℕ} {places : List ℕ} {crowded : List Bool} {others : List ℕ} {others_room : ℕ} (logged : AreLogged log capacity live room hints places crowded others others_room) (n k : ℕ) → IsLiveAt log k → ticket_of (entry_at log k) ≡ n
     → {places_after : List ℕ} {crowded_after : List Bool} {others_after : List ℕ} → AreTagged (set log k (ended (entry_at log k))) places_after crowded_after others_after → AreLogged (set log k (ended (entry_at log k))) capacity (live - 1) room hints places_after crowded_after others_after others_room

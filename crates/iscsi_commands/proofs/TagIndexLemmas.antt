@@ -80,14 +80,7 @@ module _ {log : List Entry} {places : List ℕ} {crowded : List Bool} {others : 
 
     -- those that are left among the others are all of them but this one
     without : (left : List ℕ) → ((j : ℕ) → j ≢ k → times j left ≡ times j others) → (1 ≤ times k left → ⊥) → AreAscending (tag_at log) left → AreTagged (set log k (ended (entry_at log k))) places crowded left
-    without left same none up = record {
-      size = tagged.size;
-      groups = tagged.groups;
-      known = λ j is other. grind (arith, was j is, same_tag j, tagged.known j, same j);
-      are_live = λ j some. grind (arith, same j, tagged.are_live j, get_or-set_other log k j (ended (entry_at log k)) NOTHING);
-      sorted = same_order (tag_at log) (tag_at (set log k (ended (entry_at log k)))) left (λ i d l. same_tag (get_or left i d)) up;
-      marked = λ j some. grind (arith, same j, same_tag j, tagged.marked j);
-    }
+    without left same none up = grind (arith, nat_tests, was, same_tag, get_or-set_other, same_order)
 
     pub left_first : times k others ≡ 0 → AreTagged (set log k (ended (entry_at log k))) places crowded others
     left_first none = without others (λ j apart. refl) (λ some. omega (arith, none, some)) tagged.sorted
@@ -131,14 +124,8 @@ module _ (log : List Entry) {places : List ℕ} {crowded : List Bool} {others : 
 
   -- the place of its group is its own
   pub entered_first : (group : ℕ) → group ≡ group_of (tag_at log k) → (get_or places group 0 < k → IsLiveAt log (get_or places group 0) → group_of (tag_at log (get_or places group 0)) ≢ group) → AreTagged (take (k + 1) log) (set places group k) crowded others
-  entered_first group is free = record {
-    size = length-set places group k ∙ tagged.size;
-    groups = tagged.groups;
-    known = λ j m other. grind (arith, before log (k + 1) j m, now j, tagged.known j, get_or-set_same places group k 0, get_or-set_other places group (group_of (tag_at log j)) k 0, place_below tagged (tag_at log k));
-    are_live = λ j some. grind (arith, other_before j some, now j, tagged.are_live j some);
-    sorted = sorted_more;
-    marked = λ j some. grind (arith, other_before j some, now j, tagged.marked j some);
-  }
+  entered_first group is free =
+      grind (arith, nat_tests, length-set places group k, before, now, get_or-set_same places group k 0, get_or-set_other, place_below tagged (tag_at log k), other_before, sorted_more)
 
   -- the place of its group is taken
   pub entered_other : (at group : ℕ) → group ≡ group_of (tag_at log k) → at ≤ length others → get_or places (group_of (tag_at log k)) 0 < k → ((i : ℕ) → i < at → tag_at log (get_or others i 0) < tag_at log k) → ((i : ℕ) → at ≤ i → i < length others → tag_at log k ≤ tag_at log (get_or others i 0))

@@ -1,5 +1,6 @@
 use Rattle.std.proofs.Common.{◌<◌, ◌≤◌, ℕ, List, length, All, ap, sym, subst, ◌∙◌, arith, ⊎_elim}
 use Rattle.std.proofs.lemmas.Bool.{cases_lt}
+use Rattle.std.proofs.lemmas.Bool.Decides.{nat_tests}
 use Rattle.iscsi_commands.specs.declared.entry.Entry.{Entry}
 use Rattle.iscsi_commands.specs.Log.{AreTagged, IsLiveAt, entry_at, live_in, ticket_of}
 use Rattle.iscsi_commands.proofs.LogLemmas.{live_within, live_below, live_taken, taken_lower}
@@ -8,13 +9,7 @@ use Rattle.iscsi_commands.proofs.live_commands.forget_ended.Goals as goal
 
 -- those from a place on have tickets that aren't lower, and so aren't live
 none_from : (log : List Entry) (n ticket : ℕ) → All (λ l. l.ticket < ticket) (live_in log) → ((k : ℕ) → n ≤ k → k < length log → ticket ≤ ticket_of (entry_at log k)) → (k : ℕ) → IsLiveAt log k → k < n
-none_from log n ticket newest above k live = ⊎_elim
-    (λ below. below)
-    (λ from.
-    let upper = above k from (live_within log k live) in
-    let lower = live_below log ticket newest k live in
-    absurd (omega (arith, upper, lower)))
-    (cases_lt k n)
+none_from log n ticket newest above k live = grind (arith, nat_tests, live_within log k live, live_below log ticket newest k live)
 
 pub returns-then-not-is_newest-clause-same : goal.returns-then-not-is_newest-clause-same
 returns-then-not-is_newest-clause-same c =
@@ -24,10 +19,7 @@ returns-then-not-is_newest-clause-same c =
     ap live_in c.shorten.ensures.log ∙ live_taken log n (none_from log n c.args.ticket c.requires.newest above)
 
 pub returns-then-not-is_newest-clause-newest : goal.returns-then-not-is_newest-clause-newest
-returns-then-not-is_newest-clause-newest c =
-    let n = c.count_below-below.result in
-    let below = subst (λ (l : List Entry). (k : ℕ) → k < n → ticket_of (entry_at l k) < c.args.ticket) c.deref-then-not-is_newest.ensures.value c.count_below-below.ensures.below in
-    subst (All (λ e. ticket_of e < c.args.ticket)) (sym c.shorten.ensures.log) (taken_lower c.args.log.now.items n c.args.ticket below)
+returns-then-not-is_newest-clause-newest c = grind (arith, nat_tests, taken_lower)
 
 pub returns-then-not-is_newest-clause-tagged : goal.returns-then-not-is_newest-clause-tagged
 returns-then-not-is_newest-clause-tagged c = λ places crowded others tagged.

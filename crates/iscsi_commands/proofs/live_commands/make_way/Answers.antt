@@ -1,4 +1,5 @@
 use Rattle.std.proofs.Common.{◌<◌, ap, sym, subst, ◌∙◌, arith, All}
+use Rattle.std.proofs.lemmas.Bool.Decides.{nat_tests}
 use Rattle.iscsi_slots.specs.Places.{AreAscending}
 use Rattle.iscsi_commands.specs.Log.{live_in, ticket_of}
 use Rattle.iscsi_commands.proofs.LogLemmas.{live_again, kept_up, kept_newest, live_fewer}
@@ -23,5 +24,4 @@ pub returns-then-len-live-clause-ascending : goal.returns-then-len-live-clause-a
 returns-then-len-live-clause-ascending c = subst (AreAscending ticket_of) (sym c.close_up.ensures.log) (kept_up c.forget_ended.new.log.items c.forget_ended.ensures.ascending)
 
 pub returns-then-len-live-clause-newest : goal.returns-then-len-live-clause-newest
-returns-then-len-live-clause-newest c = subst (All (λ e. ticket_of e < c.args.ticket)) (sym c.close_up.ensures.log)
-    (kept_newest c.forget_ended.new.log.items c.args.ticket (subst (All (λ l. l.ticket < c.args.ticket)) (sym c.forget_ended.ensures.same) c.requires.newest))
+returns-then-len-live-clause-newest c = grind (arith, nat_tests, kept_newest)

@@ -1,4 +1,5 @@
-use Rattle.std.proofs.Common.{◌≡◌, ◌≢◌, ℕ, List, Some, ap, sym, subst, ◌∙◌}
+use Rattle.std.proofs.Common.{◌≡◌, ◌≢◌, ℕ, List, Some, ap, sym, subst, ◌∙◌, arith}
+use Rattle.std.proofs.lemmas.Bool.Decides.{nat_tests}
 use Rattle.iscsi_commands.specs.declared.entry.Entry.{Entry}
 use Rattle.iscsi_commands.specs.Commands.{AreAscending, find_ticket}
 use Rattle.iscsi_commands.specs.Log.{IsLiveAt, entry_at, ticket_of}
@@ -12,13 +13,7 @@ pub returns-clause-ascending : goal.returns-clause-ascending
 returns-clause-ascending c = subst (λ q. AreAscending q.items) c.self.view_is (tickets_up c.self.inside.log.items c.self.invariant.ascending)
 
 pub returns-in_err-k-clause-command : goal.returns-in_err-k-clause-command
-returns-in_err-k-clause-command c =
-    let none = subst (λ (log : List Entry). (k : ℕ) → IsLiveAt log k → ticket_of (entry_at log k) ≢ c.args.ticket) c.deref.ensures.value c.in_err-k.ensures in
-    c.from_residual.ensures ∙ sym (no_ticket c.self.inside.log.items c.args.ticket none) ∙ ap (λ q. find_ticket c.args.ticket q.items) c.self.view_is
+returns-in_err-k-clause-command c = grind (arith, nat_tests, no_ticket)
 
 pub returns-clause-command : goal.returns-clause-command
-returns-clause-command c =
-    let found = subst (λ (log : List Entry). IsLiveAt log c.in_ok-k.k × (ticket_of (entry_at log c.in_ok-k.k) ≡ c.args.ticket)) c.deref.ensures.value c.in_ok-k.ensures in
-    ap (λ (e : Entry). Some e.command) (c.entry_at.ensures ∙ ap (λ log. entry_at log c.in_ok-k.k) c.deref-3.ensures.value)
-    ∙ sym (found_ticket c.self.inside.log.items c.args.ticket c.in_ok-k.k c.self.invariant.ascending found.0 found.1)
-    ∙ ap (λ q. find_ticket c.args.ticket q.items) c.self.view_is
+returns-clause-command c = grind (arith, nat_tests, found_ticket)

@@ -1,6 +1,7 @@
 use Rattle.std.proofs.Common.{true, ◌≡◌, ◌≤◌, ◌<◌, ◌+◌, ◌*◌, ◌==◌, false, ℕ, List, [], ◌∷◌, ◌++◌, length, take, drop, vec_capacity, ap, sym, subst, ◌∙◌, arith, rules}
 use Rattle.std.specs.List.{list_any}
 use Rattle.std.proofs.lemmas.List.{length-take, length-append, length-drop}
+use Rattle.std.proofs.lemmas.Bool.Decides.{nat_tests}
 use Rattle.iscsi_slots.specs.Queued.{Queued}
 use Rattle.iscsi_commands.specs.declared.entry.Entry.{Entry}
 use Rattle.iscsi_commands.specs.declared.live.Live.{Live}
@@ -12,24 +13,11 @@ use Rattle.iscsi_commands.proofs.live_commands.LiveCommands.push.Goals as goal
 
 -- how many hints there are stays
 pub same_hints : (n : ℕ) (first way second all : List ℕ) → n ≡ length all → length way ≡ length first → first ≡ all → length second ≡ length (take n (way ++ drop (length way) all)) → length (take n (second ++ drop (length second) (take n (way ++ drop (length way) all)))) ≡ length all
-same_hints n first way second all is a b c =
-    let same = ap length b in
-    let d : length (take n (way ++ drop (length way) all)) ≡ length all = simp (length-take, length-append, length-drop) (omega arith) in
-    simp (length-take, length-append, length-drop) (omega (arith, d))
+same_hints n first way second all is a b c = grind (arith, nat_tests, length-take, length-append, length-drop)
 
 -- those that stand apart are live
 pub append-requires-clause-others : goal.append-requires-clause-others
-append-requires-clause-others c =
-    let kept = c.self.invariant in
-    let way = c.make_way.ensures in
-    let apart = few_others c.make_way.new.log.items way.tagged in
-    let fewer = ap length way.same in
-    let counted = kept.counted in
-    let view = ap (λ (q : Queued Live). length q.items) c.self.view_is in
-    let size = ap (λ (q : Queued Live). q.room) c.self.view_is in
-    let room = way.room ∙ kept.for_others in
-    let few = c.requires.room in
-    omega (arith, apart, fewer, counted, view, size, room, few)
+append-requires-clause-others c = grind (arith, nat_tests, few_others)
 
 pub invariant_of-self : goal.invariant_of-self
 invariant_of-self c =

@@ -1,4 +1,5 @@
 use Rattle.std.proofs.Common.{◌≡◌, ◌≢◌, ◌-◌, ℕ, List, length, set, vec_capacity, ap, sym, subst, ◌∙◌, arith}
+use Rattle.std.proofs.lemmas.Bool.Decides.{nat_tests}
 use Rattle.iscsi_slots.specs.Queued.{queued}
 use Rattle.iscsi_commands.specs.declared.entry.Entry.{Entry}
 use Rattle.iscsi_commands.specs.Commands.{without_ticket}
@@ -25,15 +26,7 @@ invariant_of-self c =
     (logged_without c.self.invariant c.args.ticket k found.0 found.1 tagged)))
 
 pub returns-in-Some : goal.returns-in-Some
-returns-in-Some c =
-    let found = subst (λ (log : List Entry). IsLiveAt log c.in-Some.k × (ticket_of (entry_at log c.in-Some.k) ≡ c.args.ticket)) c.deref.ensures.value c.in-Some.ensures in
-    ap (λ (log : List Entry). queued (live_in log) c.self.inside.room) c.end.ensures.log
-    ∙ ap (λ ls. queued ls c.self.inside.room) (ticket_leaves c.self.inside.log.items c.args.ticket c.in-Some.k c.self.invariant.ascending found.0 found.1)
-    ∙ ap (λ q. queued (without_ticket c.args.ticket q.items) q.room) c.self.view_is
+returns-in-Some c = grind (arith, nat_tests, ticket_leaves)
 
 pub returns-in_default : goal.returns-in_default
-returns-in_default c =
-    let none = subst (λ (log : List Entry). (k : ℕ) → IsLiveAt log k → ticket_of (entry_at log k) ≢ c.args.ticket) c.deref.ensures.value c.in_default.ensures in
-    sym c.self.view_is
-    ∙ ap (λ ls. queued ls c.self.inside.room) (sym (no_ticket_leaves c.self.inside.log.items c.args.ticket none))
-    ∙ ap (λ q. queued (without_ticket c.args.ticket q.items) q.room) c.self.view_is
+returns-in_default c = grind (arith, nat_tests, no_ticket_leaves)

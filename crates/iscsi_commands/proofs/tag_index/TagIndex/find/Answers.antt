@@ -1,6 +1,7 @@
 use Rattle.std.proofs.Common.{◌≡◌, ◌<◌, false, length, get_or, ap, sym, subst, ◌∙◌, arith}
 use Rattle.std.proofs.lemmas.Bool.{false≢true}
 use Rattle.std.proofs.lemmas.List.{get_or_read}
+use Rattle.std.proofs.lemmas.Bool.Decides.{nat_tests}
 use Rattle.iscsi_commands.specs.Log.{tag_at, group_of, IsLiveAt}
 use Rattle.iscsi_commands.proofs.LogLemmas.{group_below}
 use Rattle.iscsi_commands.proofs.TagIndexLemmas.{place_below, other_live, other_within, no_tagged, unmarked_tag}
@@ -13,29 +14,13 @@ pub count_below-place-requires-clause-within : goal.count_below-place-requires-c
 count_below-place-requires-clause-within c = other_within c.requires
 
 pub entry_at-requires : goal.entry_at-requires
-entry_at-requires c =
-    let l = c.if-place-len.true in let long = c.len.ensures.len in
-    let here = other_within c.requires c.count_below-place.result (omega (arith, l, long)) in
-    let is = c.at.ensures in let same = c.from-other.ensures in
-    omega (arith, here, is, same)
+entry_at-requires c = grind (arith, nat_tests, other_within)
 
 pub returns-then-entry_at-itt : goal.returns-then-entry_at-itt
-returns-then-entry_at-itt c =
-    let l = c.if-place-len.true in let long = c.len.ensures.len in
-    let is : get_or c.args.self.now.others.items c.count_below-place.result 0 ≡ c.from-other.result = sym c.at.ensures ∙ sym c.from-other.ensures in (
-      subst (IsLiveAt c.args.log.now) is (other_live c.requires c.count_below-place.result (omega (arith, l, long))),
-      sym (ap (λ e. e.command.itt) c.entry_at.ensures) ∙ c.if-entry_at-itt.true,
-    )
+returns-then-entry_at-itt c = grind (arith, nat_tests, other_live)
 
 pub returns-else-entry_at-itt : goal.returns-else-entry_at-itt
-returns-else-entry_at-itt c =
-    let places = c.args.self.now.places.items in
-    let found = c.count_below-place.ensures in
-    let inside : c.group_of-group.result < length places = let below = place_below c.requires c.args.itt in let is = c.group_of-group.ensures in omega (arith, below, is) in
-    let first : c.from-at.result ≡ get_or places (group_of c.args.itt) 0 = c.from-at.ensures ∙ get_or_read places c.group_of-group.result c.index.result.now inside c.index.ensures 0 ∙ ap (λ n. get_or places n 0) c.group_of-group.ensures in
-    no_tagged c.requires c.args.itt c.count_below-place.result found.below found.above
-    (λ live tag. false≢true (sym c.if-is_live_with.false ∙ c.is_live_with.ensures.no (subst (IsLiveAt c.args.log.now) (sym first) live) (ap (tag_at c.args.log.now) first ∙ tag)))
-    (λ l tag. c.if-entry_at-itt.false (ap (λ e. e.command.itt) c.entry_at.ensures ∙ ap (tag_at c.args.log.now) (c.from-other.ensures ∙ c.at.ensures) ∙ tag))
+returns-else-entry_at-itt c = grind (arith, nat_tests, place_below c.requires c.args.itt, get_or_read, no_tagged)
 
 pub returns-else-place-len : goal.returns-else-place-len
 returns-else-place-len c =
@@ -53,14 +38,4 @@ pub index-requires-2 : goal.index-requires-2
 index-requires-2 c = let below = group_below c.args.itt in let is = c.group_of-group.ensures in let groups = c.requires.groups in omega (arith, below, is, groups)
 
 pub returns-then-not-index : goal.returns-then-not-index
-returns-then-not-index c =
-    let places = c.args.self.now.places.items in
-    let crowded = c.args.self.now.crowded.items in
-    let below = group_below c.args.itt in
-    let is = c.group_of-group.ensures in
-    let inside : c.group_of-group.result < length places = let size = c.requires.size in omega (arith, below, is, size) in
-    let inside_marks : c.group_of-group.result < length crowded = let groups = c.requires.groups in omega (arith, below, is, groups) in
-    let first : c.from-at.result ≡ get_or places (group_of c.args.itt) 0 = c.from-at.ensures ∙ get_or_read places c.group_of-group.result c.index.result.now inside c.index.ensures 0 ∙ ap (λ n. get_or places n 0) is in
-    let mark : c.index-2.result.now ≡ get_or crowded (group_of c.args.itt) false = get_or_read crowded c.group_of-group.result c.index-2.result.now inside_marks c.index-2.ensures false ∙ ap (λ n. get_or crowded n false) is in
-    unmarked_tag c.requires c.args.itt (sym mark ∙ c.if-not-index.true)
-    (λ live tag. false≢true (sym c.if-is_live_with.false ∙ c.is_live_with.ensures.no (subst (IsLiveAt c.args.log.now) (sym first) live) (ap (tag_at c.args.log.now) first ∙ tag)))
+returns-then-not-index c = grind (arith, nat_tests, group_below c.args.itt, get_or_read, unmarked_tag)
