@@ -15,19 +15,16 @@ use Rattle.iscsi_window.specs.Windows.{holds_command}
 use Rattle.iscsi_window.specs.FilledSlots.{slot_bit, IsSlotSet, AreFilled, NoneTagged}
 use Rattle.iscsi_window.specs.PlaceTags.{AreLabelled}
 use Rattle.iscsi_window.proofs.PlaceLemmas.{nothing_at, passed}
-use Rattle.iscsi_window.proofs.LabelLemmas.{inside, apart}
+use Rattle.iscsi_window.proofs.LabelLemmas.{inside}
 
 -- ---- one bit of a word is written
 
 -- two slots of one word have two bits
-two_bits : (n m : ℕ) → n % 1024 ≢ m % 1024 → n % 1024 / 64 ≡ m % 1024 / 64 → n % 64 ≢ m % 64
-two_bits n m ne same both = ne (omega (arith, same, both))
-
 module _ (words : List ℕ) (n x b : ℕ) (long : length words ≡ 16) (here : bit_at x (n % 64) ≡ b)
     (others : (i : ℕ) → i < 64 → i ≢ n % 64 → bit_at x i ≡ bit_at (get_or words (n % 1024 / 64) 0) i) where
   -- a word that differs in one bit
   pub written : IsSlotSet words (set words (n % 1024 / 64) x) n b
-  written = grind (arith, nat_tests, get_or-set_same, two_bits, get_or-set_other)
+  written = grind (arith, nat_tests, get_or-set_same, get_or-set_other)
 
 pub bit_set : (words : List ℕ) (n : ℕ) → length words ≡ 16 → IsSlotSet words (set words (n % 1024 / 64) (bit_or (get_or words (n % 1024 / 64) 0) (1 * 2 ^ (n % 64) % 2 ^ 64))) n 1
 bit_set words n long =
@@ -44,18 +41,11 @@ bit_cleared words n long =
 -- ---- a place is written, or the first one turns
 
 pub none_filled : (size : ℕ) → AreFilled (replicate 16 0) 0 (replicate size None)
-none_filled size = grind (arith, nat_tests, nothing_at, Option)
+none_filled size = grind (arith, nat_tests, nothing_at)
 
 pub filled_put : (old new : List ℕ) (turned : ℕ) (xs : List (Option (Option HeldRequest))) (k : ℕ) (v : Option (Option HeldRequest)) → AreFilled old turned xs → IsSlotSet old new (min (turned + k) (2 ^ 64 - 1)) 1 → length xs ≤ 1024 → k < length xs → AreFilled new turned (set xs k v)
 filled_put old new turned xs k v f at few within = record {
-  marked = λ j r is fits. ⊎_elim
-      (λ same.
-      let number : turned + j ≡ min (turned + k) (2 ^ 64 - 1) = omega (arith, same, fits) in
-      ap (slot_bit new) number ∙ at.here)
-      (λ ne.
-      let there : get_or xs j None ≡ Some (Some r) = sym (get_or-set_other xs k j v None ne) ∙ is in
-      at.others (turned + j) (apart turned j k ne (omega (arith, inside xs j (Some r) there, few)) (omega (arith, within, few)) fits) ∙ f.marked j r there fits)
-      (cases_eq j k);
+  marked = λ j r is fits. grind (arith, nat_tests, at.here, at.others (turned + j), f.marked j r, get_or-set_other xs k j v None, inside xs j (Some r));
 }
 
 -- a place has no request any more
@@ -69,11 +59,9 @@ filled_passed words turned xs f = grind (arith, nat_tests, passed)
 pub filled_turned : (old new : List ℕ) (turned : ℕ) (xs : List (Option (Option HeldRequest))) → AreFilled old turned xs → IsSlotSet old new turned 0 → length xs ≤ 1024 → AreFilled new (turned + 1) (drop 1 xs ++ None ∷ [])
 filled_turned old new turned xs f at few = record {
   marked = λ j r is fits.
-      let number : turned + 1 + j ≡ turned + suc j = omega arith in
       let there : get_or xs (suc j) None ≡ Some (Some r) = sym (passed xs j) ∙ is in
-      let low : suc j < 1024 = omega (arith, inside xs (suc j) (Some r) there, few) in
-      let other : (turned + suc j) % 1024 ≢ turned % 1024 = λ same. omega (arith, low, same) in
-      ap (slot_bit new) number ∙ at.others (turned + suc j) other ∙ f.marked (suc j) r there (omega (arith, fits, number));
+      let number : turned + 1 + j ≡ turned + suc j = omega arith in
+      ap (slot_bit new) number ∙ at.others (turned + suc j) (λ same. omega (arith, inside xs (suc j) (Some r) there, few, same)) ∙ f.marked (suc j) r there (omega (arith, fits, number));
 }
 
 -- ---- a search
@@ -92,24 +80,17 @@ none_of_word tags part from tag is long none i low same = grind (arith, nat_test
 
 -- what holds a command with the tag has the tag
 command_tag : (tag unit : ℕ) (x : Option (Option HeldRequest)) → ((r : HeldRequest) → x ≡ Some (Some r) → itt r.request ≡ tag → ⊥) → holds_command tag unit x ≡ false
-command_tag tag unit x2 other = grind (arith, nat_tests)
+command_tag tag unit x other = grind (arith, nat_tests)
 
 -- no command with the tag is held where no slot with a bit has it
 pub none_filled_with : (tags words : List ℕ) (turned : ℕ) (xs : List (Option (Option HeldRequest))) (tag unit j : ℕ) → AreLabelled tags turned xs → AreFilled words turned xs → turned ≤ 2 ^ 64 - 2049 → NoneTagged tags words tag → j < 1024 → holds_command tag unit (get_or xs j None) ≡ false
-none_filled_with tags words turned xs tag unit j l f fits none low =
-    let short : turned + j < 2 ^ 64 - 1 = omega (arith, fits, low) in
-    command_tag tag unit (get_or xs j None) (λ r held same. none (turned + j) (f.marked j r held short) (l.named j r held short ∙ same))
+none_filled_with tags words turned xs tag unit j l f fits none low = command_tag tag unit (get_or xs j None) (λ r held same. grind (arith, none (turned + j), f.marked j r held, l.named j r held))
 
 -- no command with the tag is held at places of a word none of whose slots has it
 pub untagged : (tags : List ℕ) (turned : ℕ) (xs : List (Option (Option HeldRequest))) (tag unit k count number j : ℕ) → AreLabelled tags turned xs → number ≡ min (turned + k) (2 ^ 64 - 1) → number ≤ 2 ^ 64 - 2049 → number % 64 + count ≤ 64
     → ((i : ℕ) → i < 64 → get_or tags (number % 1024 / 64 * 64 + i) 0 ≢ tag) → k ≤ j → j < k + count → holds_command tag unit (get_or xs j None) ≡ false
 untagged tags turned xs tag unit k count number j l is fits together none low high =
-    let at : turned + j ≡ number + (j - k) = omega (arith, is, fits, low) in
-    let short : turned + j < 2 ^ 64 - 1 = omega (arith, is, fits, together, low, high) in
-    let slot : (number + (j - k)) % 1024 ≡ number % 1024 / 64 * 64 + (number + (j - k)) % 64 = of_one_word number (j - k) (omega (arith, together, low, high)) in
-    command_tag tag unit (get_or xs j None) (λ r held same.
-    none ((number + (j - k)) % 64) (omega arith)
-    (ap (λ s. get_or tags s 0) (sym slot) ∙ ap (λ n. get_or tags (n % 1024) 0) (sym at) ∙ l.named j r held short ∙ same))
+    command_tag tag unit (get_or xs j None) (λ r held same. grind (arith, none ((number + (j - k)) % 64), of_one_word number (j - k), l.named j r held))
 
 -- ---- the bits of a word, from the lowest on
 

@@ -22,24 +22,18 @@ module _ (p : Option (Option HeldRequest) → Bool) where
   pub count_set : (xs : List (Option (Option HeldRequest))) (k : ℕ) (v : Option (Option HeldRequest)) → k < length xs → count_by p (set xs k v) + one (get_or xs k None) ≡ count_by p xs + one v
   count_set xs k v within = sum_by-set one xs k v None within
 
-  pub none_pass : p None ≡ false → (size : ℕ) → 0 ≡ count_by p (replicate size None)
-  none_pass fails zero = refl
-  none_pass fails (suc size) = grind (arith, nat_tests, none_pass fails size, sum_by-cons)
-
   count_turned : p None ≡ false → (xs : List (Option (Option HeldRequest))) → count_by p (drop 1 xs ++ None ∷ []) + one (get_or xs 0 None) ≡ count_by p xs
-  count_turned fails [] = let none : ◌≡◌ {A = ℕ} (one None) 0 = ap (λ b. cond b 1 0) fails in let push = sum_by_push one [] None in omega (arith, none, push)
-  count_turned fails (x ∷ xs) = let none : ◌≡◌ {A = ℕ} (one None) 0 = ap (λ b. cond b 1 0) fails in let cut = sum_by-cons one x xs in let more = sum_by_push one xs None in omega (arith, cut, more, none)
+  count_turned fails [] = grind (arith, sum_by_push one [] None)
+  count_turned fails (x ∷ xs) = grind (arith, sum_by-cons one x xs, sum_by_push one xs None)
 
 -- where nothing is received all places are alike
 all_alike : (xs : List (Option (Option HeldRequest))) → 0 ≡ count_by is_some xs → xs ++ None ∷ [] ≡ None ∷ xs
 all_alike [] none = refl
-all_alike (Some x ∷ xs) none = absurd (let first = sum_by-cons (one is_some) (Some x) xs in omega (arith, first, none))
-all_alike (None ∷ xs) none = ap (λ ys. None ∷ ys) (all_alike xs (let first = sum_by-cons (one is_some) None xs in omega (arith, first, none)))
+all_alike (x ∷ xs) none = grind (arith, sum_by-cons (one is_some) x xs, all_alike xs)
 
 pub turns_into_itself : (xs : List (Option (Option HeldRequest))) → 0 < length xs → 0 ≡ count_by is_some xs → drop 1 xs ++ None ∷ [] ≡ xs
 turns_into_itself [] some none = absurd (omega (arith, some))
-turns_into_itself (Some x ∷ xs) some none = absurd (let first = sum_by-cons (one is_some) (Some x) xs in omega (arith, first, none))
-turns_into_itself (None ∷ xs) some none = all_alike xs (let first = sum_by-cons (one is_some) None xs in omega (arith, first, none))
+turns_into_itself (x ∷ xs) some none = grind (arith, sum_by-cons (one is_some) x xs, all_alike xs)
 
 -- ---- what the counters say where the first place turns: through the ring, or past it
 

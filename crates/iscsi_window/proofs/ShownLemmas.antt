@@ -114,11 +114,8 @@ pub sound_shown : (s : Arrived) → IsSound s → IsSound (shown s)
 sound_shown s sound = grind (arith, nat_tests, length-map, at_shown)
 
 pub room_shown : (s : Arrived) → HasRoom s → HasRoom (shown s)
-room_shown s room = record { not_full = rw length-map room.not_full; last_free = rw (length-map, at_shown, room.last_free) }
+room_shown s room = grind (arith, length-map s.places request_at, at_shown s)
 
 -- a place that shows nothing has nothing
 pub room_beneath : (s : Arrived) → HasRoom (shown s) → HasRoom s
-room_beneath s room = record { not_full = rw length-map at room.not_full; last_free = by_place (at_place s (length s.places - 1 - s.unfinished)) (rw (length-map, at_shown) at room.last_free) }
-  where
-    by_place : (x : Option (Option HeldRequest)) → request_at x ≡ None → x ≡ None
-    by_place x none = grind arith
+room_beneath s room = grind (arith, length-map s.places request_at, at_shown s)

@@ -28,7 +28,7 @@ StandsFor-offer s r answer now h st told state =
     grind (arith, nat_tests, expected_is s h st, place_shows s h k st, is_some-place_of h (e + k), StandsFor-admitted s k r h st)
 
 pub offered_since : (s : Received) (r : Request) (h : List Change) → IsSound s → StandsFor s h → offer_to s r ≡ offer_since s.first (length s.places) h (number_of s.first h (cmd_sn r))
-offered_since s r h sound st = grind (arith, nat_tests, nat_tests, expected_is, place_shows, is_some-place_of)
+offered_since s r h sound st = grind (arith, nat_tests, expected_is, place_shows, is_some-place_of)
 
 -- the number that comes next
 pub next_since : (s : Received) (r : Request) (h : List Change) → IsSound s → StandsFor s h → is_next s r ≡ is_next_since s.first (length s.places) h (number_of s.first h (cmd_sn r))
@@ -37,7 +37,7 @@ next_since s r h sound st = let first = place_shows s h 0 st in let some = is_so
 -- ---- a number without a request
 
 pub voided_since : (s : Received) (w : ℕ) (h : List Change) → StandsFor s h → IsInside (place_in s w) → is_received_at s (place_in s w) ≡ is_received h (number_of s.first h w)
-voided_since s w h st there = grind (arith, nat_tests, nat_tests, expected_is, place_shows, is_some-place_of)
+voided_since s w h st there = grind (arith, nat_tests, expected_is, place_shows, is_some-place_of)
 
 pub StandsFor-void : (s : Received) (w : ℕ) (answer : Bool) (now : Received) (h : List Change) → StandsFor s h → IsInside (place_in s w) → answer ≡ not (is_received_at s (place_in s w)) → now ≡ voided s w → StandsFor now (after_voiding answer (number_of s.first h w) h)
 StandsFor-void s w answer now h st there told state =
@@ -55,7 +55,7 @@ held_place : (h : List Change) (n : ℕ) → option_flatten (place_of h n) ≡ h
 held_place h n = grind (arith, unheld h n)
 
 held_here : (s : Received) (w : ℕ) (h : List Change) → StandsFor s h → held_at s (place_in s w) ≡ held h (lift (number_expected s) w)
-held_here s w h st = grind (arith, nat_tests, nat_tests, place_shows, held_place, unheld_below, unheld)
+held_here s w h st = grind (arith, nat_tests, place_shows, held_place, unheld_below, unheld)
 
 pub emptied_since : (s : Received) (w : ℕ) (h : List Change) → StandsFor s h → held_at s (place_in s w) ≡ held h (number_of s.first h w)
 emptied_since s w h st = held_here s w h st ∙ ap (λ e. held h (lift e w)) (expected_is s h st)
@@ -73,7 +73,7 @@ received_of_test f h n empty passes = grind (arith, unheld h n)
 pub within_room : (s : Received) (k : ℕ) (h : List Change) → StandsFor s h → is_received h (number_expected s + k) ≡ true → k < room_of s
 within_room s k h st there = ⊎_elim (λ lt. lt) (λ ge. absurd (false≢true (sym (st.above (number_expected s + k) (omega arith)) ∙ there))) (cases_lt k (room_of s))
 
-held_from_here : (s : Received) (k : ℕ) (conn : Option ℕ) (h : List Change) → StandsFor s h → is_held_from conn (at_place s k) ≡ is_held_at h conn (number_expected s + k)
+pub held_from_here : (s : Received) (k : ℕ) (conn : Option ℕ) (h : List Change) → StandsFor s h → is_held_from conn (at_place s k) ≡ is_held_at h conn (number_expected s + k)
 held_from_here s k conn h st = ap (is_held_from conn) (place_shows s h k st) ∙ test_held (is_held_from conn) h (number_expected s + k) refl refl
 
 pub taken_since : (s : Received) (k : ℕ) (conn : Option ℕ) (h : List Change) → StandsFor s h
@@ -109,4 +109,4 @@ StandsFor-pass s r now h st next state =
 -- ---- the law
 
 pub Law-stands : (s : Received) (h : List Change) → IsSound s → StandsFor s h → Law s h
-Law-stands s h sound st = grind (arith, nat_tests, expected_is, false, true, false≢true, received_of_held, unheld_below)
+Law-stands s h sound st = grind (arith, nat_tests, expected_is, received_of_held, unheld_below)

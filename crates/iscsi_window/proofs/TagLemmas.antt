@@ -9,6 +9,7 @@ use Rattle.std.proofs.lemmas.List.Sums.{sum_by-set, sum_by-cons, sum_by_push, co
 use Rattle.iscsi_wire.specs.Fields.{itt}
 use Rattle.iscsi_window.specs.declared.held_request.HeldRequest.{HeldRequest}
 use Rattle.iscsi_window.specs.Windows.{holds_command}
+use Rattle.iscsi_window.proofs.PlaceLemmas.{none_pass}
 use Rattle.iscsi_window.specs.Tags.{group_of, is_group, is_of, raised, lowered, IsCounted}
 
 -- ---- one place is written
@@ -17,11 +18,11 @@ count_set : (g : ℕ) (xs : List (Option (Option HeldRequest))) (k : ℕ) (v : O
 count_set g xs k v within = sum_by-set (λ x. cond (is_of g x) 1 0) xs k v None within
 
 pub group_of_true : (g : ℕ) (x : Option ℕ) → is_group g x ≡ true → x ≡ Some g
-group_of_true g x1 passes = grind (arith, nat_tests, eqb-true)
+group_of_true g x passes = grind (arith, nat_tests)
 
 -- a counter that a group of a place has stands in the table
 pub group_within : (place : Option (Option HeldRequest)) (g : ℕ) → group_of place ≡ Some g → g < 4093
-group_within g g' is = grind (arith, nat_tests)
+group_within place g is = grind (arith, nat_tests)
 
 pub is_held : (counts : List ℕ) (xs : List (Option (Option HeldRequest))) (k g : ℕ) → IsCounted counts xs → k < length xs → group_of (get_or xs k None) ≡ Some g → 0 < get_or counts g 0
 is_held counts xs k g c within is = let least = get_or-le-sum_by (λ x. cond (is_of g x) 1 0) xs k None within in grind (arith, nat_tests, c.exact g)
@@ -32,39 +33,19 @@ is_few counts xs g c = omega (arith, c.exact g, c.few, count_by-le-length (is_of
 
 -- what was there is taken back
 lowered_counted : (counts : List ℕ) (xs : List (Option (Option HeldRequest))) (k : ℕ) → IsCounted counts xs → k < length xs → IsCounted (lowered counts (group_of (get_or xs k None))) (set xs k None)
-lowered_counted counts xs k c within = by_group (group_of (get_or xs k None)) refl
-  where
-    by_group : (x : Option ℕ) → group_of (get_or xs k None) ≡ x → IsCounted (lowered counts x) (set xs k None)
-    by_group None is = record {
-      as_many = c.as_many;
-      few = simp length-set c.few;
-      exact = λ g. grind (arith, count_set g xs k None within, c.exact g);
-    }
-    by_group (Some h) is = record {
-      as_many = length-set counts h (get_or counts h 0 - 1) ∙ c.as_many;
-      few = simp length-set c.few;
-      exact = λ g.
-          let low = group_within (get_or xs k None) h is in
-          grind (arith, nat_tests, count_set g xs k None within, c.exact g, c.as_many, get_or-set_same counts h (get_or counts h 0 - 1) 0, get_or-set_other counts h g (get_or counts h 0 - 1) 0);
-    }
+lowered_counted counts xs k c within = record {
+  as_many = grind (arith, c.as_many, length-set);
+  few = grind (arith, c.few, length-set);
+  exact = λ g. grind (arith, nat_tests, count_set g xs k None within, c.exact g, c.as_many, get_or-set_same counts, get_or-set_other counts);
+}
 
 -- what comes there is counted, where nothing was
 pub raised_counted : (counts : List ℕ) (xs : List (Option (Option HeldRequest))) (k : ℕ) (v : Option (Option HeldRequest)) → IsCounted counts xs → k < length xs → get_or xs k None ≡ None → IsCounted (raised counts (group_of v)) (set xs k v)
-raised_counted counts xs k v c within free = by_group (group_of v) refl
-  where
-    by_group : (x : Option ℕ) → group_of v ≡ x → IsCounted (raised counts x) (set xs k v)
-    by_group None is = record {
-      as_many = c.as_many;
-      few = simp length-set c.few;
-      exact = λ g. grind (arith, count_set g xs k v within, c.exact g);
-    }
-    by_group (Some h) is = record {
-      as_many = length-set counts h (get_or counts h 0 + 1) ∙ c.as_many;
-      few = simp length-set c.few;
-      exact = λ g.
-          let low = group_within v h is in
-          grind (arith, nat_tests, count_set g xs k v within, c.exact g, c.as_many, get_or-set_same counts h (get_or counts h 0 + 1) 0, get_or-set_other counts h g (get_or counts h 0 + 1) 0);
-    }
+raised_counted counts xs k v c within free = record {
+  as_many = grind (arith, c.as_many, length-set);
+  few = grind (arith, c.few, length-set);
+  exact = λ g. grind (arith, nat_tests, count_set g xs k v within, c.exact g, c.as_many, get_or-set_same counts, get_or-set_other counts);
+}
 
 put_within : (counts : List ℕ) (xs : List (Option (Option HeldRequest))) (k : ℕ) (v : Option (Option HeldRequest)) → IsCounted counts xs → k < length xs → IsCounted (raised (lowered counts (group_of (get_or xs k None))) (group_of v)) (set xs k v)
 put_within counts xs k v c within = grind (arith, nat_tests, set-set, raised_counted, lowered_counted, length-set, get_or-set_same)
@@ -80,23 +61,19 @@ put_counted counts xs k x v c read = subst (λ y. IsCounted (raised (lowered cou
 -- ---- the first place turns
 
 pub turned_counted : (counts : List ℕ) (xs : List (Option (Option HeldRequest))) → IsCounted counts xs → 0 < length xs → IsCounted (lowered counts (group_of (get_or xs 0 None))) (drop 1 xs ++ None ∷ [])
-turned_counted counts x1 c some = grind (arith, nat_tests, lowered_counted, length-append, sum_by-cons, sum_by_push)
+turned_counted counts xs c some = grind (arith, nat_tests, lowered_counted, length-append, sum_by-cons, sum_by_push)
 
 -- ---- at the opening
+
+pub zeros : (n g : ℕ) → get_or {A = ℕ} (replicate n 0) g 0 ≡ 0
+zeros n g = grind (arith, get_or-replicate, get_or_past, length-replicate)
 
 pub opened_counted : (size : ℕ) → size ≤ 1024 → IsCounted (replicate 4093 0) (replicate size None)
 opened_counted size few = record {
   as_many = length-replicate {A = ℕ} 4093 0;
   few = simp length-replicate few;
-  exact = λ g. get_or-zeros 4093 g ∙ sym (none_held g size);
+  exact = λ g. zeros 4093 g ∙ none_pass {X = Option HeldRequest} (is_of g) refl size;
 }
-  where
-    get_or-zeros : (n g : ℕ) → get_or {A = ℕ} (replicate n 0) g 0 ≡ 0
-    get_or-zeros n g = ⊎_elim (λ lt. get_or-replicate n g 0 0 lt) (λ ge. get_or_past (replicate n 0) g 0 (simp length-replicate ge)) (cases_lt g n)
-
-    none_held : (g n : ℕ) → count_by (is_of g) (let xs : List (Option (Option HeldRequest)) = replicate n None in xs) ≡ 0
-    none_held g zero = refl
-    none_held g (suc n) = sum_by-cons (λ x. cond (is_of g x) 1 0) None (replicate n None) ∙ (let z = none_held g n in omega (arith, z))
 
 -- ---- a search
 

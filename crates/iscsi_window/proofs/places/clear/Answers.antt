@@ -8,7 +8,7 @@ use Rattle.iscsi_window.proofs.TagLemmas.{read_held, put_counted}
 use Rattle.std.proofs.lemmas.Option.{slice_get_within, get_or_from_slice_get}
 use Rattle.iscsi_window.proofs.BoundLemmas.{bounds_cleared}
 use Rattle.iscsi_window.proofs.ReceivedLemmas.{one, one_most, one_counted, count_set}
-use Rattle.iscsi_window.proofs.LabelLemmas.{labels_cleared}
+use Rattle.iscsi_window.proofs.LabelLemmas.{labels_put}
 use Rattle.iscsi_window.proofs.FilledLemmas.{filled_cleared}
 use Rattle.iscsi_window.proofs.places.clear.Goals as goal
 
@@ -35,7 +35,7 @@ invariant_of-places c =
         as_many = let more = count_set is_some c.places.inside.ring.items c.args.k (Some None) within in let before = ap (one is_some) there in let counted : c.count.result ≡ one is_some c.in-Some.place.now = c.count.ensures in omega (arith, more, before, counted, one_most is_some c.in-Some.place.now, s.as_many);
         held_are = let more = count_set is_held c.places.inside.ring.items c.args.k (Some None) within in let before = ap (one is_held) there in let counted : c.count_held.result ≡ one is_held c.in-Some.place.now = c.count_held.ensures in omega (arith, more, before, counted, s.held_are);
       };
-      labels = labels_cleared c.places.inside.labels c.places.inside.turned c.places.inside.ring.items c.args.k c.places.invariant.labels s.tags.few within;
+      labels = labels_put c.places.inside.labels c.places.inside.turned c.places.inside.ring.items c.args.k (Some None) c.places.invariant.labels s.tags.few within;
       filled = filled_cleared c.places.inside.filled c.places.inside.turned c.places.inside.ring.items c.args.k c.places.invariant.filled within;
     }
 

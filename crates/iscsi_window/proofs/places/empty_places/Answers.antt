@@ -2,7 +2,7 @@ use Rattle.std.proofs.Common.{is_some, refl}
 use Rattle.iscsi_window.specs.Received.{is_held}
 use Rattle.iscsi_window.proofs.TagLemmas.{opened_counted}
 use Rattle.iscsi_window.proofs.BoundLemmas.{opened_bounds}
-use Rattle.iscsi_window.proofs.ReceivedLemmas.{none_pass}
+use Rattle.iscsi_window.proofs.PlaceLemmas.{none_pass}
 use Rattle.iscsi_window.proofs.LabelLemmas.{opened_labels}
 use Rattle.iscsi_window.proofs.FilledLemmas.{none_filled}
 use Rattle.iscsi_window.proofs.places.empty_places.Goals as goal
