@@ -22,12 +22,8 @@ opened_bounds size = search (arith, length-replicate, zeros)
 occupied_bounds : (counts bounds : List ℕ) (turned n : ℕ) (xs ys : List (Option (Option HeldRequest))) (x : Option ℕ) → AreBounds bounds turned xs → n < 2 ^ 64 → ((h : ℕ) → x ≡ Some h → h < 4093)
     → ((j g : ℕ) → group_of (get_or ys j None) ≡ Some g → ((x ≡ Some g) × (n ≤ turned + j)) ⊎ ((get_or bounds g 0 ≤ turned + j) × (0 < get_or counts g 0)))
     → AreBounds (occupied bounds x n (is_none_of counts x)) turned ys
-occupied_bounds counts bounds turned n xs ys None old fits low held = record { as_many = old.as_many; small = old.small; below = λ j g here. grind (arith, held j g here) }
-occupied_bounds counts bounds turned n xs ys (Some h) old fits low held = record {
-  as_many = grind (arith, old.as_many, length-set);
-  small = λ g. grind (arith, nat_tests, old.small g, old.as_many, low h, get_or-set_same, get_or-set_other);
-  below = λ j g here. grind (arith, nat_tests, held j g here, old.as_many, low h, get_or-set_same, get_or-set_other);
-}
+occupied_bounds counts bounds turned n xs ys j old fits low held =
+    grind (arith, nat_tests, length-set, get_or-set_same, get_or-set_other)
 
 pub bounds_filled : (counts bounds : List ℕ) (turned : ℕ) (xs : List (Option (Option HeldRequest))) (k : ℕ) (v : Option (Option HeldRequest)) → IsCounted counts xs → AreBounds bounds turned xs → k < length xs
     → AreBounds (occupied bounds (group_of v) (min (turned + k) (2 ^ 64 - 1)) (is_none_of counts (group_of v))) turned (set xs k v)
@@ -46,12 +42,8 @@ bounds_cleared bounds turned xs k old within x = vacated_bounds (group_of x)
     held j g here = grind (arith, get_or-set_same xs k (Some None) None within, get_or-set_other xs k j (Some None) None, old.below j g)
 
     vacated_bounds : (x : Option ℕ) → AreBounds (vacated bounds x (min (turned + k) (2 ^ 64 - 1))) turned (set xs k (Some None))
-    vacated_bounds None = record { as_many = old.as_many; small = old.small; below = λ j g here. (held j g here).1 }
-    vacated_bounds (Some h) = record {
-      as_many = grind (arith, old.as_many, length-set);
-      small = λ g. grind (arith, nat_tests, old.small g, get_or-set_same, get_or-set_other, get_or_past bounds h 0, set_past bounds h);
-      below = λ j g here. grind (arith, nat_tests, held j g here, get_or-set_same, get_or-set_other, set_past bounds h);
-    }
+    vacated_bounds x0 =
+        grind (arith, nat_tests, held, length-set, get_or-set_same, get_or-set_other, get_or_past, set_past)
 
 -- ---- the first place turns
 

@@ -51,8 +51,7 @@ find_since s tag unit w h st =
 dropped : (s : Received) (conn : Option ℕ) (x : Option ℕ) (now : Received) (h : List Change) → StandsFor s h → first_from s conn ≡ x → now ≡ dropped_at s x → StandsFor now (after_emptying (option_map (λ k. number_expected s + k) x) h)
 dropped s conn None now h st is state = grind arith
 dropped s conn (Some k) now h st is state =
-    let first = position-Some (is_held_from conn) s.places k None is in
-    grind (arith, first.1, held_from_here s k conn h st, expected_is s h st, StandsFor-take s k conn now h st)
+    grind (arith, nat_tests, position-Some (is_held_from conn) s.places k None is, held_from_here s k conn h st, expected_is s h st, StandsFor-take s k conn now h st)
 
 pub TookLowest-drop : (s : Received) (conn answer : Option ℕ) (now : Received) (h : List Change) → StandsFor s h → answer ≡ option_map (number_shown s) (first_from s conn) → now ≡ dropped_at s (first_from s conn) → TookLowest (is_held_at h conn) answer now h
 TookLowest-drop s conn answer now h st told state = record {

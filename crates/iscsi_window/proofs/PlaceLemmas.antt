@@ -31,5 +31,4 @@ none_pass p fails (suc size) = grind (arith, none_pass p fails size, sum_by-cons
 
 -- the first place turns
 pub passed : {X : Type 0} (xs : List (Option X)) (j : ℕ) → get_or (drop 1 xs ++ None ∷ []) j None ≡ get_or xs (suc j) None
-passed [] j = grind arith
-passed (x ∷ xs) j = grind (arith, get_or_append_left xs (None ∷ []) None j, get_or_push xs None None j, get_or_past xs j None, get_or_past (xs ++ None ∷ []) j None, length_push xs None)
+passed xs j = grind (arith, nat_tests, get_or_append_left, get_or_push, get_or_past, length_push)

@@ -6,6 +6,7 @@ use Rattle.std.specs.Option.{option_copied_mut}
 use Rattle.iscsi_window.proofs.PlaceLemmas.{past_from_slice_get}
 use Rattle.iscsi_window.proofs.TagLemmas.{read_held, put_counted}
 use Rattle.std.proofs.lemmas.Option.{slice_get_within, get_or_from_slice_get}
+use Rattle.std.proofs.lemmas.Bool.Decides.{nat_tests}
 use Rattle.iscsi_window.proofs.BoundLemmas.{bounds_cleared}
 use Rattle.iscsi_window.proofs.ReceivedLemmas.{one, one_most, one_counted, count_set}
 use Rattle.iscsi_window.proofs.LabelLemmas.{labels_put}
@@ -40,6 +41,4 @@ invariant_of-places c =
     }
 
 pub returns-in_default : goal.returns-in_default
-returns-in_default c =
-    let none = ap (λ b. slice_get b.items c.args.k) (sym c.places.view_is) ∙ sym c.get_mut.ensures.value ∙ ap option_copied_mut c.in_default.is in
-    c.places.view_is ∙ ap (λ xs. let d : Placed = record c.args.places.now { items = xs } in d) (sym (past_from_slice_get c.args.places.now.items c.args.k (Some None) none))
+returns-in_default c = grind (arith, nat_tests, past_from_slice_get)

@@ -2,6 +2,7 @@ use Rattle.std.proofs.Common.{arith, cond, min, ◌+◌, ◌-◌, ◌^◌, ◌�
 use Rattle.std.specs.List.{slice_get}
 use Rattle.std.specs.Option.{option_copied_mut}
 use Rattle.std.proofs.lemmas.Option.{slice_get_within, get_or_from_slice_get}
+use Rattle.std.proofs.lemmas.Bool.Decides.{nat_tests}
 use Rattle.iscsi_window.specs.PlaceTags.{Placed}
 use Rattle.iscsi_window.proofs.PlaceLemmas.{set_same, none_there}
 use Rattle.iscsi_window.proofs.TagLemmas.{is_few, raised_counted}
@@ -31,8 +32,7 @@ pub returns-then-is_some-clause-answer : goal.returns-then-is_some-clause-answer
 returns-then-is_some-clause-answer c = rw (was (goal.at.returns-then-is_some-clause-answer c).In-Some, sym c.is_some.ensures, c.if-is_some.true) refl
 
 pub returns-then-is_some-clause-state : goal.returns-then-is_some-clause-state
-returns-then-is_some-clause-state c =
-    rw (was (goal.at.returns-then-is_some-clause-state c).In-Some, sym c.is_some.ensures, c.if-is_some.true, set_same c.places.inside.ring.items c.args.k c.in-Some.place.now (read (goal.at.returns-then-is_some-clause-state c).In-Some)) c.places.view_is
+returns-then-is_some-clause-state c = grind (arith, nat_tests, was, set_same, read)
 
 pub invariant_of-places-2 : goal.invariant_of-places-2
 invariant_of-places-2 c =

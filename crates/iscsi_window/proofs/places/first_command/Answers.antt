@@ -1,5 +1,6 @@
 use Rattle.std.proofs.Common.{◌≡◌, ◌%◌, ◌+◌, ◌<◌, ◌≤◌, false, ℕ, ◌-◌, ◌∙◌, get_or, None, length, ap, sym, position, take, arith, ⊎_elim}
 use Rattle.std.proofs.lemmas.Bool.{eqb-true, cases_lt}
+use Rattle.std.proofs.lemmas.Bool.Decides.{nat_tests}
 use Rattle.iscsi_window.specs.PlaceTags.{Placed}
 use Rattle.iscsi_window.specs.Windows.{holds_command}
 use Rattle.iscsi_window.proofs.BoundLemmas.{none_found, none_before, found_below, none_below}
@@ -9,24 +10,15 @@ use Rattle.iscsi_window.proofs.places.first_command.Goals as goal
 use Rattle.iscsi_window.proofs.places.first_command.Goals.{After-min-first, then-may_have+else-is_some, else-may_have}
 
 pub returns-then-is_none : goal.returns-then-is_none
-returns-then-is_none c =
-    let zero : get_or c.places.inside.tags (c.args.itt % 4093) 0 ≡ 0 = eqb-true (get_or c.places.inside.tags (c.args.itt % 4093) 0) 0 (sym c.is_none.ensures ∙ c.if-is_none.true) in
-    none_found c.places.inside.tags c.places.inside.ring.items c.args.itt c.args.unit c.args.end c.places.invariant.sound.tags zero
-    ∙ ap (λ b. position (holds_command c.args.itt c.args.unit) (take c.args.end b.items)) c.places.view_is
+returns-then-is_none c = grind (arith, nat_tests, eqb-true, none_found)
 
 -- no place before the first of the search holds one
 none_yet : (c : After-min-first) (j : ℕ) → j < c.min-first.result → holds_command c.args.itt c.args.unit (get_or c.args.places.now.items j None) ≡ false
-none_yet c j below =
-    let short : j < get_or c.places.inside.bounds (c.args.itt % 4093) 0 - c.places.inside.turned = omega (arith, below, c.of.ensures, c.saturating_sub-bound.ensures, c.min-first.ensures) in
-    ap (λ b. holds_command c.args.itt c.args.unit (get_or b.items j None)) (sym c.places.view_is)
-    ∙ none_before c.places.inside.bounds c.places.inside.turned c.places.inside.ring.items c.args.itt c.args.unit j c.places.invariant.sound.lowest short
+none_yet c j below = grind (arith, nat_tests, none_before)
 
 pub returns-then-holds_command_at : goal.returns-then-holds_command_at
 returns-then-holds_command_at c =
-    let long = ap (λ (b : Placed). length b.items) c.places.view_is in
-    found_below (holds_command c.args.itt c.args.unit) c.args.places.now.items c.args.end None c.min-first.result
-    (omega (arith, long, c.if-first-end.true, c.min-end.ensures, c.len.ensures.len)) (omega (arith, c.if-first-end.true, c.min-end.ensures))
-    (none_yet (goal.at.returns-then-holds_command_at c).After-min-first) (sym c.holds_command_at.ensures ∙ c.if-holds_command_at.true)
+    grind (arith, nat_tests, found_below (holds_command c.args.itt c.args.unit) c.args.places.now.items c.args.end None c.min-first.result, none_yet)
 
 pub loop-k-init : goal.loop-k-init
 loop-k-init c = none_yet (goal.at.loop-k-init c).After-min-first
@@ -46,12 +38,7 @@ loop-k-preserved c = λ j below. ⊎_elim
     (cases_lt j c.loop-k.k)
 
 pub returns-then-is_some : goal.returns-then-is_some
-returns-then-is_some c =
-    let long = ap (λ (b : Placed). length b.items) c.places.view_is in
-    let to : ℕ = c.loop-k.k + c.of_one_word-count.result in
-    let short : to ≤ c.min-end.result = omega (arith, c.of_one_word-count.ensures.most, c.loop-k-test.true) in
-    first_between (holds_command c.args.itt c.args.unit) c.args.places.now.items c.args.end c.loop-k.k to c.first_between-found.result c.first_between-found.ensures (sym c.is_some.ensures ∙ c.if-is_some.true)
-    (omega (arith, short, c.min-end.ensures)) (omega (arith, long, short, c.min-end.ensures, c.len.ensures.len)) c.loop-k.invariant
+returns-then-is_some c = grind (arith, nat_tests, first_between)
 
 pub returns : goal.returns
 returns c =

@@ -1,4 +1,5 @@
 use Rattle.std.proofs.Common.{◌≡◌, ◌∙◌, [], ◌∷◌, ◌++◌, ◌<◌, length, drop, count_by, is_some, None, ap, sym, subst, arith, ◌+◌}
+use Rattle.std.proofs.lemmas.Bool.Decides.{nat_tests}
 use Rattle.iscsi_window.specs.PlaceTags.{Placed, AreLabelled}
 use Rattle.iscsi_window.specs.FilledSlots.{AreFilled}
 use Rattle.iscsi_window.proofs.ReceivedLemmas.{turned_sound, passed_sound, turns_into_itself}
@@ -31,13 +32,4 @@ invariant_of-places c =
     ]
 
 pub returns : goal.returns
-returns c =
-    let i = c.places.inside in
-    let turned = ap (λ (b : Placed). let d : Placed = record b { turned = b.turned + 1; items = drop 1 b.items ++ None ∷ [] } in d) c.places.view_is in
-    elim c.if-places-gt0.branch [
-      | then-places-gt0 w ↦ rw (w.places-inside-is, w.turn_ring-first.ensures.state) turned
-      | else-places-gt0 w ↦
-          let none : 0 ≡ count_by is_some i.ring.items = omega (arith, c.places.invariant.sound.as_many, w.if-places-gt0.false) in
-          let same = turns_into_itself i.ring.items (subst (λ b. 0 < length b.items) (sym c.places.view_is) c.requires.some) none in
-          rw w.places-inside-is (ap (λ xs. let d : Placed = record { turned = i.turned + 1; items = xs; capacity = i.ring.capacity } in d) (sym same) ∙ turned)
-    ]
+returns c = grind (arith, nat_tests, then-places-gt0, else-places-gt0, turns_into_itself)
