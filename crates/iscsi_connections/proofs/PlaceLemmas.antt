@@ -39,26 +39,14 @@ module _ (places : List ℕ) (list : List Connection) (are : ArePlaced places li
 
   pub told_place : (d : Connection) → get_or places cid 255 < 255 → Some (get_or places cid 255) ≡ position (has_cid cid) (map cid_and_stat_sn list)
   told_place d some =
-      let k : ℕ = get_or places cid 255 in
       let here = are.told.meant cid d some in
-      let long : length (map cid_and_stat_sn list) ≡ length list = length-map list cid_and_stat_sn in
-      sym (position_at (has_cid cid) (map cid_and_stat_sn list) k (cid_and_stat_sn d) (omega (arith, long, here.0)) (cc (cid_at k d here.0, here.1, eq-eqb cid cid refl))
-      (λ j before. cc (
-        cid_at j d (omega (arith, before, here.0)),
-        ne_eqb (get_or list j d).cid cid (λ same.
-            let told : k ≡ j = cc (are.told.placed j d (omega (arith, before, here.0))) in omega (arith, told, before)),
-      )))
+      sym (position_at (has_cid cid) (map cid_and_stat_sn list) (get_or places cid 255) (cid_and_stat_sn d) (grind (arith, here, length-map list cid_and_stat_sn)) (grind (arith, nat_tests, here, cid_at (get_or places cid 255) d))
+      (λ j before. grind (arith, nat_tests, here, cid_at j d, are.told.placed j d)))
 
   pub told_nowhere : 255 ≤ get_or places cid 255 → None ≡ position (has_cid cid) (map cid_and_stat_sn list)
-  told_nowhere none =
-      let long : length (map cid_and_stat_sn list) ≡ length list = length-map list cid_and_stat_sn in
-      sym (position_nowhere (has_cid cid) (map cid_and_stat_sn list) (λ j e within.
+  told_nowhere none = sym (position_nowhere (has_cid cid) (map cid_and_stat_sn list) (λ j e within.
       let d : Connection = record { cid = e.0; stat_sn = e.1; is_open = false; immediate = 0 } in
-      cc (
-        cid_at j d (omega (arith, within, long)),
-        ne_eqb (get_or list j d).cid cid (λ same.
-            let told : get_or places cid 255 ≡ j = cc (are.told.placed j d (omega (arith, within, long))) in omega (arith, told, within, long, are.few, none)),
-      )))
+      grind (arith, nat_tests, cid_at j d, are.told.placed j d, are.few, length-map list cid_and_stat_sn)))
 
 -- ---- filling it
 
@@ -78,21 +66,6 @@ pub told_more : (places new : List ℕ) (list : List Connection) (n : ℕ) (e : 
     → ((other : ℕ) → get_or new other 255 ≡ cond (other == (get_or list n e).cid) n (get_or places other 255))
     → TellsPlaces new list (n + 1)
 told_more places new list n e tells distinct within few written = record {
-  placed = λ k d before.
-      let same : get_or list n e ≡ get_or list n d = get_or_default list n e d within in
-      ⊎_elim
-      (λ earlier. cc (written (get_or list k d).cid, eq_sym (get_or list k d).cid (get_or list n d).cid, apart_at list k n d distinct earlier within, tells.placed k d earlier))
-      (λ last. let is : k ≡ n = omega (arith, before, last) in cc (written (get_or list k d).cid, eq-eqb (get_or list n d).cid (get_or list n d).cid refl))
-      (cases_lt k n);
-  meant = λ cid d some.
-      let same : get_or list n d ≡ get_or list n e = get_or_default list n d e within in
-      elim (cid == (get_or list n e).cid) as (λ b. (cid == (get_or list n e).cid) ≡ b → (get_or new cid 255 < n + 1) × ((get_or list (get_or new cid 255) d).cid ≡ cid)) [
-        | true ↦ λ is.
-            let told : get_or new cid 255 ≡ n = cc (written cid) in
-            (omega (arith, told), cc (eqb-true cid (get_or list n e).cid is))
-        | false ↦ λ is.
-            let told : get_or new cid 255 ≡ get_or places cid 255 = cc (written cid) in
-            let here = tells.meant cid d (omega (arith, told, some)) in
-            (omega (arith, told, here.0), cc here.1)
-      ] refl;
+  placed = λ k d before. grind (arith, nat_tests, get_or_default list n e d within, written (get_or list k d).cid, apart_at list k n d distinct, tells.placed k d);
+  meant = λ cid d some. grind (arith, nat_tests, get_or_default list n d e within, written cid, tells.meant cid d);
 }

@@ -8,24 +8,19 @@ use Rattle.iscsi_connections.specs.Placed.{cid_and_stat_sn, cids_of, open_in, co
 
 -- ---- the table tells the same places of the same CIDs
 
-cids_long : (list list' : List Connection) → cids_of list' ≡ cids_of list → length list' ≡ length list
-cids_long list list' same = sym (length-map list' (λ (c : Connection). c.cid)) ∙ ap length same ∙ length-map list (λ (c : Connection). c.cid)
-
-cid_same : (list list' : List Connection) (k : ℕ) (d : Connection) → cids_of list' ≡ cids_of list → k < length list → (get_or list' k d).cid ≡ (get_or list k d).cid
-cid_same list list' k d same within =
-    cc (get_or-map (λ (c : Connection). c.cid) list' k d 0 (omega (arith, cids_long list list' same)), get_or-map (λ (c : Connection). c.cid) list k d 0 within)
+cid_same : (list list' : List Connection) (k : ℕ) (d : Connection) → cids_of list' ≡ cids_of list → (length list' ≡ length list) × (k < length list → (get_or list' k d).cid ≡ (get_or list k d).cid)
+cid_same list list' k d same =
+    let cid : Connection → ℕ = λ c. c.cid in
+    grind (arith, length-map list' cid, length-map list cid, get_or-map cid list' k d 0, get_or-map cid list k d 0)
 
 pub placed_same : (places : List ℕ) (list list' : List Connection) → cids_of list' ≡ cids_of list → ArePlaced places list → ArePlaced places list'
-placed_same places list list' same are =
-    let long = cids_long list list' same in
-    record {
-      few = omega (arith, long, are.few);
-      told = record {
-        placed = λ k d within. cc (cid_same list list' k d same (omega (arith, long, within)), are.told.placed k d (omega (arith, long, within)));
-        meant = λ cid d some.
-            let here = are.told.meant cid d some in (omega (arith, long, here.0), cid_same list list' (get_or places cid 255) d same here.0 ∙ here.1);
-      };
-    }
+placed_same places list list' same are = record {
+  few = grind (arith, cid_same list list' 0 (new_connection (0, 0)) same, are.few);
+  told = record {
+    placed = λ k d within. grind (arith, cid_same list list' k d same, are.told.placed k d);
+    meant = λ cid d some. grind (arith, cid_same list list' (get_or places cid 255) d same, are.told.meant cid d some);
+  };
+}
 
 -- ---- one connection changed, and not its CID
 
@@ -52,13 +47,6 @@ pub conns_opened : (conns : List (ℕ × ℕ)) → map cid_and_stat_sn (map new_
 conns_opened [] = refl
 conns_opened (c ∷ conns) = ap (λ cs. c ∷ cs) (conns_opened conns)
 
-open_opened : (conns : List (ℕ × ℕ)) → open_in (map new_connection conns) ≡ map (λ (c : ℕ × ℕ). c.0) conns
-open_opened [] = refl
-open_opened (c ∷ conns) = ap (λ ns. c.0 ∷ ns) (open_opened conns)
-
 pub view_opened : (conns : List (ℕ × ℕ)) → connected (map new_connection conns) ≡ opened conns
-view_opened conns = cc (conns_opened conns, open_opened conns, immediate_opened conns)
-  where
-    immediate_opened : (conns : List (ℕ × ℕ)) → map (λ (c : Connection). c.immediate) (map new_connection conns) ≡ replicate (length conns) 0
-    immediate_opened [] = refl
-    immediate_opened (c ∷ conns) = ap (λ ns. 0 ∷ ns) (immediate_opened conns)
+view_opened [] = refl
+view_opened (c ∷ conns) = ap (λ (s : Connected). let one : Connected = record { conns = c ∷ s.conns; open_conns = c.0 ∷ s.open_conns; immediate = 0 ∷ s.immediate } in one) (view_opened conns)
