@@ -2,6 +2,7 @@
 use Rattle.std.proofs.Common.{◌≡◌, ℕ, ◌<◌, ◌≤◌, ◌==◌, ◌&&◌, not, Bool, true, false, List, [], ◌∷◌, filter, Some, None, ap, sym, subst, ◌∙◌, arith}
 use Rattle.std.specs.List.{list_any, filter_map}
 use Rattle.std.proofs.lemmas.Bool.{false≢true, eqb-true, false_from_ne_true}
+use Rattle.std.proofs.lemmas.Bool.Decides.{nat_tests}
 use Rattle.iscsi_wire.specs.Fields.{function}
 use Rattle.iscsi_history.specs.rules.Settings.{Setting}
 use Rattle.iscsi_history.specs.rules.Trace.{Arrival, Command, Mark, Trace, has, shown, entered, is_received, admits_at, delivers_number, held, leaves_ticket, live, live_in, is_among}
@@ -55,27 +56,16 @@ module _ (o : Setting) (t : Trace) (start : Start) (a : Arrival) (d : Deeds) (s 
       (sym (any_filter (λ (c : Command). c.ticket == k) (λ (c : Command). is_in_unit_of o a c && came_before c.arrival a) (entered t)) ∙ h)
     where
       passes : (c : Command) → ((is_in_unit_of o a c && came_before c.arrival a) && c.ticket == k) ≡ true → (not (has (leaves_ticket c.ticket) t) && (c.unit == s.unit && (s.covers c && c.ticket == k))) ≡ true
-      passes c found =
-          let outer = and_parts (is_in_unit_of o a c && came_before c.arrival a) (c.ticket == k) found in
-          let inner = and_parts (is_in_unit_of o a c) (came_before c.arrival a) outer.0 in
-          let stays : not (has (leaves_ticket c.ticket) t) ≡ true = ap (λ n. not (has (leaves_ticket n) t)) (eqb-true c.ticket k outer.1) ∙ ap not unleft in
-          let there : (c.unit == s.unit) ≡ true = sym (ap (λ x. elim x [ Some unit ↦ c.unit == unit | None ↦ false ]) s.named) ∙ inner.0 in
-          and_both (not (has (leaves_ticket c.ticket) t)) (c.unit == s.unit && (s.covers c && c.ticket == k)) stays
-          (and_both (c.unit == s.unit) (s.covers c && c.ticket == k) there
-          (and_both (s.covers c) (c.ticket == k) (s.early c (sym (came_is_before a c) ∙ inner.1)) outer.1))
+      passes c found = grind (arith, nat_tests, and_parts, eqb-true, and_both, came_is_before a c)
 
   -- LOGICAL UNIT RESET takes out the whole set
   whole_swept : (k : ℕ) → (function a.request == 5) ≡ true → is_among k (filter (is_in_unit_of o a) (live t)) ≡ true → is_among k (filter s.covers (live_in s.unit t)) ≡ true
-  whole_swept k five h =
-      ap (is_among k) (filter-same s.covers (λ c. true) (live_in s.unit t) (λ c. s.whole five c) ∙ filter-true (live_in s.unit t))
-      ∙ ap (is_among k) (sym (filter-same (is_in_unit_of o a) (λ c. c.unit == s.unit) (live t) (λ c. ap (λ x. elim x [ Some unit ↦ c.unit == unit | None ↦ false ]) s.named)))
-      ∙ h
+  whole_swept k five h = grind (arith, nat_tests, filter-same, filter-true (live_in s.unit t))
 
   -- so these leave in the item
   swept_leaves : (k : ℕ) → is_among k (filter s.covers (live_in s.unit t)) ≡ true → has (leaves_ticket k) (marks_of_form (Executed start a d) ∷ t) ≡ true
   swept_leaves k h =
-      or_first (list_any (leaves_ticket k) (marks_of_form (Executed start a d))) (has (leaves_ticket k) t)
-      (leaves_form k (Executed start a d) ∙ ap (is_among k) s.is ∙ ap (λ cs. is_among k (filter s.covers (filter (λ (c : Command). c.unit == s.unit) cs))) (live-begun start a t) ∙ h)
+      grind (arith, nat_tests, or_first, leaves_form k (Executed start a d), live-begun start a t)
 
   swept : is_set_abort a.request ≡ true → (k : ℕ) → is_ticket_covered o a (marks_of_form (Executed start a d)) t k ≡ true → has (leaves_ticket k) (marks_of_form (Executed start a d) ∷ t) ≡ true
   swept set k covered = grind (arith, swept_leaves, early_swept, whole_swept)
@@ -89,8 +79,7 @@ module _ (o : Setting) (now p : ℕ) (t : Trace) where
 
   -- Function complete is sent where the deeds say so
   completed_by : (start : Start) (a : Arrival) (d : Deeds) → list_any (completes a.request) (marks_of_form (Executed start a d)) ≡ true → is_completed_by a d ≡ true
-  completed_by start a d complete =
-      grind (arith, none_done)
+  completed_by start a d complete = grind (arith, nat_tests, none_done)
 
   -- an abort of a whole set stands at its number or later, and what it covers leaves, if it didn't before
   abbrev Ends : Arrival → Form → Type 0
@@ -100,8 +89,7 @@ module _ (o : Setting) (now p : ℕ) (t : Trace) where
   ends_form (Executed start a d) x f done set = subst (λ (b : Arrival). IsCompleted b (marks_of_form (Executed start a d)) → is_set_abort b.request ≡ true → Ends b (Executed start a d)) (by_start start done.executes) own done set
     where
       by_start : (s : Start) → executed_in (start_mark s a ∷ marks_done a d) ≡ Some f → a ≡ f
-      by_start AtTurn is = cc
-      by_start s is = cc
+      by_start s is = grind (arith, nat_tests)
 
       own : IsCompleted a (marks_of_form (Executed start a d)) → is_set_abort a.request ≡ true → Ends a (Executed start a d)
       own done set = let r = x.1 done.aborts set (completed_by start a d done.complete) in (r.0, swept o t start a d r.1 set)

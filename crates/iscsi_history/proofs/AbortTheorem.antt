@@ -4,6 +4,7 @@ use Rattle.std.specs.List.{list_any, filter_map, range_with_len}
 use Rattle.std.specs.Prelude.{Contains}
 use Rattle.std.proofs.lemmas.Bool.{false≢true}
 use Rattle.std.proofs.lemmas.List.Folds.{list_any-append}
+use Rattle.std.proofs.lemmas.Bool.Decides.{nat_tests}
 use Rattle.iscsi_wire.specs.Fields.{function}
 use Rattle.iscsi_history.specs.declared.event.Event.{Event}
 use Rattle.iscsi_history.specs.rules.Settings.{Setting}
@@ -45,12 +46,7 @@ covered_left o p f item before fits done k covered = grind arith
 
 -- what isn't live isn't enabled
 unlive_unenabled : (o : Setting) (t : Trace) (item : List Mark) (k : ℕ) → is_among k (live (item ∷ t)) ≡ false → list_any (is_enable k) (effects_of_item o t item) ≡ false
-unlive_unenabled o t item k gone =
-    item_enables o t item k
-    ∙ none_among k (λ unit. filter (λ c. not (was_free c t)) (enabled_in unit (item ∷ t))) (range_with_len 0 o.units)
-    (λ unit. unamong-filter (λ c. not (was_free c t)) k (enabled_in unit (item ∷ t))
-    (unamong-filter (λ c. was_free c (item ∷ t)) k (live_in unit (item ∷ t))
-    (unamong-filter (λ c. c.unit == unit) k (live (item ∷ t)) gone)))
+unlive_unenabled o t item k gone = grind (arith, nat_tests, item_enables o t item k, none_among, unamong-filter)
 
 -- ---- a number that was taken out
 
@@ -163,9 +159,7 @@ module _ (o : Setting) (p next : ℕ) (later before : Trace) (item : List Mark) 
 
 -- for every list of events
 pub aborts_hold : (o : Setting) (h : List Event) → AbortsHold o (trace_of o h)
-aborts_hold o h later before item f split done =
-    let p : ℕ = exp_of o (trace_of o h) in
-    over o p (length h) later before item f (subst (Fit o p) (sym split) (trace_fits o h)) (subst (HaveForms o (length h)) (sym split) (trace_has_forms o h)) done
+aborts_hold o h later before item f split done = grind (arith, nat_tests, over, trace_fits o h, trace_has_forms o h)
 
 -- and for its log
 pub aborts_hold_in : (o : Setting) (h : List Event) → AbortsHoldIn o h (run_of o h)

@@ -1,6 +1,7 @@
 -- A request that executed has at most one reply, and one whose command was taken out has none, in the trace of each list of events.
 use Rattle.std.proofs.Common.{◌≡◌, ℕ, ◌+◌, ◌<◌, ◌≤◌, ⊎_elim, cond, List, [], ◌∷◌, ◌++◌, length, count_by, Option, Some, None, refl, ap, sym, subst, ◌∙◌, arith, nat_lt, eq-eqb}
 use Rattle.std.specs.List.{filter_map}
+use Rattle.std.proofs.lemmas.Bool.Decides.{nat_tests}
 use Rattle.iscsi_wire.specs.declared.reply.Reply.{Reply}
 use Rattle.iscsi_wire.specs.declared.reply.Reply.TheVariants.{Scsi, Reject}
 use Rattle.iscsi_wire.specs.declared.request.Request.{Request}
@@ -115,18 +116,12 @@ answers_once o h = record {
       let s : Since o (length h) later (item ∷ before) = since o later (item ∷ before) (length h) (subst (HaveForms o (length h)) (sym split) (trace_has_forms o h)) in
       let f : HasForm o s.before.0 before item = s.before.1.1.0 in
       fitting_form o s.before.0 before f.form f.formed a (sym (ap executed_in f.is) ∙ is) conn reply (subst (In (Sends conn reply)) f.is (in-contains item (Sends conn reply) there));
-  completing = λ later before c ms split.
-      let s : Since o (length h) later ((Leaves c ∷ ms) ∷ before) = since o later ((Leaves c ∷ ms) ∷ before) (length h) (subst (HaveForms o (length h)) (sym split) (trace_has_forms o h)) in
-      let f : HasForm o s.before.0 before (Leaves c ∷ ms) = s.before.1.1.0 in
-      completing_form f.form c ms f.is;
-  rejecting = λ later before item split is conn reply there.
-      let s : Since o (length h) later (item ∷ before) = since o later (item ∷ before) (length h) (subst (HaveForms o (length h)) (sym split) (trace_has_forms o h)) in
-      let f : HasForm o s.before.0 before item = s.before.1.1.0 in
-      let r = rejecting_form f.form (sym (ap answered_in f.is) ∙ is) conn reply (subst (In (Sends conn reply)) f.is (in-contains item (Sends conn reply) there)) in
-      (r.0, f.is ∙ r.1);
-  unanswered = λ later before item a c split is there.
-      ap (replies_to c.arrival.event) (sym split)
-      ∙ taken_unanswered o (length h) later before item a c (subst (HaveForms o (length h)) (sym split) (trace_has_forms o h)) is (in-contains item (Leaves c) there);
+  completing =
+      λ later before c ms split. grind (arith, nat_tests, since, trace_has_forms o h, completing_form);
+  rejecting =
+      λ later before item split is conn reply there. grind (arith, nat_tests, since, trace_has_forms o h, rejecting_form, in-contains);
+  unanswered =
+      λ later before item a c split is there. grind (arith, nat_tests, taken_unanswered, trace_has_forms o h, in-contains);
   undelivered = λ n a there none. undelivered_silent o (length h) (trace_of o h) n a (trace_has_forms o h) there none;
 }
 

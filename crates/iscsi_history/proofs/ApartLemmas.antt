@@ -60,6 +60,4 @@ one_unit k (x ∷ cs) c apart found =
   where
     none : (k : ℕ) (cs : List Command) → is_among k cs ≡ false → list_all (λ (d : Command). not (d.ticket == k) || (d.unit == c.unit)) cs ≡ true
     none k [] h = refl
-    none k (x ∷ cs) h =
-        let parts = or_none (x.ticket == k) (is_among k cs) h in
-        ap (λ b. (not b || (x.unit == c.unit)) && list_all (λ (d : Command). not (d.ticket == k) || (d.unit == c.unit)) cs) parts.0 ∙ none k cs parts.1
+    none k (x ∷ cs) h = grind (arith, nat_tests, none k cs, or_none (x.ticket == k) (is_among k cs) h)

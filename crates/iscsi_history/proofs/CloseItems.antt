@@ -2,6 +2,7 @@
 use Rattle.std.proofs.Common.{◌≡◌, ℕ, ◌+◌, ◌-◌, ◌<◌, ◌≤◌, ◌==◌, ◌||◌, inl, true, false, List, [], ◌∷◌, Option, Some, None, refl, ap, sym, subst, ◌∙◌, arith, eq-eqb}
 use Rattle.std.specs.List.{list_any, list_all, filter_map, range_with_len}
 use Rattle.std.proofs.lemmas.Bool.{false≢true, eqb-true}
+use Rattle.std.proofs.lemmas.Bool.Decides.{nat_tests}
 use Rattle.iscsi_wire.specs.Serial.{number_of_first}
 use Rattle.iscsi_wire.specs.Fields.{connection_of}
 use Rattle.iscsi_history.specs.declared.effect.Why.{Why}
@@ -30,10 +31,7 @@ Only conn ms = (k : ℕ) → (conn == k) ≡ false → list_any (is_at k) ms ≡
 
 module _ (o : Setting) (t : Trace) (conn : ℕ) (item : List Mark) (here : is_open o t conn ≡ true) (only : Only conn item) where
   none_closed : (k : ℕ) → is_open o t k ≡ false → list_any (is_at k) item ≡ false
-  none_closed k off =
-      by_bool (list_any (is_at k) item ≡ false) (conn == k)
-      (λ same. absurd (false≢true (sym off ∙ ap (is_open o t) (sym (eqb-true conn k same)) ∙ here)))
-      (λ apart. only k apart)
+  none_closed k off = grind (arith, nat_tests, by_bool (list_any (is_at k) item ≡ false) (conn == k), eqb-true, only)
 
   going_on : is_ended t ≡ true → list_all ignores item ≡ true
   going_on over = absurd (false≢true (sym (open-unended o t conn here) ∙ over))
@@ -107,8 +105,7 @@ module _ (o : Setting) (now p : ℕ) (t : Trace) (start : Start) (a : Arrival) (
 
   sound_staying : is_closing d ≡ false → Sound o t marks
   sound_staying stays =
-      sound_open o t (connection_of a.request) marks home only (units_form o now t (Executed start a d) x) (range_form o now p t (Executed start a d) at)
-      (λ k. unclosed k (unended a d stays) (λ conn is. absurd (unparted a d stays conn is)))
+      grind (arith, nat_tests, sound_open, home, only, units_form o now t (Executed start a d) x, range_form o now p t (Executed start a d) at, unclosed, unended a d stays, unparted)
 
   module _ (s : TakesOut o (begun start a t) d) where
     -- it takes out what there is of an open connection that it closes

@@ -2,6 +2,7 @@
 use Rattle.std.proofs.Common.{List, ap, count_by, not, ◌∷◌, ◌≡◌, [], refl, ◌&&◌, ◌==◌, Bool, filter, length, ℕ, ◌++◌, ◌∙◌, ◌+◌, false, ◌||◌, cond, true, None, Some, eq-eqb, arith, nat_lt, map}
 use Rattle.std.specs.List.{list_any, filter_map, list_all, range_with_len, flat_map}
 use Rattle.std.proofs.lemmas.List.{append-nil}
+use Rattle.std.proofs.lemmas.Bool.Decides.{nat_tests}
 use Rattle.iscsi_wire.specs.Fields.{is_immediate, connection_of, itt}
 use Rattle.iscsi_wire.specs.declared.reply.Reply.TheVariants.{Scsi}
 use Rattle.iscsi_history.proofs.ListLemmas.{none_left}
@@ -80,8 +81,7 @@ none_any w k (c ∷ cs) h = grind (arith, none_any w k cs)
 pub first_passing : (w : Command → Bool) (k : ℕ) (cs : List Command) (c : Command) → are_apart cs ≡ true → first_of (filter (λ d. d.ticket == k) cs) ≡ Some c
     → (first_of (filter (λ d. d.ticket == k && w d) cs) ≡ cond (w c) (Some c) None) × (list_any (λ d. d.ticket == k && w d) (filter (λ d. d.unit == c.unit) cs) ≡ w c)
 first_passing w k [] c apart found = absurd cc
-first_passing w k (x ∷ cs) c apart found =
-    grind (arith, first_passing w k cs c, none_with, none_any, unamong-filter)
+first_passing w k (x ∷ cs) c apart found = grind (arith, nat_tests, first_passing w k cs c, none_with, none_any, unamong-filter)
 
 pub none_passing : (w : Command → Bool) (k : ℕ) (cs : List Command) → first_of (filter (λ d. d.ticket == k) cs) ≡ None → first_of (filter (λ d. d.ticket == k && w d) cs) ≡ None
 none_passing w k [] none = refl

@@ -6,6 +6,7 @@ use Rattle.std.proofs.lemmas.List.Sums.{sum_by-cons, sum_by-append}
 use Rattle.iscsi_history.specs.rules.Trace.{Command, is_among}
 use Rattle.iscsi_history.proofs.ElementLemmas.{In}
 use Rattle.std.specs.List.{range_with_len}
+use Rattle.std.proofs.lemmas.Bool.Decides.{nat_tests}
 
 -- what a test counts for
 abbrev pub one : Bool → ℕ
@@ -82,8 +83,7 @@ fewer p (y ∷ xs) x h = grind (arith, fewer p xs x, at_most)
 -- ---- places
 
 pub count_shift : {A : Type 0} (p : Option A → Bool) (x : A) (ps : List (Option A)) → p None ≡ false → get_or ps 0 None ≡ Some x → count_by p (drop 1 ps ++ None ∷ []) + cond (p (Some x)) 1 0 ≡ count_by p ps
-count_shift p x [] none found = absurd cc
-count_shift p x (y ∷ ps) none found = grind (arith, count-cons, sum_by-append)
+count_shift p x ps none found = grind (arith, nat_tests, count-cons, sum_by-append)
 
 -- another element at a place
 pub count_replaced : {A : Type 0} (p : A → Bool) (ps : List A) (k : ℕ) (x d : A) → k < length ps → count_by p (set ps k x) + cond (p (get_or ps k d)) 1 0 ≡ count_by p ps + cond (p x) 1 0

@@ -4,6 +4,7 @@ use Rattle.std.specs.List.{list_any, filter_map, flat_map, range_with_len}
 use Rattle.std.proofs.lemmas.List.{append-nil}
 use Rattle.std.proofs.lemmas.List.Elements.{filter_map-append}
 use Rattle.std.proofs.lemmas.Grind.{flat_map-append}
+use Rattle.std.proofs.lemmas.Bool.Decides.{nat_tests}
 use Rattle.iscsi_wire.specs.declared.request.Request.{Request}
 use Rattle.iscsi_wire.specs.Serial.{number_of_first}
 use Rattle.iscsi_history.specs.declared.effect.Effect.TheVariants.{Enable}
@@ -27,11 +28,7 @@ enables_deliver [] = refl
 enables_deliver (c ∷ cs) = enables_deliver cs
 
 item_delivers : (o : Setting) (t : Trace) (item : List Mark) → flat_map delivered_by (effects_of_item o t item) ≡ filter_map delivers item
-item_delivers o t item =
-    flat_map-append delivered_by (flat_map (effects_of_mark o t) item) (map (λ (c : Command). Enable c.ticket c.unit) (newly_enabled o t item))
-    ∙ ap (λ rs. flat_map delivered_by (flat_map (effects_of_mark o t) item) ++ rs) (enables_deliver (newly_enabled o t item))
-    ∙ append-nil (flat_map delivered_by (flat_map (effects_of_mark o t) item))
-    ∙ marks_deliver o t item
+item_delivers o t item = grind (arith, nat_tests, flat_map-append, enables_deliver (newly_enabled o t item), append-nil, marks_deliver o t item)
 
 items_deliver : (o : Setting) (t : Trace) (items : List (List Mark)) → shown delivers (after_items items t) ≡ shown delivers t ++ flat_map delivered_by (effects_of o t items)
 items_deliver o t [] = sym (append-nil (shown delivers t))

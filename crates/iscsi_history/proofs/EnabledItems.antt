@@ -3,6 +3,7 @@ use Rattle.std.proofs.Common.{Bool, List, false, refl, true, ◌||◌, ◌∷◌
 use Rattle.std.specs.List.{flat_map, range_with_len, list_any, list_all}
 use Rattle.std.proofs.lemmas.List.{append-nil}
 use Rattle.std.proofs.lemmas.List.Folds.{list_any-append}
+use Rattle.std.proofs.lemmas.Bool.Decides.{nat_tests}
 use Rattle.iscsi_history.specs.rules.Trace.{Command, Mark, Trace, was_free, live_in, leaves_ticket, has, is_among, live}
 use Rattle.iscsi_history.specs.rules.Settings.{Setting}
 use Rattle.iscsi_history.specs.rules.Run.{newly_enabled, effects_of_mark, effects_of_item}
@@ -62,9 +63,7 @@ Exact o t = (k : ℕ) → is_shown_enabled k (effects_so_far o t) ≡ is_enabled
 
 pub same_enabled : (item : List Mark) (t : Trace) (k : ℕ) (more : ℕ → List Command) → ((unit : ℕ) → live_in unit (item ∷ t) ≡ live_in unit t ++ more unit)
     → list_any (λ c. c.ticket == k && was_free c (item ∷ t)) (live t) ≡ is_enabled k t
-same_enabled item t k more now =
-    any_all (λ c. c.ticket == k && was_free c (item ∷ t)) (λ c. c.ticket == k && was_free c t) (λ c. is_here c.unit (live_in c.unit t) c) (live t) (all_in_unit (live t))
-    (λ c here. ap (λ b. c.ticket == k && b) (was_free-stays item t c.unit (more c.unit) c (now c.unit) here))
+same_enabled item t k more now = grind (arith, nat_tests, any_all, is_here, all_in_unit (live t), was_free-stays)
 
 exact-untouched : (o : Setting) (item : List Mark) (t : Trace) → Untouched item → Exact o t → Exact o (item ∷ t)
 exact-untouched o item t u x k =
@@ -118,8 +117,7 @@ exact-left o item t out l regular x k =
         ∙ sym (any_or (λ d. d.ticket == k && was_free d (item ∷ t)) (λ d. d.ticket == k && was_free d t) (λ d. d.ticket == k && is_new item t d) rest (λ d. ap (λ b. d.ticket == k && b) (was_or_new item t d) ∙ spread (d.ticket == k) (was_free d t) (is_new item t d)))
       where
         spread : (u v w : Bool) → (u && (v || w)) ≡ ((u && v) || (u && w))
-        spread true v w = refl
-        spread false v w = refl
+        spread u v w = grind (arith, nat_tests)
 
 -- ---- each moment
 

@@ -45,8 +45,7 @@ received-begun start a t = grind (arith, append-nil)
 -- ---- what is counted of a part
 
 first_counted : (p : Command → Bool) (cs : List Command) (c : Command) → first_of cs ≡ Some c → count_by p (c ∷ []) ≤ count_by p cs
-first_counted p [] c h = absurd cc
-first_counted p (x ∷ cs) c h = grind (arith, count-cons)
+first_counted p cs c h = grind (arith, nat_tests, count-cons)
 
 -- those of a unit, and those of the units after it
 one_of_units : (n u : ℕ) (b : Bool) → one ((n == u) && b) + one (nat_le (u + 1) n && b) ≡ one (nat_le u n && b)

@@ -5,6 +5,7 @@ use Rattle.std.specs.List.{list_any, filter_map, flat_map, range_with_len}
 use Rattle.std.proofs.lemmas.Bool.{cases_eq}
 use Rattle.std.proofs.lemmas.List.{append-nil, map-append}
 use Rattle.std.proofs.lemmas.List.Elements.{filter-append}
+use Rattle.std.proofs.lemmas.Bool.Decides.{nat_tests}
 use Rattle.iscsi_history.proofs.ListLemmas.{none_left}
 use Rattle.iscsi_history.specs.rules.Settings.{Setting}
 use Rattle.iscsi_history.specs.rules.Trace.{Command, Mark, Trace, enters, entered, live, is_among, was_free}
@@ -118,5 +119,4 @@ pub newly_none : (o : Setting) (t : Trace) (item : List Mark) (k : ℕ) → mine
 newly_none o t item k none = grind (arith, mine-units item t (live (item ∷ t)) k (range_with_len 0 o.units), no_units item t (range_with_len 0 o.units))
 
 pub newly_one : (o : Setting) (t : Trace) (item : List Mark) (k : ℕ) (c : Command) → mine k (live (item ∷ t)) ≡ c ∷ [] → c.unit < o.units → mine k (newly_enabled o t item) ≡ cond (becomes_free item t c) (c ∷ []) []
-newly_one o t item k c one below =
-    grind (arith, mine-units item t (live (item ∷ t)) k (range_with_len 0 o.units), one_unit_of item t c 0 o.units (omega arith) (omega arith))
+newly_one o t item k c one below = grind (arith, nat_tests, mine-units item t (live (item ∷ t)) k (range_with_len 0 o.units), one_unit_of)

@@ -5,6 +5,7 @@ use Rattle.std.proofs.lemmas.Bool.{eqb-true}
 use Rattle.std.proofs.lemmas.List.{append-nil, length-map, map-append}
 use Rattle.std.proofs.lemmas.List.Elements.{filter-append, filter_map-append}
 use Rattle.std.proofs.lemmas.List.Sums.{sum_by-cons}
+use Rattle.std.proofs.lemmas.Bool.Decides.{nat_tests}
 use Rattle.iscsi_history.specs.declared.effect.Effect.{Effect}
 use Rattle.iscsi_history.specs.declared.event.Event.{Event}
 use Rattle.iscsi_history.specs.rules.Settings.{Setting}
@@ -91,8 +92,7 @@ module _ (o : Setting) (now : ℕ) (t : Trace) (next : ℕ) (x : HaveForms o nex
   unlive_after unlive none = live_unentered none ∙ ap (filter (λ c. not (list_any (leaves_ticket c.ticket) (marks_of_form form)))) unlive
 
   unlive_shown : mine k (live t) ≡ [] → mine k (to_list (entering_in form)) ≡ [] → life_of k (effects_so_far o (marks_of_form form ∷ t)) ≡ life_of k (effects_so_far o t)
-  unlive_shown unlive none =
-      grind (arith, shown_unentered, unlive_leaving, newly_none, unlive_after, append-nil)
+  unlive_shown unlive none = grind (arith, nat_tests, shown_unentered, unlive_leaving, newly_none, unlive_after, append-nil)
 
   -- ---- a command that is live
 
@@ -127,9 +127,7 @@ module _ (o : Setting) (now : ℕ) (t : Trace) (next : ℕ) (x : HaveForms o nex
     where
       -- of those that leave with the ticket no more pass than of the live one
       few : (p : Command → Bool) → count_by p (mine k (leaving_in form)) ≤ cond (p g.command) 1 0 + 0
-      few p =
-          let of_live : count_by (λ c. c.ticket == k && p c) (live t) ≡ cond (p g.command) 1 0 + 0 = count-mine p k (live t) ∙ ap (count_by p) g.live_one ∙ sum_by-cons (λ c. cond (p c) 1 0) g.command [] in
-          omega (arith, leaving_few o now t form formed (λ c. c.ticket == k && p c), of_live, count-mine p k (leaving_in form))
+      few p = grind (arith, nat_tests, count-mine p k (live t), count-mine p k (leaving_in form), sum_by-cons, leaving_few)
 
       by_rest : (es : List Command) → mine k (leaving_in form) ≡ d ∷ es → LeavesAlone g.command
       by_rest (e ∷ es) is = absurd (
@@ -148,11 +146,7 @@ module _ (o : Setting) (now : ℕ) (t : Trace) (next : ℕ) (x : HaveForms o nex
     where
       leaves : list_any (leaves_ticket g.command.ticket) (marks_of_form form) ≡ true
       leaves =
-          ap (λ n. list_any (leaves_ticket n) (marks_of_form form)) (eqb-true g.command.ticket k (mine-ticket k (live t) g.command g.live_one))
-          ∙ leaves_form k form ∙ among (is_among k (leaving_in form)) refl
-        where
-          among : (b : Bool) → is_among k (leaving_in form) ≡ b → is_among k (leaving_in form) ≡ true
-          among b h = grind (arith, mine-none)
+          grind (arith, nat_tests, eqb-true, mine-ticket k (live t) g.command g.live_one, leaves_form k form, mine-none)
 
       over : mine k (live (marks_of_form form ∷ t)) ≡ []
       over = grind (arith, live_unentered none, leaves)
@@ -230,9 +224,7 @@ module _ (o : Setting) (now : ℕ) (t : Trace) (next : ℕ) (x : HaveForms o nex
 
 state_more : (o : Setting) (k : ℕ) (t : Trace) (next : ℕ) → HaveForms o next t → State o t k
 state_more o k [] next x = grind arith
-state_more o k (item ∷ t) next x =
-    let f : HasForm o x.0 t item = x.1.1.0 in
-    subst (λ i. State o (i ∷ t) k) (sym f.is) (other_enters o x.0 t _ x.1.1.1 f.form f.formed k (entering_in f.form) refl (entering_next o x.0 t f.form f.formed) (state_more o k t _ x.1.1.1))
+state_more o k (item ∷ t) next x = grind (arith, nat_tests, state_more o k t _ x.1.1.1, other_enters, entering_next)
 
 -- ---- the log
 

@@ -3,6 +3,7 @@ use Rattle.std.proofs.Common.{arith, ◌≡◌, ℕ, ◌==◌, ◌&&◌, ◌||�
 use Rattle.std.specs.List.{list_any, filter_map}
 use Rattle.std.proofs.lemmas.Bool.{false≢true}
 use Rattle.std.proofs.lemmas.List.Folds.{list_any-append}
+use Rattle.std.proofs.lemmas.Bool.Decides.{nat_tests}
 use Rattle.iscsi_history.specs.declared.event.Event.{Event}
 use Rattle.iscsi_history.specs.rules.Settings.{Setting}
 use Rattle.iscsi_history.specs.rules.Trace.{Command, Trace, has, enters, entered, leaves_ticket, live, is_among}
@@ -45,8 +46,6 @@ means_what_it_says o h = record {
     least = λ n low high. expected_below o.first (trace_of o h) n low high;
   };
   fates = λ n. one_fate (trace_of o h) n (fate o n (trace_of o h) (length h) (trace_has_forms o h));
-  parted = λ k.
-      entered_parted (is_among k (entered (trace_of o h))) (has (leaves_ticket k) (trace_of o h)) (left_entered o k (trace_of o h) (length h) (trace_has_forms o h))
-      ∙ ap (λ b. b || has (leaves_ticket k) (trace_of o h)) (sym (live_among k (trace_of o h)));
+  parted = λ k. grind (arith, nat_tests, entered_parted, left_entered, trace_has_forms o h, live_among);
   apart = λ k. ap (λ b. b && has (leaves_ticket k) (trace_of o h)) (live_among k (trace_of o h)) ∙ live_apart (is_among k (entered (trace_of o h))) (has (leaves_ticket k) (trace_of o h));
 }

@@ -4,6 +4,7 @@ use Rattle.std.proofs.lemmas.Bool.{cases_eq, cases_lt, false≢true}
 use Rattle.std.proofs.lemmas.Map.Steps.{le-length_from_below}
 use Rattle.std.proofs.lemmas.List.{length-map}
 use Rattle.std.specs.List.{list_any, filter_map}
+use Rattle.std.proofs.lemmas.Bool.Decides.{nat_tests}
 use Rattle.iscsi_wire.specs.Serial.{number_of_first}
 use Rattle.iscsi_history.specs.rules.Settings.{Setting}
 use Rattle.iscsi_history.specs.rules.Trace.{Mark, Trace, after_items, contains, is_received, number_received, received, least_missing, expected}
@@ -70,23 +71,13 @@ expected_gone first t =
 
 -- where all before m are received, and m is, ExpCmdSN is past m
 pub expected_past : (first m : ℕ) (t : Trace) → ((k : ℕ) → number_of_first first ≤ k → k < m → is_received t k ≡ true) → is_received t m ≡ true → m < expected first t
-expected_past first m t all there =
-    let e : ℕ = expected first t in
-    ⊎_elim (λ past. past)
-    (λ not_past. absurd (false≢true (sym (expected_gone first t) ∙ ⊎_elim (λ same. ap (is_received t) same ∙ there) (λ apart. all e (expected_low first t) (omega arith)) (cases_eq e m))))
-    (cases_lt m e)
+expected_past first m t all there = grind (arith, nat_tests, expected_gone first t, expected_low first t)
 
 -- ---- ExpCmdSN doesn't go back
 
 pub exp_item : (o : Setting) (item : List Mark) (t : Trace) → exp_of o t ≤ exp_of o (item ∷ t)
 exp_item o item t =
-    let e : ℕ = exp_of o (item ∷ t) in
-    ⊎_elim
-    (λ back.
-    let there : is_received (item ∷ t) e ≡ true = received-item item t e ∙ or_first (is_received t e) (contains (filter_map number_received item) e) (expected_below o.first t e (expected_low o.first (item ∷ t)) back) in
-    absurd (false≢true (sym (expected_gone o.first (item ∷ t)) ∙ there)))
-    (λ on. on)
-    (cases_lt e (exp_of o t))
+    grind (arith, nat_tests, received-item, or_first, expected_below, expected_low o.first (item ∷ t), expected_gone o.first (item ∷ t))
 
 pub exp_items : (o : Setting) (items : List (List Mark)) (t : Trace) → exp_of o t ≤ exp_of o (after_items items t)
 exp_items o [] t = omega arith

@@ -4,6 +4,7 @@ use Rattle.std.specs.List.{list_any, list_all, filter_map, flat_map, range_with_
 use Rattle.std.proofs.lemmas.List.{append-nil, map-append}
 use Rattle.std.proofs.lemmas.List.Elements.{filter-append}
 use Rattle.std.proofs.lemmas.List.Folds.{list_any-append}
+use Rattle.std.proofs.lemmas.Bool.Decides.{nat_tests}
 use Rattle.iscsi_tasks.specs.Sets.{Queued, bars, is_free}
 use Rattle.iscsi_history.specs.rules.Settings.{Setting}
 use Rattle.iscsi_history.specs.rules.Trace.{Command, Mark, Trace, enters, entered, leaves_ticket, live, live_in, is_among, was_free, enabled_in}
@@ -68,12 +69,7 @@ none_of_before item t unit more now =
     never b = grind arith
 
 pub new_in-more : (item : List Mark) (t : Trace) (unit : ℕ) (more : List Command) → live_in unit (item ∷ t) ≡ live_in unit t ++ more → new_in t item unit ≡ filter (λ c. was_free c (item ∷ t) && not (was_free c t)) more
-new_in-more item t unit more now =
-    let new : Command → Bool = λ c. was_free c (item ∷ t) && not (was_free c t) in
-    filter-twice (λ c. not (was_free c t)) (λ c. was_free c (item ∷ t)) (live_in unit (item ∷ t))
-    ∙ ap (filter new) now
-    ∙ filter-append new (live_in unit t) more
-    ∙ ap (λ cs. cs ++ filter new more) (none_of_before item t unit more now)
+new_in-more item t unit more now = grind (arith, nat_tests, filter-twice, filter-append, none_of_before item t unit more now)
 
 pub new_in-none : (item : List Mark) (t : Trace) (unit : ℕ) → live_in unit (item ∷ t) ≡ live_in unit t → new_in t item unit ≡ []
 new_in-none item t unit now = new_in-more item t unit [] (now ∙ sym (append-nil (live_in unit t)))
@@ -132,8 +128,7 @@ any_in_units n g (x ∷ cs) all =
     below u test = let lt : u < n = grind arith in omega (arith, lt)
 
     either : (b : Bool) (us : List ℕ) → list_any (λ u. x.unit == u) us ≡ true → list_any (λ u. (x.unit == u) && b) us ≡ b
-    either true us h = any_same (λ u. (x.unit == u) && true) (λ u. x.unit == u) us (λ u. and_true (x.unit == u)) ∙ h
-    either false us h = any_same (λ u. (x.unit == u) && false) (λ u. false) us (λ u. and_false (x.unit == u)) ∙ any-none us
+    either b us h = grind (arith, nat_tests, any_same, and_true, and_false, any-none us)
 
 pub was_or_new : (item : List Mark) (t : Trace) (d : Command) → was_free d (item ∷ t) ≡ (was_free d t || is_new item t d)
 was_or_new item t d = grind arith

@@ -6,6 +6,7 @@ use Rattle.std.proofs.lemmas.List.{append-nil}
 use Rattle.std.proofs.lemmas.List.FromFn.{length-map-range_with_len}
 use Rattle.std.proofs.lemmas.List.Elements.{filter_map-append}
 use Rattle.std.proofs.lemmas.List.Sums.{sum_by-append}
+use Rattle.std.proofs.lemmas.Bool.Decides.{nat_tests}
 use Rattle.iscsi_wire.specs.declared.reply.Reply.{Reply}
 use Rattle.iscsi_wire.specs.Serial.{wire}
 use Rattle.iscsi_wire.specs.Fields.{connection_of}
@@ -40,9 +41,7 @@ sns_of_enables conn (c ∷ cs) = sns_of_enables conn cs
 
 sns_of_item : (o : Setting) (t : Trace) (conn : ℕ) (item : List Mark) → stat_sns_on conn (effects_of_item o t item) ≡ filter_map (sn_of_reply o t conn) (filter_map sent_on item)
 sns_of_item o t conn item =
-    filter_map-append (stat_sn_shown conn) (flat_map (effects_of_mark o t) item) (map (λ (c : Command). Enable c.ticket c.unit) (newly_enabled o t item))
-    ∙ ap (λ ns. stat_sns_on conn (flat_map (effects_of_mark o t) item) ++ ns) (sns_of_enables conn (newly_enabled o t item))
-    ∙ append-nil (stat_sns_on conn (flat_map (effects_of_mark o t) item)) ∙ sns_of_marks o t conn item
+    grind (arith, nat_tests, filter_map-append, sns_of_enables conn (newly_enabled o t item), append-nil, sns_of_marks o t conn item)
 
 -- ---- an item sends at most one reply
 
@@ -68,8 +67,7 @@ sent_form (Executed start a d) = by_start start ∙ by_reply d.reply
     by_start s = simp views
 
     by_reply : (x : Option Reply) → filter_map (λ reply. Some (connection_of a.request)) (to_list x) ≡ to_list (option_map (λ reply. connection_of a.request) x)
-    by_reply None = refl
-    by_reply (Some reply) = refl
+    by_reply x = grind (arith, nat_tests)
 sent_form form = refl
 
 -- ---- all items
@@ -101,14 +99,8 @@ item_counts o t conn item x sent before =
     ∙ ap (counted_from o conn) (sym (sum_by-append (λ k. cond (k == conn) 1 0) (shown sent_on t) (filter_map sent_on item) ∙ ap (λ cs. count_on conn t + count_by (λ k. k == conn) cs) sent))
   where
     by_sender : (y : Option ℕ) → counted_from o conn (count_on conn t) ++ filter_map (sn_of_reply o t conn) (to_list y) ≡ counted_from o conn (count_on conn t + count_by (λ k. k == conn) (to_list y))
-    by_sender None = append-nil (counted_from o conn (count_on conn t)) ∙ ap (counted_from o conn) (let z : count_on conn t ≡ count_on conn t + 0 = omega arith in z)
-    by_sender (Some c) =
-        elim (c == conn) as (λ b. (c == conn) ≡ b → counted_from o conn (count_on conn t) ++ to_list (cond b (Some (stat_sn_of o t c)) None) ≡ counted_from o conn (count_on conn t + (0 + cond b 1 0))) [
-          | true ↦ λ is.
-              ap (λ k. counted_from o conn (count_on conn t) ++ stat_sn_of o t k ∷ []) (eqb-true c conn is)
-              ∙ sym (counted_more o conn (count_on conn t)) ∙ ap (counted_from o conn) (let z : count_on conn t + 1 ≡ count_on conn t + (0 + 1) = omega arith in z)
-          | false ↦ λ is. append-nil (counted_from o conn (count_on conn t)) ∙ ap (counted_from o conn) (let z : count_on conn t ≡ count_on conn t + (0 + 0) = omega arith in z)
-        ] refl
+    by_sender y =
+        grind (arith, nat_tests, append-nil (counted_from o conn (count_on conn t)), eqb-true, counted_more o conn (count_on conn t))
 
 trace_counts : (o : Setting) (conn : ℕ) (t : Trace) (next : ℕ) → HaveForms o next t → stat_sns_on conn (effects_so_far o t) ≡ counted_from o conn (count_on conn t)
 trace_counts o conn [] next x = refl
@@ -122,6 +114,4 @@ length-counted o conn n = length-map-range_with_len (λ k. wire (first_stat_sn o
 -- so it is in the log of every list of events
 pub counts_replies : (o : Setting) (h : List Event) → CountsReplies o (run_of o h)
 counts_replies o h conn =
-    let sns : List ℕ = stat_sns_on conn (effects_in (run_of o h)) in
-    let all : sns ≡ counted_from o conn (count_on conn (trace_of o h)) = ap (stat_sns_on conn) (sym (log_effects o 0 [] h)) ∙ trace_counts o conn (trace_of o h) (length h) (trace_has_forms o h) in
-    all ∙ ap (counted_from o conn) (sym (ap length all ∙ length-counted o conn (count_on conn (trace_of o h))))
+    grind (arith, nat_tests, log_effects o 0 [] h, trace_counts o conn (trace_of o h) (length h) (trace_has_forms o h), trace_has_forms o h, length-counted o conn (count_on conn (trace_of o h)))

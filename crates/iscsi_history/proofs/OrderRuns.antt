@@ -3,6 +3,7 @@ use Rattle.std.proofs.Common.{◌≡◌, ℕ, ◌+◌, ◌≤◌, ◌||◌, cond
 use Rattle.std.proofs.lemmas.Grind.{common_steps}
 use Rattle.std.specs.List.{list_any, list_all}
 use Rattle.std.proofs.lemmas.Bool.{false≢true}
+use Rattle.std.proofs.lemmas.Bool.Decides.{nat_tests}
 use Rattle.iscsi_history.specs.declared.effect.Effect.{Effect}
 use Rattle.iscsi_history.specs.declared.event.Event.{Event}
 use Rattle.iscsi_history.specs.rules.Settings.{Setting}
@@ -64,12 +65,7 @@ nothing_in_order = record { kinds = refl; one_request = (let z : 0 ≤ 1 = omega
 -- an item's effects, and then fresh ones
 parts_in_order : (es ys : List Effect) → IsInOrder es → (f : IsFresh ys) → AreInOrder f.parts → AreInOrder (in_parts (es ++ ys))
 parts_in_order [] ys x f rest = subst AreInOrder (sym f.first) (nothing_in_order, rest)
-parts_in_order (e ∷ es) ys x f rest =
-    let later : in_parts (es ++ ys) ≡ es ∷ f.parts = parts-unasked es ys (unasked_later e es x) f in
-    elim (is_request e) as (λ b. AreInOrder (cond b ([] ∷ onto_first e (in_parts (es ++ ys))) (onto_first e (in_parts (es ++ ys))))) [
-      | true ↦ subst (λ ps. AreInOrder ([] ∷ onto_first e ps)) (sym later) (nothing_in_order, (x, rest))
-      | false ↦ subst (λ ps. AreInOrder (onto_first e ps)) (sym later) (x, rest)
-    ]
+parts_in_order (e ∷ es) ys x f rest = grind (arith, nat_tests, parts-unasked es ys (unasked_later e es x) f, unasked_later e es x, nothing_in_order)
 
 -- ---- the items of an event: all but the first begin with a request
 

@@ -3,6 +3,7 @@ use Rattle.std.proofs.Common.{Bool, List, [], refl, set, suc, true, zero, ℕ, �
 use Rattle.std.specs.List.{list_all}
 use Rattle.std.proofs.lemmas.List.Folds.{list_all-append}
 use Rattle.std.proofs.lemmas.List.{append-nil}
+use Rattle.std.proofs.lemmas.Bool.Decides.{nat_tests}
 use Rattle.iscsi_history.proofs.BoolLemmas.{and_both, and_parts}
 
 -- ---- what is written, and what moves up
@@ -82,14 +83,7 @@ position-cons p x xs = grind arith
 
 pub found_there : {A : Type 0} (p : A → Bool) (xs : List A) (k : ℕ) (d : A) → position p xs ≡ Some k → find p xs ≡ Some (get_or xs k d)
 found_there p [] k d h = absurd cc
-found_there p (x ∷ xs) k d h =
-    elim (p x) as (λ b. cond b (Some 0) (option_map suc (position p xs)) ≡ Some k → cond b (Some x) (find p xs) ≡ Some (get_or (x ∷ xs) k d)) [
-      | true ↦ λ here. let same : 0 ≡ k = cc in ap (λ i. Some (get_or (x ∷ xs) i d)) same
-      | false ↦ λ there. later (position p xs) (λ j is. found_there p xs j d is) there
-    ] (sym (position-cons p x xs) ∙ h)
-  where
-    later : (y : Option ℕ) → ((j : ℕ) → y ≡ Some j → find p xs ≡ Some (get_or xs j d)) → option_map suc y ≡ Some k → find p xs ≡ Some (get_or (x ∷ xs) k d)
-    later y found said = grind arith
+found_there p (x ∷ xs) k d h = grind (arith, nat_tests, found_there p xs, position-cons p x xs)
 
 pub found_nowhere : {A : Type 0} (p : A → Bool) (xs : List A) → position p xs ≡ None → find p xs ≡ None
 found_nowhere p [] h = refl

@@ -2,6 +2,7 @@
 use Rattle.std.proofs.Common.{arith, Bool, List, ℕ, [], ◌∷◌, ◌≡◌, ◌⊎◌, ◌++◌, refl, ◌&&◌, cond, false, inl, true, ap, None, Some, ◌==◌, ◌∙◌, sym, subst, ◌||◌}
 use Rattle.std.specs.List.{filter_map, list_all}
 use Rattle.std.proofs.lemmas.List.{append-nil}
+use Rattle.std.proofs.lemmas.Bool.Decides.{nat_tests}
 use Rattle.iscsi_wire.specs.Fields.{is_immediate, function, opcode}
 use Rattle.iscsi_wire.specs.declared.request.Request.{Request}
 use Rattle.iscsi_history.specs.rules.Trace.{Executes, Mark, number_received, Arrival, Trace, Voids, after_items, received}
@@ -36,8 +37,7 @@ executed_receives start a d = by_start start
     done = simp views
 
     by_start : (s : Start) → received_by (start_mark s a ∷ marks_done a d) ≡ received_by (if_some Voids d.void)
-    by_start AtTurn = done
-    by_start s = done
+    by_start s = grind (arith, nat_tests, done)
 
 -- none, where it is no immediate ABORT TASK
 receives_none : (o : Setting) (t : Trace) (start : Start) (a : Arrival) (ms : List Mark) → Does o t start a ms → (is_immediate a.request && (function a.request == 1)) ≡ false → received_by (start_mark start a ∷ ms) ≡ []

@@ -4,6 +4,7 @@ use Rattle.std.specs.List.{list_any, filter_map}
 use Rattle.std.proofs.lemmas.Bool.{false≢true, eqb-true}
 use Rattle.std.proofs.lemmas.List.{append-nil}
 use Rattle.std.proofs.lemmas.List.Sums.{sum_by-append}
+use Rattle.std.proofs.lemmas.Bool.Decides.{nat_tests}
 use Rattle.iscsi_wire.specs.Fields.{connection_of}
 use Rattle.iscsi_history.specs.rules.Settings.{Setting}
 use Rattle.iscsi_history.specs.rules.Trace.{Arrival, Mark, Admits, Delivers, Executes, Trace, shown, admits_at, delivers_number, is_delivered, held, waiting_through, waiting}
@@ -78,11 +79,7 @@ owed_passing p a ms t none here passes =
 
 -- a request that is delivered is owed no more
 owed_turn : (p : Arrival → Bool) (a : Arrival) (ms : List Mark) (t : Trace) → filter_map admits_request ms ≡ [] → held t a.number ≡ Some a → count_by p (owed ((Delivers a ∷ ms) ∷ t)) + one (p a) ≤ count_by p (owed t)
-owed_turn p a ms t none here =
-    elim (p a) as (λ b. p a ≡ b → count_by p (owed ((Delivers a ∷ ms) ∷ t)) + one b ≤ count_by p (owed t)) [
-      | true ↦ λ passes. owed_passing p a ms t none here passes
-      | false ↦ λ apart. omega (arith, owed_item p (Delivers a ∷ ms) t, ap (count_by p) none)
-    ] refl
+owed_turn p a ms t none here = grind (arith, nat_tests, owed_passing, owed_item p (Delivers a ∷ ms) t)
 
 -- ---- functions that wait
 
@@ -136,9 +133,7 @@ awaited_form o now v t (Received a) x = grind (arith, owed_item)
 awaited_form o now v t (Postponed a) x = grind (arith, owed_item, count_by-push)
 awaited_form o now v t (Executed AtTurn a d) x = omega (arith, owed_turn (is_of v) a (marks_done a d) t (admits_done a d) x.0, shrinks_done a d (is_of v) (waiting t))
 awaited_form o now v t (Executed AtArrival a d) x =
-    let ws : List Arrival = filter (λ b. not (b.event == a.event)) (waiting t) in
-    omega (arith, owed_item (is_of v) (Executes a ∷ marks_done a d) t, ap (count_by (is_of v)) (admits_done a d), shrinks_done a d (is_of v) ws, fewer_counted (is_of v) (λ b. not (b.event == a.event)) (waiting t), ap {B = ℕ} (λ n. one (n == v)) x.0)
+    grind (arith, nat_tests, owed_item (is_of v) (Executes a ∷ marks_done a d) t, admits_done a d, shrinks_done, fewer_counted)
 awaited_form o now v t (Executed AfterWaiting a d) x =
-    let ws : List Arrival = filter (λ b. not (b.event == a.event)) (waiting t) in
-    omega (arith, owed_item (is_of v) (Executes a ∷ marks_done a d) t, ap (count_by (is_of v)) (admits_done a d), shrinks_done a d (is_of v) ws, waited v a (waiting t) x.0)
+    grind (arith, nat_tests, owed_item (is_of v) (Executes a ∷ marks_done a d) t, admits_done a d, shrinks_done, waited v a (waiting t) x.0)
 awaited_form o now v t form x = omega (arith, owed_item (is_of v) (marks_of_form form) t)

@@ -4,6 +4,7 @@ use Rattle.std.specs.List.{list_any, filter_map, flat_map, cons_option}
 use Rattle.std.proofs.lemmas.List.{append-nil}
 use Rattle.std.proofs.lemmas.List.Elements.{filter-append}
 use Rattle.std.proofs.lemmas.List.Sums.{sum_by-cons}
+use Rattle.std.proofs.lemmas.Bool.Decides.{nat_tests}
 use Rattle.iscsi_history.specs.declared.effect.Effect.{Effect}
 use Rattle.iscsi_history.specs.declared.effect.Effect.TheVariants.{Enter, Enable, Leave}
 use Rattle.iscsi_history.specs.rules.Settings.{Setting}
@@ -94,9 +95,7 @@ life_of_enables k (c ∷ cs) = grind (arith, life_of_enables k cs)
 pub life_item : (o : Setting) (t : Trace) (k : ℕ) (form : Form)
     → life_of k (effects_of_item o t (marks_of_form form)) ≡ (map leave_effect (mine k (leaving_in form)) ++ map enter_effect (mine k (to_list (entering_in form)))) ++ map enable_effect (mine k (newly_enabled o t (marks_of_form form)))
 life_item o t k form =
-    filter-append (names_ticket k) (flat_map (effects_of_mark o t) (marks_of_form form)) (map enable_effect (newly_enabled o t (marks_of_form form)))
-    ∙ ap (λ es. es ++ life_of k (map enable_effect (newly_enabled o t (marks_of_form form)))) (life_form o t k form)
-    ∙ ap (λ es. (map leave_effect (mine k (leaving_in form)) ++ map enter_effect (mine k (to_list (entering_in form)))) ++ es) (life_of_enables k (newly_enabled o t (marks_of_form form)))
+    grind (arith, nat_tests, filter-append, life_form o t k form, life_of_enables k (newly_enabled o t (marks_of_form form)))
 
 -- ---- what holds of them
 

@@ -2,6 +2,7 @@
 use Rattle.std.proofs.Common.{arith, ◌≡◌, ℕ, ◌==◌, ◌||◌, inl, inr, ⊎_elim, Bool, true, false, List, [], ◌∷◌, Some, refl, ap, sym, ◌∙◌}
 use Rattle.std.specs.List.{list_any}
 use Rattle.std.proofs.lemmas.Bool.{false≢true, eqb-true, or_cases}
+use Rattle.std.proofs.lemmas.Bool.Decides.{nat_tests}
 use Rattle.iscsi_history.specs.rules.Settings.{Setting}
 use Rattle.iscsi_history.specs.rules.Trace.{Arrival, Trace, delivers_number, is_delivered, empties_number, is_emptied, held}
 use Rattle.iscsi_history.specs.promises.Replies.{executed_in}
@@ -42,8 +43,7 @@ emptied_form o now n t (Executed start a d) x h =
     ∙ some_emptied (begun start a t) n d.emptied (λ b there. held_undelivered (begun start a t) b.number b (x.1.empties b there)) (sym (done_at n a d).emptied ∙ by_start start h)
   where
     by_start : (s : Start) → list_any (empties_number n) (start_mark s a ∷ marks_done a d) ≡ true → list_any (empties_number n) (marks_done a d) ≡ true
-    by_start AtTurn h = h
-    by_start s h = h
+    by_start s h = grind (arith, nat_tests)
 emptied_form o now n t form x h = absurd (false≢true h)
 
 -- nothing is delivered at a number that was emptied

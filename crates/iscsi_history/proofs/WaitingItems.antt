@@ -2,6 +2,7 @@
 use Rattle.std.proofs.Common.{arith, List, ◌≡◌, ◌++◌, [], ◌∷◌, Bool, filter, refl, ℕ, cond, false, true, ◌==◌, not, ap, sym, subst, ◌∙◌, eq-eqb}
 use Rattle.std.specs.List.{list_any}
 use Rattle.std.proofs.lemmas.Bool.{false≢true}
+use Rattle.std.proofs.lemmas.Bool.Decides.{nat_tests}
 use Rattle.iscsi_history.specs.rules.Deeds.{function_marks}
 use Rattle.iscsi_history.specs.rules.Trace.{Arrival, Mark, waiting_through, Trace, Executes, waiting, after_items}
 use Rattle.iscsi_history.specs.rules.Settings.{Setting}
@@ -62,10 +63,7 @@ gone event x (y ∷ ws) is = grind (arith, gone event x ws)
 
 -- one that waits still, once a function executed, came in another event
 still_apart : (o : Setting) (t : Trace) (a x : Arrival) → is_waiting x (function_item o t a ∷ t) ≡ true → not (x.event == a.event) ≡ true
-still_apart o t a x still = elim (x.event == a.event) as (λ b. (x.event == a.event) ≡ b → not b ≡ true) [
-  | false ↦ λ is. refl
-  | true ↦ λ is. absurd (false≢true (sym (ap (list_any (λ (y : Arrival). y.event == x.event)) (waiting_after_function o t a) ∙ gone a.event x (waiting t) is) ∙ still))
-] refl
+still_apart o t a x still = grind (arith, nat_tests, waiting_after_function o t a, gone)
 
 -- so it is still there
 pub still_in : (o : Setting) (t : Trace) (a x : Arrival) → (is_waiting x t ≡ true → In x (waiting t)) → is_waiting x (function_item o t a ∷ t) ≡ true → In x (waiting (function_item o t a ∷ t))
@@ -75,15 +73,7 @@ still_in o t a x before still =
 -- the functions of a number, the first of which is this one
 pub first_function : (o : Setting) (n : ℕ) (t : Trace) (a : Arrival) (as' : List Arrival) → filter (λ b. b.number == n) (waiting t) ≡ a ∷ as' → is_waiting a t ≡ true → functions_at o n t ≡ function_item o t a ∷ functions_at o n (function_item o t a ∷ t)
 first_function o n t a as' these waits =
-    let t' : Trace = function_item o t a ∷ t in
-    let later : filter (λ b. b.number == n) (waiting t') ≡ without_event a.event as' =
-    ap (filter (λ (b : Arrival). b.number == n)) (waiting_after_function o t a)
-    ∙ filter-swap (λ (b : Arrival). b.number == n) (λ b. not (b.event == a.event)) (waiting t)
-    ∙ ap (without_event a.event) these
-    ∙ ap (λ b. cond (not b) (a ∷ without_event a.event as') (without_event a.event as')) (eq-eqb a.event a.event refl) in
-    ap (λ bs. functions o bs t) these
-    ∙ ap (λ b. let now : List (List Mark) = cond b (function_item o t a ∷ []) [] in now ++ functions o as' (after_items now t)) waits
-    ∙ ap (λ items. function_item o t a ∷ items) (sym (left_out o (λ b. not (b.event == a.event)) as' t' (still_apart o t a)) ∙ ap (λ bs. functions o bs t') (sym later))
+    grind (arith, nat_tests, waiting_after_function o t a, filter-swap, eq-eqb a.event a.event refl, left_out, still_apart o t a)
 
 -- what is first among some is one of them
 pub waits_itself : (p : Arrival → Bool) (ws : List Arrival) (a : Arrival) (as' : List Arrival) → filter p ws ≡ a ∷ as' → list_any (λ (x : Arrival). x.event == a.event) ws ≡ true
