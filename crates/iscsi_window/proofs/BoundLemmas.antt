@@ -27,7 +27,8 @@ occupied_bounds counts bounds turned n xs ys j old fits low held =
 
 pub bounds_filled : (counts bounds : List ℕ) (turned : ℕ) (xs : List (Option (Option HeldRequest))) (k : ℕ) (v : Option (Option HeldRequest)) → IsCounted counts xs → AreBounds bounds turned xs → k < length xs
     → AreBounds (occupied bounds (group_of v) (min (turned + k) (2 ^ 64 - 1)) (is_none_of counts (group_of v))) turned (set xs k v)
-bounds_filled counts bounds turned xs k v counted old within = occupied_bounds counts bounds turned (min (turned + k) (2 ^ 64 - 1)) xs (set xs k v) (group_of v) old (omega arith) (group_within v)
+bounds_filled counts bounds turned xs k v counted old within =
+    occupied_bounds counts bounds turned (min (turned + k) (2 ^ 64 - 1)) xs (set xs k v) (group_of v) old (omega arith) (group_within v)
     (λ j g here. ⊎_elim
     (λ same. inl (grind (arith, get_or-set_same xs k v None within)))
     (λ apart. inr (grind (arith, get_or-set_other xs k j v None apart, old.below j g, is_held counts xs j g counted, get_or_past xs j None)))
@@ -42,7 +43,7 @@ bounds_cleared bounds turned xs k old within x = vacated_bounds (group_of x)
     held j g here = grind (arith, get_or-set_same xs k (Some None) None within, get_or-set_other xs k j (Some None) None, old.below j g)
 
     vacated_bounds : (x : Option ℕ) → AreBounds (vacated bounds x (min (turned + k) (2 ^ 64 - 1))) turned (set xs k (Some None))
-    vacated_bounds x0 =
+    vacated_bounds x =
         grind (arith, nat_tests, held, length-set, get_or-set_same, get_or-set_other, get_or_past, set_past)
 
 -- ---- the first place turns
@@ -67,4 +68,5 @@ module _ {X : Type 0} (p : X → Bool) (xs : List X) (end : ℕ) (d : X) where
 
 -- where none of the group is held the search finds nothing
 pub none_found : (counts : List ℕ) (xs : List (Option (Option HeldRequest))) (tag unit end : ℕ) → IsCounted counts xs → get_or counts (tag % 4093) 0 ≡ 0 → None ≡ position (holds_command tag unit) (take end xs)
-none_found counts xs tag unit end c none = none_below (holds_command tag unit) xs end None (λ j short within. grind (arith, nat_tests, is_held counts xs j (tag % 4093) c within))
+none_found counts xs tag unit end c none =
+    none_below (holds_command tag unit) xs end None (λ j short within. grind (arith, nat_tests, is_held counts xs j (tag % 4093) c within))

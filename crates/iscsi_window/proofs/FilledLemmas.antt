@@ -61,7 +61,9 @@ filled_turned old new turned xs f at few = record {
   marked = λ j r is fits.
       let there : get_or xs (suc j) None ≡ Some (Some r) = sym (passed xs j) ∙ is in
       let number : turned + 1 + j ≡ turned + suc j = omega arith in
-      ap (slot_bit new) number ∙ at.others (turned + suc j) (λ same. omega (arith, inside xs (suc j) (Some r) there, few, same)) ∙ f.marked (suc j) r there (omega (arith, fits, number));
+      ap (slot_bit new) number
+      ∙ at.others (turned + suc j) (λ same. omega (arith, inside xs (suc j) (Some r) there, few, same))
+      ∙ f.marked (suc j) r there (omega (arith, fits, number));
 }
 
 -- ---- a search
@@ -84,7 +86,8 @@ command_tag tag unit x other = grind (arith, nat_tests)
 
 -- no command with the tag is held where no slot with a bit has it
 pub none_filled_with : (tags words : List ℕ) (turned : ℕ) (xs : List (Option (Option HeldRequest))) (tag unit j : ℕ) → AreLabelled tags turned xs → AreFilled words turned xs → turned ≤ 2 ^ 64 - 2049 → NoneTagged tags words tag → j < 1024 → holds_command tag unit (get_or xs j None) ≡ false
-none_filled_with tags words turned xs tag unit j l f fits none low = command_tag tag unit (get_or xs j None) (λ r held same. grind (arith, none (turned + j), f.marked j r held, l.named j r held))
+none_filled_with tags words turned xs tag unit j l f fits none low =
+    command_tag tag unit (get_or xs j None) (λ r held same. grind (arith, none (turned + j), f.marked j r held, l.named j r held))
 
 -- no command with the tag is held at places of a word none of whose slots has it
 pub untagged : (tags : List ℕ) (turned : ℕ) (xs : List (Option (Option HeldRequest))) (tag unit k count number j : ℕ) → AreLabelled tags turned xs → number ≡ min (turned + k) (2 ^ 64 - 1) → number ≤ 2 ^ 64 - 2049 → number % 64 + count ≤ 64

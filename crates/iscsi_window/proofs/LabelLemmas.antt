@@ -19,7 +19,7 @@ opened_labels size = grind (arith, nat_tests, length-replicate, nothing_at)
 -- ---- a place is written
 
 labelled_at : (tags : List ℕ) (v : Option (Option HeldRequest)) (n m : ℕ) (r : HeldRequest) → length tags ≡ 1024 → ((v ≡ Some (Some r)) × (m ≡ n)) ⊎ ((m % 1024 ≢ n % 1024) × (get_or tags (m % 1024) 0 ≡ itt r.request)) → get_or (labelled tags v n) (m % 1024) 0 ≡ itt r.request
-labelled_at tags n n' m r long at = grind (arith, nat_tests, get_or-set_same, get_or-set_other)
+labelled_at tags v n m r long at = grind (arith, nat_tests, get_or-set_same, get_or-set_other)
 
 pub labels_put : (tags : List ℕ) (turned : ℕ) (xs : List (Option (Option HeldRequest))) (k : ℕ) (v : Option (Option HeldRequest)) → AreLabelled tags turned xs → length xs ≤ 1024 → k < length xs → AreLabelled (labelled tags v (min (turned + k) (2 ^ 64 - 1))) turned (set xs k v)
 labels_put tags turned xs k v l few within = record {

@@ -1,11 +1,12 @@
+pub mod BoundLemmas
+pub mod FilledLemmas
 pub mod HistoryLemmas
+pub mod LabelLemmas
 pub mod LowestLemmas
 pub mod PlaceLemmas
 pub mod ReceivedLemmas
+pub mod ShownLemmas
 pub mod SinceLemmas
 pub mod SoundLemmas
 pub mod TagLemmas
-pub mod BoundLemmas
-pub mod LabelLemmas
-pub mod FilledLemmas
-pub mod ShownLemmas
+pub mod WindowSteps

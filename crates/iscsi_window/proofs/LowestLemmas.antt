@@ -51,13 +51,14 @@ find_since s tag unit w h st =
 dropped : (s : Received) (conn : Option ℕ) (x : Option ℕ) (now : Received) (h : List Change) → StandsFor s h → first_from s conn ≡ x → now ≡ dropped_at s x → StandsFor now (after_emptying (option_map (λ k. number_expected s + k) x) h)
 dropped s conn None now h st is state = grind arith
 dropped s conn (Some k) now h st is state =
-    grind (arith, nat_tests, position-Some (is_held_from conn) s.places k None is, held_from_here s k conn h st, expected_is s h st, StandsFor-take s k conn now h st)
+    grind (arith, nat_tests, position-Some (is_held_from conn) s.places k None is, held_from_here, expected_is s h st, StandsFor-take s k conn now h st)
 
 pub TookLowest-drop : (s : Received) (conn answer : Option ℕ) (now : Received) (h : List Change) → StandsFor s h → answer ≡ option_map (number_shown s) (first_from s conn) → now ≡ dropped_at s (first_from s conn) → TookLowest (is_held_at h conn) answer now h
 TookLowest-drop s conn answer now h st told state = record {
   shows = record {
     number = option_map (λ k. number_expected s + k) (first_from s conn);
-    lowest = lowest_at (is_held_from conn) s.places (number_expected s) (is_held_at h conn) refl (λ k. held_from_here s k conn h st) (λ n lt. grind (arith, unheld_below s h n st lt)) (first_from s conn) refl;
+    lowest = lowest_at (is_held_from conn) s.places (number_expected s) (is_held_at h conn) refl (λ k. held_from_here s k conn h st)
+        (λ n lt. grind (arith, unheld_below s h n st lt)) (first_from s conn) refl;
     shown = told ∙ shown_by s (first_from s conn);
   };
   stands = dropped s conn (first_from s conn) now h st refl state;

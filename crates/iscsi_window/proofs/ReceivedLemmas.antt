@@ -40,7 +40,8 @@ turns_into_itself (x ∷ xs) some none = grind (arith, sum_by-cons (one is_some)
 pub turned_sound : (counts bounds : List ℕ) (turned received held : ℕ) (xs : List (Option (Option HeldRequest))) → ArePlacesSound counts bounds turned received held xs → 0 < length xs
     → ArePlacesSound (lowered counts (group_of (get_or xs 0 None))) bounds (turned + 1) (received - one is_some (get_or xs 0 None)) (held - one is_held (get_or xs 0 None)) (drop 1 xs ++ None ∷ [])
 turned_sound counts bounds turned received held xs sound some =
-    grind (arith, nat_tests, turned_counted counts xs sound.tags some, turned_bounds bounds turned xs sound.lowest, count_turned is_some refl xs, count_turned is_held refl xs)
+    let counted = turned_counted counts xs sound.tags some in
+    grind (arith, nat_tests, turned_bounds bounds turned xs sound.lowest, count_turned is_some refl xs, count_turned is_held refl xs)
 
 pub passed_sound : (counts bounds : List ℕ) (turned received held : ℕ) (xs : List (Option (Option HeldRequest))) → ArePlacesSound counts bounds turned received held xs → 0 < length xs
     → 0 ≡ count_by is_some xs → ArePlacesSound counts bounds (turned + 1) received held xs

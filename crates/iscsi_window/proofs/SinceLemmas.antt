@@ -32,7 +32,7 @@ offered_since s r h sound st = grind (arith, nat_tests, expected_is, place_shows
 
 -- the number that comes next
 pub next_since : (s : Received) (r : Request) (h : List Change) → IsSound s → StandsFor s h → is_next s r ≡ is_next_since s.first (length s.places) h (number_of s.first h (cmd_sn r))
-next_since s r h sound st = let first = place_shows s h 0 st in let some = is_some-place_of h (number_expected s + 0) in grind (arith, nat_tests, expected_is s h st, st.unfinished, first, some)
+next_since s r h sound st = grind (arith, nat_tests, expected_is s h st, place_shows s h 0 st, is_some-place_of h (number_expected s + 0))
 
 -- ---- a number without a request
 
@@ -71,7 +71,7 @@ received_of_test f h n empty passes = grind (arith, unheld h n)
 
 -- a received number, from ExpCmdSN on, has a place below the room
 pub within_room : (s : Received) (k : ℕ) (h : List Change) → StandsFor s h → is_received h (number_expected s + k) ≡ true → k < room_of s
-within_room s k h st there = ⊎_elim (λ lt. lt) (λ ge. absurd (false≢true (sym (st.above (number_expected s + k) (omega arith)) ∙ there))) (cases_lt k (room_of s))
+within_room s k h st there = grind (arith, st.above (number_expected s + k))
 
 pub held_from_here : (s : Received) (k : ℕ) (conn : Option ℕ) (h : List Change) → StandsFor s h → is_held_from conn (at_place s k) ≡ is_held_at h conn (number_expected s + k)
 held_from_here s k conn h st = ap (is_held_from conn) (place_shows s h k st) ∙ test_held (is_held_from conn) h (number_expected s + k) refl refl
@@ -83,7 +83,7 @@ taken_since s k conn h st = grind (arith, held_from_here s k conn h st, expected
 pub StandsFor-take : (s : Received) (k : ℕ) (conn : Option ℕ) (now : Received) (h : List Change) → StandsFor s h → now ≡ taken_at s k conn → StandsFor now (after_emptying (held_number h conn (expected s.first h + k)) h)
 StandsFor-take s k conn now h st state =
     let e : ℕ = number_expected s in
-    grind (arith, expected_is s h st, held_from_here s k conn h st, received_of_test (is_held_from conn) h (e + k) refl, within_room s k h st, StandsFor-emptied s k h st)
+    grind (arith, expected_is s h st, held_from_here, received_of_test (is_held_from conn) h (e + k) refl, within_room, StandsFor-emptied s k h st)
 
 -- ---- the expected number turns
 
@@ -104,7 +104,8 @@ StandsFor-pass s r now h st next state =
     let e : ℕ = number_expected s in
     let one : Received = offered_to s r in
     let offered : StandsFor one (Admitted (number_of s.first h (cmd_sn r)) r ∷ h) = grind (arith, nat_tests, StandsFor-offer s r Held one h st) in
-    grind (arith, nat_tests, expected_is s h st, get_or-set_same s.places 0 (Some (Some r)) None, StandsFor-advance one (turned_by one) now (Admitted (number_of s.first h (cmd_sn r)) r ∷ h) offered refl)
+    let turns = StandsFor-advance one (turned_by one) now (Admitted (number_of s.first h (cmd_sn r)) r ∷ h) offered refl in
+    grind (arith, nat_tests, expected_is s h st, get_or-set_same s.places 0 (Some (Some r)) None, turns)
 
 -- ---- the law
 

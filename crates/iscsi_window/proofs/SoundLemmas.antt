@@ -30,5 +30,5 @@ Keeps first unfinished size places = (length places.items ≡ size) × (places.c
 
 pub keeps_put : (first unfinished size k : ℕ) (v : Option (Option HeldRequest)) (old new : Placed) → Keeps first unfinished size old → k < length old.items - unfinished → new ≡ record old { items = set old.items k v } → Keeps first unfinished size new
 keeps_put first unfinished size k v old new keeps within put =
-    subst (λ b. Keeps first unfinished size b) (sym put)
-    (length-set old.items k v ∙ keeps.0, keeps.1, sound_set (record { first = first; turned = old.turned; unfinished = unfinished; places = old.items }) k v keeps.2 within)
+    let s : Arrived = record { first = first; turned = old.turned; unfinished = unfinished; places = old.items } in
+    grind (arith, length-set, sound_set s k v keeps.2 within)

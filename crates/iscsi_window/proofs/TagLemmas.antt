@@ -56,7 +56,7 @@ pub read_held : (counts : List ℕ) (xs : List (Option (Option HeldRequest))) (k
 read_held counts xs k x c read g is = is_held counts xs k g c (slice_get_within xs k x read) (ap group_of (get_or_from_slice_get xs k x None read) ∙ is)
 
 pub put_counted : (counts : List ℕ) (xs : List (Option (Option HeldRequest))) (k : ℕ) (x v : Option (Option HeldRequest)) → IsCounted counts xs → slice_get xs k ≡ Some x → IsCounted (raised (lowered counts (group_of x)) (group_of v)) (set xs k v)
-put_counted counts xs k x v c read = subst (λ y. IsCounted (raised (lowered counts (group_of y)) (group_of v)) (set xs k v)) (get_or_from_slice_get xs k x None read) (put_within counts xs k v c (slice_get_within xs k x read))
+put_counted counts xs k x v c read = grind (arith, get_or_from_slice_get xs k x None read, put_within counts xs k v c (slice_get_within xs k x read))
 
 -- ---- the first place turns
 

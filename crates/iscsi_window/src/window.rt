@@ -120,6 +120,7 @@ impl Window {
 
     /// Receives the number with nothing held for it, and answers true. Where it was received before, the
     /// answer is false and nothing changes.
+    #[tactic(auto, using(crate::proofs::WindowSteps::void_steps))]
     pub fn void(&mut self, w: u32) -> bool
         requires { IsInside (place_in self.old w) }
         ensures answer { result ≡ not (is_received_at self.old (place_in self.old w)) }
@@ -151,6 +152,7 @@ impl Window {
 
     /// Takes out the request that is held for the number, which stays received. Where none is held, nothing
     /// changes.
+    #[tactic(auto, using(crate::proofs::WindowSteps::empty_steps))]
     pub fn empty(&mut self, w: u32) -> Option<Request>
         ensures answer { result ≡ held_at self.old (place_in self.old w) }
         ensures state { self.new ≡ emptied self.old w }
@@ -165,6 +167,7 @@ impl Window {
 
     /// Takes out the request with the lowest number of those that are held and came on connection `conn`, or
     /// on any for None, and answers its number, which stays received. Where none is held, nothing changes.
+    #[tactic(auto, using(crate::proofs::WindowSteps::drop_first_steps))]
     pub fn drop_first(&mut self, conn: Option<u16>) -> Option<u32>
         ensures answer { result ≡ option_map (number_shown self.old) (first_from self.old conn) }
         ensures state { self.new ≡ dropped_at self.old (first_from self.old conn) }
@@ -175,6 +178,7 @@ impl Window {
 
     /// Takes out the request that is held `ahead` numbers after the expected one, if it came on connection
     /// `conn`, or on any for None, and answers its number, which stays received. Otherwise nothing changes.
+    #[tactic(auto, using(crate::proofs::WindowSteps::drop_at_steps))]
     pub fn drop_at(&mut self, ahead: u32, conn: Option<u16>) -> Option<u32>
         ensures answer { result ≡
             (if is_held_from conn (at_place self.old ahead) then Some (number_shown self.old ahead) else None) }
@@ -190,6 +194,7 @@ impl Window {
     /// Turns the expected number, if it is received. Otherwise nothing changes.
     ///
     /// A command that it turned may be counted by `start_one`.
+    #[tactic(auto, using(crate::proofs::WindowSteps::advance_steps))]
     pub fn advance(&mut self) -> Option<Turned>
         requires { self.old.turned < 2 ^ 64 - 1 }
         ensures answer { result ≡ turned_by self.old }
@@ -219,6 +224,7 @@ impl Window {
     /// it at any time.
     ///
     /// A command that it turned may be counted by `start_one`.
+    #[tactic(auto, using(crate::proofs::WindowSteps::pass_steps))]
     pub fn pass(&mut self, request: &Request)
         requires next { is_next self.old request.now ≡ true }
         requires turned { self.old.turned < 2 ^ 64 - 1 }
@@ -231,6 +237,7 @@ impl Window {
     }
 
     /// Counts a command as being executed: the last admitted number isn't admitted any more.
+    #[tactic(auto, using(crate::proofs::WindowSteps::start_one_steps))]
     pub fn start_one(&mut self)
         requires { HasRoom self.old }
         ensures state { self.new ≡ with_unfinished self.old (self.old.unfinished + 1) }
@@ -240,6 +247,7 @@ impl Window {
     }
 
     /// Takes a command back from the count: one number more is admitted.
+    #[tactic(auto, using(crate::proofs::WindowSteps::finish_one_steps))]
     pub fn finish_one(&mut self)
         requires { 0 < self.old.unfinished }
         ensures state { self.new ≡ with_unfinished self.old (self.old.unfinished - 1) }

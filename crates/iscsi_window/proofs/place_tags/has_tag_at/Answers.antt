@@ -11,6 +11,3 @@ bits-smaller c = grind (arith, nat_tests, bit_at-trailing_zeros w64 c.bits.left 
 
 pub bits-preserved : goal.bits-preserved
 bits-preserved c = grind (arith, nat_tests, bit_at-trailing_zeros w64 c.bits.left (omega arith) (search rules), bit_taken)
-
-pub returns : goal.returns
-returns c = λ none i small one. c.bits.invariant i small one (λ still. omega (arith, still, bit_at-zero i, ap (λ w. bit_at w i) c.bits-test.false))

@@ -22,9 +22,6 @@ read c = sym c.get_mut.ensures.value ∙ ap option_copied_mut c.in-Some.is
 was : (c : In-Some) → get_or c.args.places.now.items c.args.k None ≡ c.in-Some.place.now
 was c = ap (λ b. get_or b.items c.args.k None) (sym c.places.view_is) ∙ get_or_from_slice_get c.places.inside.ring.items c.args.k c.in-Some.place.now None (read c)
 
-pub raise-requires : goal.raise-requires
-raise-requires c = λ g. is_few c.places.inside.tags c.places.inside.ring.items g c.places.invariant.sound.tags
-
 pub invariant_of-places : goal.invariant_of-places
 invariant_of-places c = rw (set_same c.places.inside.ring.items c.args.k c.in-Some.place.now (read (goal.at.invariant_of-places c).In-Some)) c.places.invariant
 

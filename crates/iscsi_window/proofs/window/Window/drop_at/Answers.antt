@@ -4,14 +4,8 @@ use Rattle.iscsi_window.proofs.SinceLemmas.{taken_since, StandsFor-take}
 use Rattle.iscsi_window.proofs.ShownLemmas.{from_shown, taken_shown}
 use Rattle.iscsi_window.proofs.window.Window.drop_at.Goals as goal
 
-pub returns-clause-answer : goal.returns-clause-answer
-returns-clause-answer c = rw (← c.self.view_is) (c.drop_at.ensures.answer ∙ ap (λ b. cond b (Some (number_shown c.self.inside.events c.args.ahead)) None) (from_shown c.self.inside.events c.args.ahead c.args.conn))
-
 pub returns-clause-state : goal.returns-clause-state
 returns-clause-state c = rw (← c.self.view_is) (ap shown c.drop_at.ensures.state ∙ taken_shown c.self.inside.events c.args.ahead c.args.conn)
-
-pub returns-clause-answer_since : goal.returns-clause-answer_since
-returns-clause-answer_since c = λ h st. returns-clause-answer c ∙ taken_since c.args.self.now c.args.ahead c.args.conn h st
 
 pub returns-clause-stands : goal.returns-clause-stands
 returns-clause-stands c = λ h st. StandsFor-take c.args.self.now c.args.ahead c.args.conn _ h st (returns-clause-state c)

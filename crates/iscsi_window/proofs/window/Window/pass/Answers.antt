@@ -4,14 +4,8 @@ use Rattle.iscsi_window.proofs.SinceLemmas.{StandsFor-pass}
 use Rattle.iscsi_window.proofs.ShownLemmas.{next_shown, passed_shown, room_shown}
 use Rattle.iscsi_window.proofs.window.Window.pass.Goals as goal
 
-pub pass-requires-clause-next : goal.pass-requires-clause-next
-pass-requires-clause-next c = next_shown c.self.inside.events c.args.request.now ∙ (rw (← c.self.view_is) at c.requires.next)
-
 pub returns-clause-state : goal.returns-clause-state
 returns-clause-state c = rw (← c.self.view_is) (ap shown (c.pass.ensures.state 0) ∙ passed_shown c.self.inside.events c.args.request.now)
-
-pub returns-clause-room : goal.returns-clause-room
-returns-clause-room c = room_shown c.pass.new.self c.pass.ensures.room
 
 pub returns-clause-stands : goal.returns-clause-stands
 returns-clause-stands c = λ h st. StandsFor-pass c.args.self.now c.args.request.now _ h st c.requires.next (returns-clause-state c)
