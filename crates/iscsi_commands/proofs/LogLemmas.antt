@@ -59,7 +59,7 @@ one_leaves : (p : Live → Bool) (log : List Entry) (k : ℕ) → IsLiveAt log k
     → live_in (set log k (ended (entry_at log k))) ≡ filter (λ l. not (p l)) (live_in log)
 one_leaves p [] k live passes alone = absurd (false≢true live)
 one_leaves p (e ∷ log) zero live passes alone =
-    let rest = none_stays p log (λ j is. ⊎_elim (λ too. let same = alone (suc j) is too in absurd (omega (arith, same))) (λ no. no) (cases_Bool (p (entry_at log j).command))) in
+    let rest = none_stays p log (λ j is. grind (arith, alone (suc j) is)) in
     grind arith
 one_leaves p (e ∷ log) (suc k) live passes alone =
     let rest = one_leaves p log k live passes (λ j is yes. let same = alone (suc j) is yes in omega (arith, same)) in
@@ -114,9 +114,6 @@ live_taken [] (suc n) below = refl
 live_taken (e ∷ log) zero below = sym (none_live (e ∷ log) (λ k live. let l = below k live in absurd (omega (arith, l))))
 live_taken (e ∷ log) (suc n) below = grind (arith, live_taken log n (λ k live. let l = below (suc k) live in omega (arith, l)))
 
-pub taken_up : (log : List Entry) (n : ℕ) → AreAscending ticket_of log → AreAscending ticket_of (take n log)
-taken_up log n up i j d lt l = grind (arith, length-take n log, get_or-take n log i d, get_or-take n log j d, up i j d lt)
-
 pub taken_lower : (log : List Entry) (n ticket : ℕ) → ((k : ℕ) → k < n → ticket_of (entry_at log k) < ticket) → All (λ e. ticket_of e < ticket) (take n log)
 taken_lower log n ticket below k d l = grind (arith, length-take n log, get_or-take n log k d, get_or_default log k d NOTHING, below k)
 
@@ -148,7 +145,7 @@ same_tagged log apart j k j_live k_live same = grind (arith, earlier_apart log a
 -- a command with a tag that no live one has enters
 pub unused_pushed : (log : List Entry) (e : Entry) → list_any (λ l. l.itt == e.command.itt) (live_in log) ≡ false → (j : ℕ) → IsLiveAt (take (length log) (log ++ e ∷ [])) j → tag_at (log ++ e ∷ []) j ≢ tag_at (log ++ e ∷ []) (length log)
 unused_pushed log e none j live same =
-    grind (arith, take_at log (e ∷ []) (length log) refl, live_within log j, unused_at log e.command.itt none j, get_or_append_left log (e ∷ []) NOTHING j, get_or_push log e NOTHING (length log) refl)
+    grind (arith, take_at log (e ∷ []) (length log) refl, live_within, unused_at log e.command.itt none, get_or_append_left, get_or_push)
 
 -- two places with the same ticket are one
 pub same_ticket : (log : List Entry) → AreAscending ticket_of log → (j k : ℕ) → j < length log → k < length log → ticket_of (entry_at log j) ≡ ticket_of (entry_at log k) → j ≡ k
@@ -187,15 +184,8 @@ set_up log k up within i j d lt l = grind (arith, nat_tests, length-set, get_or-
 pub logged_without : {log : List Entry} {capacity live room hints : ℕ} {places : List ℕ} {crowded : List Bool} {others : List ℕ} {others_room : ℕ} (logged : AreLogged log capacity live room hints places crowded others others_room) (n k : ℕ) → IsLiveAt log k → ticket_of (entry_at log k) ≡ n
     → {places_after : List ℕ} {crowded_after : List Bool} {others_after : List ℕ} → AreTagged (set log k (ended (entry_at log k))) places_after crowded_after others_after → AreLogged (set log k (ended (entry_at log k))) capacity (live - 1) room hints places_after crowded_after others_after others_room
 logged_without {log} logged n k is_live is tagged =
-    grind (
-      arith,
-      ticket_leaves log n k logged.ascending is_live is,
-      one_fewer log k is_live,
-      set_up log k logged.ascending,
-      live_within log k is_live,
-      length-set log k (ended (entry_at log k)),
-      AllPairs-filter (λ (a b : Live). a.itt ≢ b.itt) (λ l. not (l.ticket == n)) (live_in log) logged.apart,
-    )
+    let apart = AllPairs-filter (λ (a b : Live). a.itt ≢ b.itt) (λ l. not (l.ticket == n)) (live_in log) logged.apart in
+    grind (arith, ticket_leaves log n k logged.ascending is_live is, one_fewer log k is_live, set_up, live_within, length-set)
 
 -- ---- and as one enters
 
@@ -203,14 +193,9 @@ pub logged_with : (log : List Entry) (command : Live) (slot : ℕ) {capacity liv
     → All (λ e. ticket_of e < command.ticket) log → list_any (λ l. l.itt == command.itt) (live_in log) ≡ false → AreTagged (log ++ record { command = command; slot = slot; is_live = true } ∷ []) places crowded others → AreLogged (log ++ record { command = command; slot = slot; is_live = true } ∷ []) capacity (live + 1) room hints places crowded others others_room
 logged_with log command slot {live = live} {room = room} up apart counted few short has_room small hinted for_others newest unused tagged =
     let e : Entry = record { command = command; slot = slot; is_live = true } in
-    grind (
-      arith,
-      live_pushed log command slot,
-      length_push (live_in log) command,
-      length_push log e,
-      all_pairs_push (λ (x y : Entry). ticket_of x < ticket_of y) log e up newest,
-      all_pairs_push (λ (a b : Live). a.itt ≢ b.itt) (live_in log) command apart (λ k d l same. false≢true (sym unused ∙ list_any_at (λ c. c.itt == command.itt) (live_in log) k d l (eq-eqb _ _ same))),
-    )
+    let apart_now = all_pairs_push (λ (a b : Live). a.itt ≢ b.itt) (live_in log) command apart (λ k d l same. grind (arith, nat_tests, list_any_at (λ c. c.itt == command.itt) (live_in log) k d l)) in
+    let up_now = all_pairs_push (λ (x y : Entry). ticket_of x < ticket_of y) log e up newest in
+    grind (arith, live_pushed log command slot, length_push (live_in log) command, length_push log e)
 
 pub none_logged : (capacity room hints others_room : ℕ) → 2 * room + 64 ≤ capacity → room ≤ 2016 → hints ≡ 4096 → others_room ≡ room → {places : List ℕ} {crowded : List Bool} {others : List ℕ} → AreTagged [] places crowded others → AreLogged [] capacity 0 room hints places crowded others others_room
 none_logged capacity room hints others_room has_room small hinted for_others tagged = grind arith

@@ -64,7 +64,7 @@ renumbered log {others = others} tagged to after marks groups marked ranks size 
     let kept = filter (λ (x : Entry). x.is_live) log in
     let long = length-map others to in
     let at : (i d : ℕ) → i < length others → (get_or (map to others) i d ≡ rank log (get_or others i 0)) × (entry_at kept (rank log (get_or others i 0)) ≡ entry_at log (get_or others i 0)) × IsLiveAt log (get_or others i 0) =
-    λ i d l. let live = other_live tagged i l in (get_or-map to others i 0 d l ∙ ranks (get_or others i 0) (other_within tagged i l), at_rank log (get_or others i 0) live, live) in
+    λ i d l. let live = other_live tagged i l in (get_or-map to others i 0 d l ∙ ranks _ (other_within tagged i l), at_rank log _ live, live) in
     record {
       size = size;
       groups = groups;
@@ -75,7 +75,7 @@ renumbered log {others = others} tagged to after marks groups marked ranks size 
           grind (arith, r.is, s.inside, s.there, at s.place 0, times_at (map to others) s.place);
       are_live = λ n some. let s = stands n (map to others) some in grind (arith, s.inside, s.there, at s.place 0);
       sorted = λ i j d lt l. grind (arith, at i d, at j d, tagged.sorted i j 0);
-      marked = λ n some. let s = stands n (map to others) some in grind (arith, s.inside, s.there, at s.place 0, marked (get_or others s.place 0), times_at others s.place);
+      marked = λ n some. let s = stands n (map to others) some in grind (arith, at s.place 0, marked (get_or others s.place 0), times_at others s.place);
     }
 
 -- ---- the places of groups, one after the other
@@ -90,7 +90,7 @@ module _ (log : List Entry) (n group : ℕ) {old places : List ℕ} (before : Ar
   pub renumbered_here : get_or places group 0 ≡ n → (to : ℕ) → to ≡ rank log n → AreRenumbered log (n + 1) old (set places group to)
   renumbered_here here to ranked = record {
     size = length-set places group to ∙ before.size;
-    done = λ k l live first. grind (arith, before.size, before.done k, before.to_do k, rank_below log k, get_or-set_other places group (group_of (tag_at log k)) to 0, get_or-set_same places group to 0, group_below (tag_at log n));
+    done = λ k l live first. grind (arith, before.size, before.done k, before.to_do k, rank_below log k, get_or-set_other, get_or-set_same, group_below);
     to_do = λ k l live first. grind (arith, before.to_do k, get_or-set_other places group (group_of (tag_at log k)) to 0);
   }
 

@@ -63,16 +63,16 @@ module _ {log : List Entry} {places : List ℕ} {crowded : List Bool} {others : 
   twice : (at : ℕ) → at < length others → (j : ℕ) → get_or others at 0 ≡ j → 1 ≤ times j (remove others at) → ⊥
   twice at l j there some =
       let s = stands j (remove others at) some in
-      grind (arith, s.inside, s.there, length-remove others at l, get_or-remove_below others at 0 s.place, get_or-remove_above others at 0 s.place, tagged.sorted s.place at 0, tagged.sorted at (s.place + 1) 0)
+      grind (arith, length-remove others at l, get_or-remove_below, get_or-remove_above, tagged.sorted s.place at 0, tagged.sorted at (s.place + 1) 0)
 
   -- ---- a command leaves
 
   module _ (k : ℕ) (live : IsLiveAt log k) where
     was : (j : ℕ) → IsLiveAt (set log k (ended (entry_at log k))) j → (j ≢ k) × IsLiveAt log j
-    was j is = grind (arith, get_or-set_same log k (ended (entry_at log k)) NOTHING, get_or-set_other log k j (ended (entry_at log k)) NOTHING, live_within log k live)
+    was j is = grind (arith, get_or-set_same, get_or-set_other, live_within log k live)
 
     pub same_tag : (j : ℕ) → tag_at (set log k (ended (entry_at log k))) j ≡ tag_at log j
-    same_tag j = grind (arith, get_or-set_same log k (ended (entry_at log k)) NOTHING, get_or-set_other log k j (ended (entry_at log k)) NOTHING, live_within log k live)
+    same_tag j = grind (arith, get_or-set_same, get_or-set_other, live_within log k live)
 
     -- a command whose group isn't marked isn't among the others
     pub not_other : get_or crowded (group_of (tag_at log k)) false ≡ false → times k others ≡ 0
@@ -86,7 +86,9 @@ module _ {log : List Entry} {places : List ℕ} {crowded : List Bool} {others : 
     left_first none = without others (λ j apart. refl) (λ some. omega (arith, none, some)) tagged.sorted
 
     pub left_other : (at : ℕ) → at < length others → get_or others at 0 ≡ k → AreTagged (set log k (ended (entry_at log k))) places crowded (remove others at)
-    left_other at l there = without (remove others at) (λ j apart. grind (arith, nat_tests, times_remove j others at l)) (twice at l k there) (removed_up (tag_at log) others at l tagged.sorted)
+    left_other at l there =
+        without (remove others at) (λ j apart. grind (arith, nat_tests, times_remove j others at l)) (twice at l k there)
+        (removed_up (tag_at log) others at l tagged.sorted)
 
 -- ---- the last ones go, none of which is live
 
@@ -99,7 +101,8 @@ tagged_shorter log n {places} {crowded} {others} tagged below =
       groups = tagged.groups;
       known = λ j live other. grind (arith, before log n j live, same j, tagged.known j);
       are_live = λ j some. grind (arith, same j, other_below j some, tagged.are_live j some);
-      sorted = same_order (tag_at log) (tag_at (take n log)) others (λ i d l. grind (arith, get_or_default others i d 0 l, times_at others i l, other_below (get_or others i 0), same (get_or others i 0))) tagged.sorted;
+      sorted = same_order (tag_at log) (tag_at (take n log)) others
+          (λ i d l. grind (arith, get_or_default others i d 0 l, times_at others i l, other_below (get_or others i 0), same (get_or others i 0))) tagged.sorted;
       marked = λ j some. grind (arith, same j, other_below j some, tagged.marked j some);
     }
 
@@ -125,7 +128,7 @@ module _ (log : List Entry) {places : List ℕ} {crowded : List Bool} {others : 
   -- the place of its group is its own
   pub entered_first : (group : ℕ) → group ≡ group_of (tag_at log k) → (get_or places group 0 < k → IsLiveAt log (get_or places group 0) → group_of (tag_at log (get_or places group 0)) ≢ group) → AreTagged (take (k + 1) log) (set places group k) crowded others
   entered_first group is free =
-      grind (arith, nat_tests, length-set places group k, before, now, get_or-set_same places group k 0, get_or-set_other, place_below tagged (tag_at log k), other_before, sorted_more)
+      grind (arith, nat_tests, length-set, before, now, get_or-set_same, get_or-set_other, place_below tagged (tag_at log k), other_before, sorted_more)
 
   -- the place of its group is taken
   pub entered_other : (at group : ℕ) → group ≡ group_of (tag_at log k) → at ≤ length others → get_or places (group_of (tag_at log k)) 0 < k → ((i : ℕ) → i < at → tag_at log (get_or others i 0) < tag_at log k) → ((i : ℕ) → at ≤ i → i < length others → tag_at log k ≤ tag_at log (get_or others i 0))
@@ -137,6 +140,6 @@ module _ (log : List Entry) {places : List ℕ} {crowded : List Bool} {others : 
     are_live = λ j some. grind (arith, nat_tests, times_insert j others at k le, other_before j, now j, tagged.are_live j);
     sorted = inserted_up (tag_at (take (k + 1) log)) others at k sorted_more le
         (λ i d l. grind (arith, get_or_default others i d 0, tag_same i 0, below i l, now k))
-        (λ i d from l. grind (arith, get_or_default others i d 0 l, tag_same i 0 l, above i from l, now k, unused (get_or others i 0), tagged.are_live (get_or others i 0), times_at others i l));
-    marked = λ j some. grind (arith, nat_tests, times_insert j others at k le, other_before j, now j, tagged.marked j, mark_stays crowded group (group_of (tag_at log j)), get_or-set_same crowded group true false, group_below (tag_at log k));
+        (λ i d from l. grind (arith, get_or_default others i d 0 l, tag_same i 0 l, above i from l, now k, unused, tagged.are_live, times_at));
+    marked = λ j some. grind (arith, nat_tests, times_insert j others, other_before j, now j, tagged.marked j, mark_stays, get_or-set_same, group_below);
   }

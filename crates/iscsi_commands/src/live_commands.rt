@@ -78,6 +78,7 @@ impl LiveCommands {
     }
 
     /// How many commands are live.
+    #[tactic(auto, using(crate::proofs::LogLemmas::tickets_up))]
     pub fn len(&self) -> usize
         ensures len { result ≡ length self.now.items }
         ensures within { length self.now.items ≤ self.now.room }
@@ -87,6 +88,7 @@ impl LiveCommands {
     }
 
     /// The command with this ticket.
+    #[tactic(auto, using(crate::proofs::LogLemmas::tickets_up))]
     pub fn find(&self, ticket: u64) -> Option<Live>
         ensures command { result ≡ find_ticket ticket self.now.items }
         ensures ascending { AreAscending self.now.items }
@@ -98,6 +100,7 @@ impl LiveCommands {
     /// The command with this ticket, and the slot that it entered with.
     ///
     /// No clause speaks of the slot: it is where the command's task set looks first, and the set verifies it.
+    #[tactic(auto, using(crate::proofs::LogLemmas::tickets_up))]
     pub fn find_placed(&self, ticket: u64) -> Option<Placed>
         ensures command { option_map (λ p. p.command) result ≡ find_ticket ticket self.now.items }
         ensures ascending { AreAscending self.now.items }
@@ -167,6 +170,7 @@ impl LiveCommands {
 /// Ended commands with this ticket or a greater one go. Where the log is long for so many live commands then, these
 /// close up.
 #[inline(always)]
+#[tactic(auto, using(crate::proofs::LogLemmas::live_fewer))]
 fn make_way(log: &mut Vec<Entry>, live: usize, hints: &mut [u16], tags: &mut TagIndex, ticket: u64)
     requires ascending { AreKeysAscending ticket_of log.old.items }
     requires counted { live ≡ length (live_in log.old.items) }

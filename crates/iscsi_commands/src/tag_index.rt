@@ -51,6 +51,7 @@ impl TagIndex {
     }
 
     /// The place of the live command with this tag.
+    #[tactic(auto, using(crate::proofs::LogLemmas::group_below))]
     pub(crate) fn find(&self, log: &[Entry], itt: u32) -> Option<usize>
         requires { AreTagged log.now self.now.places.items self.now.crowded.items self.now.others.items }
         ensures { IsTagPlace log.now itt result }
@@ -74,6 +75,7 @@ impl TagIndex {
     }
 
     /// The command at a place enters, behind those before it.
+    #[tactic(auto, using(crate::proofs::LogLemmas::group_below))]
     pub(crate) fn enter(&mut self, log: &[Entry], k: usize)
         requires tagged { AreTagged (take k log.now) self.old.places.items self.old.crowded.items self.old.others.items }
         requires place { k < length log.now }
@@ -97,6 +99,7 @@ impl TagIndex {
     }
 
     /// The live command at a place leaves.
+    #[tactic(auto, using(crate::proofs::LogLemmas::group_below))]
     pub(crate) fn leave(&mut self, log: &[Entry], k: usize)
         requires tagged { AreTagged log.now self.old.places.items self.old.crowded.items self.old.others.items }
         requires live { IsLiveAt log.now k }
@@ -132,6 +135,7 @@ impl TagIndex {
 
 /// Marks the groups of the others. The marks of before go, so that they don't gather, unless there are no others: then
 /// a search looks at none.
+#[tactic(auto, using(crate::proofs::LogLemmas::group_below))]
 fn mark(crowded: &mut [bool], others: &Order, log: &[Entry])
     requires groups { length crowded.old ≡ 4096 }
     requires within { (i : ℕ) → i < length others.now.items → slice_index_or others.now.items i 0 < length log.now }
@@ -162,6 +166,7 @@ fn renumber_others(others: &mut Order, to: &[u16])
 }
 
 /// Each live command that stands at the place of its group stands there by its new place.
+#[tactic(auto, using(crate::proofs::LogLemmas::group_below))]
 fn renumber_places(places: &mut [u16], log: &[Entry], to: &[u16])
     requires groups { length places.old ≡ 4096 }
     requires size { length log.now ≤ length to.now }

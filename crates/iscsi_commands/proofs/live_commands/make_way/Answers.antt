@@ -5,12 +5,6 @@ use Rattle.iscsi_commands.specs.Log.{live_in, ticket_of}
 use Rattle.iscsi_commands.proofs.LogLemmas.{live_again, kept_up, kept_newest, live_fewer}
 use Rattle.iscsi_commands.proofs.live_commands.make_way.Goals as goal
 
-pub overflow_mul-live : goal.overflow_mul-live
-overflow_mul-live c = let few = live_fewer c.args.log.now.items in let is = c.requires.counted in let short = c.requires.short in omega (arith, few, is, short)
-
-pub overflow_add-live : goal.overflow_add-live
-overflow_add-live c = let few = live_fewer c.args.log.now.items in let is = c.requires.counted in let short = c.requires.short in omega (arith, few, is, short)
-
 pub close_up-requires-clause-tagged : goal.close_up-requires-clause-tagged
 close_up-requires-clause-tagged c = c.forget_ended.ensures.tagged c.args.tags.now.places.items c.args.tags.now.crowded.items c.args.tags.now.others.items c.requires.tagged
 

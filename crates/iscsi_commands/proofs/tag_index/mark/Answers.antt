@@ -9,9 +9,6 @@ use Rattle.iscsi_commands.proofs.LogLemmas.{group_below}
 use Rattle.iscsi_commands.proofs.TagIndexLemmas.{mark_stays}
 use Rattle.iscsi_commands.proofs.tag_index.mark.Goals as goal
 
-pub bounds-crowded-group_of : goal.bounds-crowded-group_of
-bounds-crowded-group_of c = let below = group_below c.entry_at.result.now.command.itt in let is = c.group_of.ensures in let groups = c.loop-i.invariant.groups in omega (arith, below, is, groups)
-
 -- the group of one more is marked
 marked_more : (log : List Entry) (crowded : List Bool) (others : List ℕ) (i group : ℕ) → length crowded ≡ 4096 → ((j : ℕ) → j < i → get_or crowded (group_of (tag_at log (get_or others j 0))) false ≡ true)
     → group ≡ group_of (tag_at log (get_or others i 0)) → (j : ℕ) → j < i + 1 → get_or (set crowded group true) (group_of (tag_at log (get_or others j 0))) false ≡ true
@@ -32,6 +29,3 @@ returns-clause-marked c = λ k some.
     let inside = s.inside in let over = c.loop-i-test.false in let long = c.len-i-end.ensures.len in
     let within : s.place < c.loop-i.i = omega (arith, inside, over, long) in
     ap (λ n. get_or c.loop-i.crowded (group_of (tag_at c.args.log.now n)) false) (sym s.there) ∙ c.loop-i.invariant.marked s.place within
-
-pub returns-clause-alone : goal.returns-clause-alone
-returns-clause-alone c = grind (arith, nat_tests)

@@ -5,18 +5,6 @@ use Rattle.iscsi_commands.proofs.RankLemmas.{AreRenumbered, renumbered_here, ren
 use Rattle.iscsi_commands.proofs.tag_index.renumber_places.Goals as goal
 use Rattle.iscsi_commands.proofs.tag_index.renumber_places.Goals.{then-from-k, else-from-k}
 
-pub offset_bounds-places-group : goal.offset_bounds-places-group
-offset_bounds-places-group c = let below = group_below c.entry_at.result.now.command.itt in let is = c.group_of-group.ensures in omega (arith, below, is)
-
-pub bounds-places-group : goal.bounds-places-group
-bounds-places-group c = let below = group_below c.entry_at.result.now.command.itt in let is = c.group_of-group.ensures in let size = c.loop-k.invariant.size in omega (arith, below, is, size)
-
-pub offset_bounds-places-group-then-from-k : goal.offset_bounds-places-group-then-from-k
-offset_bounds-places-group-then-from-k c = let below = group_below c.entry_at.result.now.command.itt in let is = c.group_of-group.ensures in omega (arith, below, is)
-
-pub bounds-places-group-then-from-k : goal.bounds-places-group-then-from-k
-bounds-places-group-then-from-k c = let below = group_below c.entry_at.result.now.command.itt in let is = c.group_of-group.ensures in let size = c.loop-k.invariant.size in omega (arith, below, is, size)
-
 pub loop-k-preserved : goal.loop-k-preserved
 loop-k-preserved c =
     let log = c.args.log.now in

@@ -7,12 +7,6 @@ use Rattle.iscsi_commands.specs.Log.{IsLiveAt, entry_at, ticket_of}
 use Rattle.iscsi_commands.proofs.LogLemmas.{tickets_up, found_ticket, no_ticket}
 use Rattle.iscsi_commands.proofs.live_commands.LiveCommands.find_placed.Goals as goal
 
-pub returns-in_err-at-clause-ascending : goal.returns-in_err-at-clause-ascending
-returns-in_err-at-clause-ascending c = subst (λ q. AreAscending q.items) c.self.view_is (tickets_up c.self.inside.log.items c.self.invariant.ascending)
-
-pub returns-clause-ascending : goal.returns-clause-ascending
-returns-clause-ascending c = subst (λ q. AreAscending q.items) c.self.view_is (tickets_up c.self.inside.log.items c.self.invariant.ascending)
-
 pub returns-in_err-at-clause-command : goal.returns-in_err-at-clause-command
 returns-in_err-at-clause-command c = grind (arith, nat_tests, no_ticket)
 

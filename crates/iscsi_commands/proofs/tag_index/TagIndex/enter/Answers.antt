@@ -8,15 +8,6 @@ use Rattle.iscsi_commands.proofs.LogLemmas.{group_below}
 use Rattle.iscsi_commands.proofs.TagIndexLemmas.{place_below, entered_first, entered_other, other_before, sorted_before}
 use Rattle.iscsi_commands.proofs.tag_index.TagIndex.enter.Goals as goal
 
-pub index-requires : goal.index-requires
-index-requires c = let below = place_below c.requires.tagged c.entry_at.result.now.command.itt in let is = c.group_of-group.ensures in omega (arith, below, is)
-
-pub index_mut-requires : goal.index_mut-requires
-index_mut-requires c = let below = group_below c.entry_at.result.now.command.itt in let is = c.group_of-group.ensures in let groups = c.requires.tagged.groups in omega (arith, below, is, groups)
-
-pub index_mut-requires-else-is_taken : goal.index_mut-requires-else-is_taken
-index_mut-requires-else-is_taken c = let below = place_below c.requires.tagged c.entry_at.result.now.command.itt in let is = c.group_of-group.ensures in omega (arith, below, is)
-
 pub count_below-place-requires-clause-within : goal.count_below-place-requires-clause-within
 count_below-place-requires-clause-within c = λ i l.
     let here = other_before c.args.log.now c.args.k c.requires.tagged c.requires.place c.requires.live (get_or c.args.self.now.others.items i 0) (times_at c.args.self.now.others.items i l) in

@@ -7,9 +7,6 @@ use Rattle.iscsi_commands.proofs.LogLemmas.{group_below}
 use Rattle.iscsi_commands.proofs.TagIndexLemmas.{place_below, other_live, other_within, no_tagged, unmarked_tag}
 use Rattle.iscsi_commands.proofs.tag_index.TagIndex.find.Goals as goal
 
-pub index-requires : goal.index-requires
-index-requires c = let below = place_below c.requires c.args.itt in let is = c.group_of-group.ensures in omega (arith, below, is)
-
 pub count_below-place-requires-clause-within : goal.count_below-place-requires-clause-within
 count_below-place-requires-clause-within c = other_within c.requires
 
@@ -32,10 +29,3 @@ returns-else-place-len c =
     no_tagged c.requires c.args.itt c.count_below-place.result found.below found.above
     (λ live tag. false≢true (sym c.if-is_live_with.false ∙ c.is_live_with.ensures.no (subst (IsLiveAt c.args.log.now) (sym first) live) (ap (tag_at c.args.log.now) first ∙ tag)))
     (λ l. absurd (omega (arith, l, over, long)))
-
--- where the group isn't marked
-pub index-requires-2 : goal.index-requires-2
-index-requires-2 c = let below = group_below c.args.itt in let is = c.group_of-group.ensures in let groups = c.requires.groups in omega (arith, below, is, groups)
-
-pub returns-then-not-index : goal.returns-then-not-index
-returns-then-not-index c = grind (arith, nat_tests, group_below c.args.itt, get_or_read, unmarked_tag)

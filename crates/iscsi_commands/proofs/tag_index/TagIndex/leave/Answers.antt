@@ -32,9 +32,5 @@ returns-else-place-len-clause-tagged c =
     ]))
     (cases_lt (times c.args.k c.args.self.now.others.items) 1)
 
--- where the group isn't marked
-pub index-requires : goal.index-requires
-index-requires c = let below = group_below c.entry_at.result.now.command.itt in let is = c.group_of.ensures in let groups = c.requires.tagged.groups in omega (arith, below, is, groups)
-
 pub returns-then-not-index-clause-tagged : goal.returns-then-not-index-clause-tagged
 returns-then-not-index-clause-tagged c = grind (arith, nat_tests, group_below (tag_at c.args.log.now c.args.k), get_or_read, left_first, not_other)
