@@ -41,7 +41,8 @@ module _ (list : List Connection) (cid k : ℕ) (found : position (has_cid cid) 
       cc (here, stat_sn_on-at (map cid_and_stat_sn list) cid k (cid_and_stat_sn read) found)
 
   conns_numbered : map cid_and_stat_sn (set list k (numbered read ((read.stat_sn + 1) % 4294967296))) ≡ count_reply cid (map cid_and_stat_sn list)
-  conns_numbered = cc (map-set cid_and_stat_sn list k (numbered read ((read.stat_sn + 1) % 4294967296)), here, count_reply-at (map cid_and_stat_sn list) cid k (cid_and_stat_sn read) found)
+  conns_numbered =
+      cc (map-set cid_and_stat_sn list k (numbered read ((read.stat_sn + 1) % 4294967296)), here, count_reply-at (map cid_and_stat_sn list) cid k (cid_and_stat_sn read) found)
 
   read_is : {A : Type 0} (f : Connection → A) (new : Connection) → f new ≡ f read → f new ≡ f (get_or list k new)
   read_is f new same = same ∙ ap f (is ∙ get_or_default list k read new within)

@@ -32,7 +32,8 @@ open_nowhere [] cid none = refl
 open_nowhere (c ∷ list) cid none = grind (arith, nat_tests, open_nowhere list cid)
 
 pub open_at : (places : List ℕ) (list : List Connection) → ArePlaced places list → (cid k : ℕ) → position (has_cid cid) (map cid_and_stat_sn list) ≡ Some k → (read : Connection) → read ≡ get_or list k read → read.is_open ≡ is_among_open cid (open_in list)
-open_at places list are cid k found read is = sym (one_with cid list k read here is has (λ j d h other. ne_eqb _ _ (λ same. other (grind (arith, told, are.told.placed j d h)))))
+open_at places list are cid k found read is =
+    sym (one_with cid list k read here is has (λ j d h other. ne_eqb _ _ (λ same. other (grind (arith, told, are.told.placed j d h)))))
   where
     here : k < length list
     here = within list cid k found read is

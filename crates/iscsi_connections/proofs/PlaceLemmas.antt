@@ -40,7 +40,8 @@ module _ (places : List ℕ) (list : List Connection) (are : ArePlaced places li
   pub told_place : (d : Connection) → get_or places cid 255 < 255 → Some (get_or places cid 255) ≡ position (has_cid cid) (map cid_and_stat_sn list)
   told_place d some =
       let here = are.told.meant cid d some in
-      sym (position_at (has_cid cid) (map cid_and_stat_sn list) (get_or places cid 255) (cid_and_stat_sn d) (grind (arith, here, length-map list cid_and_stat_sn)) (grind (arith, nat_tests, here, cid_at (get_or places cid 255) d))
+      sym (position_at (has_cid cid) (map cid_and_stat_sn list) (get_or places cid 255) (cid_and_stat_sn d)
+      (grind (arith, here, length-map list cid_and_stat_sn)) (grind (arith, nat_tests, here, cid_at (get_or places cid 255) d))
       (λ j before. grind (arith, nat_tests, here, cid_at j d, are.told.placed j d)))
 
   pub told_nowhere : 255 ≤ get_or places cid 255 → None ≡ position (has_cid cid) (map cid_and_stat_sn list)
@@ -66,6 +67,6 @@ pub told_more : (places new : List ℕ) (list : List Connection) (n : ℕ) (e : 
     → ((other : ℕ) → get_or new other 255 ≡ cond (other == (get_or list n e).cid) n (get_or places other 255))
     → TellsPlaces new list (n + 1)
 told_more places new list n e tells distinct within few written = record {
-  placed = λ k d before. grind (arith, nat_tests, get_or_default list n e d within, written (get_or list k d).cid, apart_at list k n d distinct, tells.placed k d);
+  placed = λ k d before. grind (arith, nat_tests, get_or_default list n e d within, written (get_or list k d).cid, apart_at, tells.placed k d);
   meant = λ cid d some. grind (arith, nat_tests, get_or_default list n d e within, written cid, tells.meant cid d);
 }
