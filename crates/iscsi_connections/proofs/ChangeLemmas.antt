@@ -3,6 +3,7 @@ use Rattle.std.proofs.Common.{None, [], ◌∷◌, ◌≡◌, ℕ, ◌+◌, ◌-
 use Rattle.std.proofs.lemmas.List.{get_or-map, get_or_default, length-map, map-set}
 use Rattle.std.proofs.Math.Seq.{map-set_same}
 use Rattle.std.proofs.lemmas.List.Quantifiers.{position-Some}
+use Rattle.std.proofs.lemmas.Bool.Decides.{nat_tests}
 use Rattle.iscsi_wire.specs.Serial.{wire}
 use Rattle.iscsi_connections.specs.declared.connections.Connection.{Connection}
 use Rattle.iscsi_connections.specs.Connected.{Connected, stat_sn_on, count_reply, counted_on}
@@ -26,9 +27,7 @@ module _ (list : List Connection) (cid k : ℕ) (found : position (has_cid cid) 
   long = length-map list cid_and_stat_sn
 
   pub within : k < length list
-  within =
-      let here = position-Some (has_cid cid) (map cid_and_stat_sn list) k (cid_and_stat_sn read) found in
-      omega (arith, here.0, long)
+  within = grind (arith, nat_tests, position-Some (has_cid cid) (map cid_and_stat_sn list) k (cid_and_stat_sn read) found, has_cid cid, long)
 
   here : get_or (map cid_and_stat_sn list) k (cid_and_stat_sn read) ≡ cid_and_stat_sn read
   here = get_or-map cid_and_stat_sn list k read (cid_and_stat_sn read) within ∙ ap cid_and_stat_sn (sym is)
@@ -36,13 +35,10 @@ module _ (list : List Connection) (cid k : ℕ) (found : position (has_cid cid) 
   -- ---- its StatSN is taken
 
   pub number_is : read.stat_sn < 2 ^ 32 → read.stat_sn ≡ stat_sn_on cid (map cid_and_stat_sn list)
-  number_is fits =
-      let whole : wire read.stat_sn ≡ read.stat_sn = omega arith in
-      cc (here, stat_sn_on-at (map cid_and_stat_sn list) cid k (cid_and_stat_sn read) found)
+  number_is fits = grind (arith, nat_tests, here, stat_sn_on-at (map cid_and_stat_sn list) cid k (cid_and_stat_sn read) found)
 
   conns_numbered : map cid_and_stat_sn (set list k (numbered read ((read.stat_sn + 1) % 4294967296))) ≡ count_reply cid (map cid_and_stat_sn list)
-  conns_numbered =
-      cc (map-set cid_and_stat_sn list k (numbered read ((read.stat_sn + 1) % 4294967296)), here, count_reply-at (map cid_and_stat_sn list) cid k (cid_and_stat_sn read) found)
+  conns_numbered = grind (arith, nat_tests, map-set, here, count_reply-at (map cid_and_stat_sn list) cid k (cid_and_stat_sn read) found)
 
   read_is : {A : Type 0} (f : Connection → A) (new : Connection) → f new ≡ f read → f new ≡ f (get_or list k new)
   read_is f new same = same ∙ ap f (is ∙ get_or_default list k read new within)
@@ -53,9 +49,7 @@ module _ (list : List Connection) (cid k : ℕ) (found : position (has_cid cid) 
       cc (conns_numbered, open_set list k new (read_is (λ c. c.cid) new refl) (read_is (λ c. c.is_open) new refl), map-set_same count_of list k new new (read_is count_of new refl))
 
   pub cids_numbered : cids_of (set list k (numbered read ((read.stat_sn + 1) % 4294967296))) ≡ cids_of list
-  cids_numbered =
-      let new : Connection = numbered read ((read.stat_sn + 1) % 4294967296) in
-      map-set_same (λ (c : Connection). c.cid) list k new new (read_is (λ c. c.cid) new refl)
+  cids_numbered = grind (arith, nat_tests, map-set_same, read_is)
 
   -- ---- its immediate commands are counted
 

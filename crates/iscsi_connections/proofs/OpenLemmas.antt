@@ -33,16 +33,7 @@ open_nowhere (c ∷ list) cid none = grind (arith, nat_tests, open_nowhere list 
 
 pub open_at : (places : List ℕ) (list : List Connection) → ArePlaced places list → (cid k : ℕ) → position (has_cid cid) (map cid_and_stat_sn list) ≡ Some k → (read : Connection) → read ≡ get_or list k read → read.is_open ≡ is_among_open cid (open_in list)
 open_at places list are cid k found read is =
-    sym (one_with cid list k read here is has (λ j d h other. ne_eqb _ _ (λ same. other (grind (arith, told, are.told.placed j d h)))))
-  where
-    here : k < length list
-    here = within list cid k found read is
-
-    has : (read.cid == cid) ≡ true
-    has = cc ((position-Some (has_cid cid) (map cid_and_stat_sn list) k (cid_and_stat_sn read) found).1, get_or-map cid_and_stat_sn list k read (cid_and_stat_sn read) here)
-
-    told : get_or places cid 255 ≡ k
-    told = cc (eqb-true read.cid cid has, are.told.placed k read here)
+    grind (arith, nat_tests, one_with, ne_eqb, within list cid k found read is, position-Some (has_cid cid) (map cid_and_stat_sn list) k (cid_and_stat_sn read) found, has_cid cid, get_or-map, eqb-true)
 
 pub none_open : (list : List Connection) → not (list_any (λ (c : Connection). c.is_open) list) ≡ (length (open_in list) == 0)
 none_open [] = refl

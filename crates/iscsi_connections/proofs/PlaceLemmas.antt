@@ -19,9 +19,7 @@ has_cid cid conn = conn.0 == cid
 -- ---- the first place that passes
 
 pub position_at : {X : Type 0} (p : X → Bool) (xs : List X) (k : ℕ) (d : X) → k < length xs → p (get_or xs k d) ≡ true → ((j : ℕ) → j < k → p (get_or xs j d) ≡ false) → position p xs ≡ Some k
-position_at p xs k d within here before =
-    let is : position_or_len p xs ≡ k = position_or_len_is p xs k d (omega arith) before (λ l. here) in
-    cc (lt-ltb k (length xs) within)
+position_at p xs k d within here before = grind (arith, nat_tests, position_or_len_is, lt-ltb k (length xs) within)
 
 pub position_nowhere : {X : Type 0} (p : X → Bool) (xs : List X) → ((j : ℕ) (d : X) → j < length xs → p (get_or xs j d) ≡ false) → position p xs ≡ None
 position_nowhere p [] none = refl

@@ -1,6 +1,7 @@
 use Rattle.std.proofs.Common.{◌∙◌, ◌≤◌, length, set, refl, ap, arith}
 use Rattle.std.proofs.lemmas.List.{take_all, drop_all, append-nil}
 use Rattle.std.proofs.lemmas.List.Edits.{map_over_more}
+use Rattle.std.proofs.lemmas.Bool.Decides.{nat_tests}
 use Rattle.iscsi_connections.specs.declared.connections.Connection.{Connection}
 use Rattle.iscsi_connections.specs.Placed.{closed_in}
 use Rattle.iscsi_connections.proofs.connections.close_in.Goals as goal
@@ -16,6 +17,4 @@ loop-place-preserved c = record {
 }
 
 pub returns : goal.returns
-returns c =
-    let past : length c.args.list.now.items ≤ c.loop-place.place = omega (arith, c.len-place-end.ensures, c.args.list.now.ok.0, c.loop-place-test.false) in
-    rw (c.loop-place.invariant.items, take_all c.loop-place.place c.args.list.now.items past, drop_all c.loop-place.place c.args.list.now.items past, append-nil)
+returns c = grind (arith, nat_tests, take_all, drop_all, append-nil)

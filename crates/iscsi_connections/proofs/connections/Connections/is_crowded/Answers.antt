@@ -1,4 +1,5 @@
-use Rattle.std.proofs.Common.{◌∙◌, map, nat_le, ap, sym}
+use Rattle.std.proofs.Common.{◌∙◌, map, nat_le, ap, sym, arith}
+use Rattle.std.proofs.lemmas.Bool.Decides.{nat_tests}
 use Rattle.iscsi_connections.specs.declared.connections.Connection.{Connection}
 use Rattle.iscsi_connections.specs.Placed.{cid_and_stat_sn}
 use Rattle.iscsi_connections.proofs.CountLemmas.{uncounted}
@@ -11,6 +12,4 @@ returns-in-Some c =
     rw (← c.self.view_is) (ap (nat_le 8) (sym (count_is c.self.inside.list.items c.args.cid c.in-Some.place found c.index.result.now c.index.ensures)))
 
 pub returns-in-None : goal.returns-in-None
-returns-in-None c =
-    let none = rw (← c.self.view_is) at (sym c.place_of.ensures ∙ c.in-None.is) in
-    rw (← c.self.view_is) (ap (nat_le 8) (sym (uncounted (map cid_and_stat_sn c.self.inside.list.items) (map (λ (x : Connection). x.immediate) c.self.inside.list.items) c.args.cid none)))
+returns-in-None c = grind (arith, nat_tests, uncounted)
