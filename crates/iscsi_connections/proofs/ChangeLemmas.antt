@@ -27,7 +27,7 @@ module _ (list : List Connection) (cid k : ℕ) (found : position (has_cid cid) 
   long = length-map list cid_and_stat_sn
 
   pub within : k < length list
-  within = grind (arith, nat_tests, position-Some (has_cid cid) (map cid_and_stat_sn list) k (cid_and_stat_sn read) found, has_cid cid, long)
+  within = grind (arith, nat_tests, position-Some (has_cid cid) (map cid_and_stat_sn list) k (cid_and_stat_sn read) found, long)
 
   here : get_or (map cid_and_stat_sn list) k (cid_and_stat_sn read) ≡ cid_and_stat_sn read
   here = get_or-map cid_and_stat_sn list k read (cid_and_stat_sn read) within ∙ ap cid_and_stat_sn (sym is)

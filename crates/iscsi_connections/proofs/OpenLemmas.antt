@@ -33,7 +33,8 @@ open_nowhere (c ∷ list) cid none = grind (arith, nat_tests, open_nowhere list 
 
 pub open_at : (places : List ℕ) (list : List Connection) → ArePlaced places list → (cid k : ℕ) → position (has_cid cid) (map cid_and_stat_sn list) ≡ Some k → (read : Connection) → read ≡ get_or list k read → read.is_open ≡ is_among_open cid (open_in list)
 open_at places list are cid k found read is =
-    grind (arith, nat_tests, one_with, ne_eqb, within list cid k found read is, position-Some (has_cid cid) (map cid_and_stat_sn list) k (cid_and_stat_sn read) found, has_cid cid, get_or-map, eqb-true)
+    let has = position-Some (has_cid cid) (map cid_and_stat_sn list) k (cid_and_stat_sn read) found in
+    grind (arith, nat_tests, one_with, ne_eqb, within list cid k found read is, has.1, get_or-map, eqb-true)
 
 pub none_open : (list : List Connection) → not (list_any (λ (c : Connection). c.is_open) list) ≡ (length (open_in list) == 0)
 none_open [] = refl

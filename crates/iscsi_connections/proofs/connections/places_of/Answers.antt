@@ -3,13 +3,5 @@ use Rattle.std.proofs.lemmas.Bool.Decides.{nat_tests}
 use Rattle.iscsi_connections.proofs.PlaceLemmas.{told_more}
 use Rattle.iscsi_connections.proofs.connections.places_of.Goals as goal
 
-pub loop-place-init : goal.loop-place-init
-loop-place-init c = grind (arith, nat_tests)
-
 pub loop-place-preserved : goal.loop-place-preserved
 loop-place-preserved c = told_more c.loop-place.places.items c.put.new.places.items c.args.list.now c.loop-place.place _ c.loop-place.invariant c.requires.distinct c.loop-place-test.true c.requires.few (λ other. c.in_ok-put.ensures other)
-
-pub returns : goal.returns
-returns c =
-    let last : length c.args.list.now ≡ c.loop-place.place = omega (arith, c.loop-place-test.false, c.loop-place.auto.place-end) in
-    rw last c.loop-place.invariant
