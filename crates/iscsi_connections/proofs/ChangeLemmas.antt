@@ -4,7 +4,6 @@ use Rattle.std.proofs.lemmas.List.{get_or-map, get_or_default, length-map, map-s
 use Rattle.std.proofs.Math.Seq.{map-set_same}
 use Rattle.std.proofs.lemmas.List.Quantifiers.{position-Some}
 use Rattle.std.proofs.lemmas.Bool.Decides.{nat_tests}
-use Rattle.iscsi_wire.specs.Serial.{wire}
 use Rattle.iscsi_connections.specs.declared.connections.Connection.{Connection}
 use Rattle.iscsi_connections.specs.Connected.{Connected, stat_sn_on, count_reply, counted_on}
 use Rattle.iscsi_connections.specs.Placed.{cid_and_stat_sn, cids_of, connected}

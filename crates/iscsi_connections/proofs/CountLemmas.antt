@@ -1,11 +1,7 @@
 -- What is kept of a connection, at the place of the first one with its CID.
-use Rattle.std.proofs.Common.{◌≡◌, ℕ, zero, suc, ◌+◌, ◌-◌, ◌<◌, ◌≤◌, ◌==◌, cond, true, false, List, [], ◌∷◌, length, get_or, set, position, Option, Some, None, refl, ap, sym, ◌∙◌, arith}
-use Rattle.std.specs.Prelude.{is_some}
-use Rattle.std.proofs.lemmas.List.Quantifiers.{position-Some}
+use Rattle.std.proofs.Common.{◌≡◌, ℕ, zero, suc, ◌+◌, ◌-◌, ◌≤◌, ◌==◌, cond, List, [], ◌∷◌, length, get_or, set, position, Option, Some, None, refl, arith}
 use Rattle.std.proofs.lemmas.Bool.Decides.{nat_tests}
 use Rattle.iscsi_wire.specs.Serial.{wire}
-use Rattle.iscsi_history.specs.rules.Settings.{is_known}
-use Rattle.iscsi_connections.proofs.PlaceLemmas.{known_by_place}
 use Rattle.iscsi_connections.specs.Connected.{stat_sn_on, count_reply, counted_on}
 
 abbrev place_of : ℕ → List (ℕ × ℕ) → Option ℕ

@@ -1,17 +1,14 @@
 -- Which connections are open.
-use Rattle.std.proofs.Common.{◌≡◌, ℕ, zero, suc, ◌<◌, ◌==◌, ◌&&◌, not, Bool, true, false, List, [], ◌∷◌, length, map, filter, get_or, position, Some, None, refl, ap, sym, ◌∙◌, arith}
-use Rattle.std.proofs.lemmas.Bool.{and_right, eqb-true, ne_eqb, or_parts}
+use Rattle.std.proofs.Common.{◌≡◌, ℕ, zero, suc, ◌<◌, ◌==◌, not, true, false, List, [], ◌∷◌, length, map, get_or, position, Some, None, refl, arith}
+use Rattle.std.proofs.lemmas.Bool.{eqb-true, ne_eqb}
 use Rattle.std.proofs.lemmas.Bool.Decides.{nat_tests}
-use Rattle.iscsi_history.proofs.BoolLemmas.{and_true, or_false}
 use Rattle.std.proofs.lemmas.List.{get_or-map}
 use Rattle.std.proofs.lemmas.List.Quantifiers.{position-Some}
-use Rattle.std.specs.Prelude.{is_some}
 use Rattle.std.specs.List.{list_any}
-use Rattle.iscsi_history.proofs.ListLemmas.{list_any-map, any_filter}
 use Rattle.iscsi_connections.specs.declared.connections.Connection.{Connection}
 use Rattle.iscsi_connections.specs.Connected.{is_among_open}
 use Rattle.iscsi_connections.specs.Placed.{cid_and_stat_sn, open_in, ArePlaced}
-use Rattle.iscsi_connections.proofs.PlaceLemmas.{has_cid, known_by_place}
+use Rattle.iscsi_connections.proofs.PlaceLemmas.{has_cid}
 use Rattle.iscsi_connections.proofs.ChangeLemmas.{within}
 
 none_with : (cid : ℕ) (list : List Connection) → ((j : ℕ) (d : Connection) → j < length list → ((get_or list j d).cid == cid) ≡ false) → is_among_open cid (open_in list) ≡ false

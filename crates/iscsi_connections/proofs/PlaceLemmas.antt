@@ -1,15 +1,12 @@
 -- A connection's place, and the table that tells it.
-use Rattle.std.proofs.Common.{◌≡◌, ℕ, zero, suc, ◌+◌, ◌<◌, ◌≤◌, ◌==◌, cond, Bool, true, false, List, [], ◌∷◌, length, map, get_or, position, Option, Some, None, refl, ap, sym, ◌∙◌, arith, ⊎_elim}
+use Rattle.std.proofs.Common.{◌≡◌, ℕ, zero, suc, ◌+◌, ◌<◌, ◌≤◌, ◌==◌, cond, Bool, true, false, List, [], ◌∷◌, length, map, get_or, position, Some, None, refl, ap, sym, arith}
 use Rattle.std.proofs.lemmas.Bool.Decides.{nat_tests}
-use Rattle.std.proofs.lemmas.Bool.{eq-eqb, eqb-true, ne_eqb, or_parts, lt-ltb, le-ltb, cases_lt}
+use Rattle.std.proofs.lemmas.Bool.{or_parts, lt-ltb}
 use Rattle.std.proofs.lemmas.List.{get_or-map, get_or_default, length-map}
 use Rattle.std.proofs.lemmas.List.Sums.{position_or_len_is}
-use Rattle.std.specs.List.{position_or_len, list_any}
-use Rattle.std.specs.Prelude.{IsSome, is_some}
-use Rattle.iscsi_history.proofs.ListLemmas.{IsSome-position}
+use Rattle.std.specs.List.{list_any}
+use Rattle.std.specs.Prelude.{is_some}
 use Rattle.iscsi_history.specs.rules.Settings.{is_known, are_distinct}
-use Rattle.iscsi_history.proofs.BoolLemmas.{and_parts, not_true}
-use Rattle.iscsi_history.proofs.ApartLemmas.{eq_sym}
 use Rattle.iscsi_connections.specs.declared.connections.Connection.{Connection}
 use Rattle.iscsi_connections.specs.Placed.{cid_and_stat_sn, TellsPlaces, ArePlaced}
 

@@ -1,5 +1,3 @@
-use Rattle.std.proofs.Common.{◌≡◌, length, arith}
-use Rattle.std.proofs.lemmas.Bool.Decides.{nat_tests}
 use Rattle.iscsi_connections.proofs.PlaceLemmas.{told_more}
 use Rattle.iscsi_connections.proofs.connections.places_of.Goals as goal
 

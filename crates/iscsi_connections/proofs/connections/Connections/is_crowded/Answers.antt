@@ -1,7 +1,5 @@
-use Rattle.std.proofs.Common.{◌∙◌, map, nat_le, ap, sym, arith}
+use Rattle.std.proofs.Common.{◌∙◌, nat_le, ap, sym, arith}
 use Rattle.std.proofs.lemmas.Bool.Decides.{nat_tests}
-use Rattle.iscsi_connections.specs.declared.connections.Connection.{Connection}
-use Rattle.iscsi_connections.specs.Placed.{cid_and_stat_sn}
 use Rattle.iscsi_connections.proofs.CountLemmas.{uncounted}
 use Rattle.iscsi_connections.proofs.ChangeLemmas.{count_is}
 use Rattle.iscsi_connections.proofs.connections.Connections.is_crowded.Goals as goal
