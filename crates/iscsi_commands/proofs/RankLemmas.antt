@@ -1,9 +1,8 @@
 -- Where the live commands stand once they have closed up.
-use Rattle.std.proofs.Common.{◌≡◌, ◌≢◌, ℕ, zero, suc, ◌+◌, ◌<◌, ◌≤◌, cond, Bool, true, false, List, [], ◌∷◌, length, map, filter, get_or, set, take, refl, ap, sym, subst, ◌∙◌, arith, ⊎_elim}
-use Rattle.std.proofs.lemmas.Bool.{cases_Bool, cases_lt, cases_eq, false≢true}
+use Rattle.std.proofs.Common.{◌≡◌, ◌≢◌, ℕ, zero, suc, ◌+◌, ◌<◌, ◌≤◌, Bool, List, [], ◌∷◌, length, map, filter, get_or, set, refl, ap, ◌∙◌, arith, ⊎_elim}
+use Rattle.std.proofs.lemmas.Bool.{cases_Bool, false≢true}
 use Rattle.std.proofs.lemmas.List.{get_or-map, get_or-set_same, get_or-set_other, length-map, length-set}
 use Rattle.iscsi_slots.specs.Places.{AreAscending}
-use Rattle.iscsi_slots.specs.Slots.{times}
 use Rattle.iscsi_slots.proofs.SlotLemmas.{stands, times_at}
 use Rattle.iscsi_commands.specs.declared.entry.Entry.{Entry}
 use Rattle.iscsi_commands.specs.Log.{NOTHING, entry_at, tag_at, IsLiveAt, ended, group_of, live_in, rank, AreMarked, AreTagged}

@@ -1,16 +1,15 @@
 -- The places of the live commands in the log by tag.
-use Rattle.std.proofs.Common.{◌≡◌, ◌≢◌, ℕ, ◌+◌, ◌<◌, ◌≤◌, Bool, true, false, cond, List, [], ◌∷◌, length, get_or, set, take, refl, ap, sym, subst, ◌∙◌, arith, ⊎_elim, inl, inr, ◌⊎◌, ne_eqb}
+use Rattle.std.proofs.Common.{◌≡◌, ◌≢◌, ℕ, ◌+◌, ◌<◌, ◌≤◌, Bool, true, false, List, [], length, get_or, set, take, refl, ◌∙◌, arith}
 use Rattle.std.specs.List.{remove, insert}
-use Rattle.std.proofs.lemmas.Bool.{cases_lt, cases_eq, false≢true}
 use Rattle.std.proofs.lemmas.Bool.Decides.{nat_tests}
 use Rattle.std.proofs.lemmas.List.{get_or-take, get_or_default, length-take, length-set, get_or-set_same, get_or-set_other}
 use Rattle.std.proofs.lemmas.List.Edits.{length-remove, get_or-remove_below, get_or-remove_above}
 use Rattle.iscsi_slots.specs.Places.{AreAscending}
 use Rattle.iscsi_slots.specs.Slots.{times}
 use Rattle.iscsi_slots.proofs.SlotLemmas.{stands, times_at, times_remove, times_insert}
-use Rattle.iscsi_slots.proofs.SortedLemmas.{same_place, removed_up, inserted_up}
+use Rattle.iscsi_slots.proofs.SortedLemmas.{removed_up, inserted_up}
 use Rattle.iscsi_commands.specs.declared.entry.Entry.{Entry}
-use Rattle.iscsi_commands.specs.Log.{NOTHING, entry_at, tag_at, IsLiveAt, ended, group_of, AreMarked, AreTagged}
+use Rattle.iscsi_commands.specs.Log.{NOTHING, entry_at, tag_at, IsLiveAt, ended, group_of, AreTagged}
 use Rattle.iscsi_commands.proofs.LogLemmas.{live_within, group_below}
 
 -- ---- keys that are the same at each element

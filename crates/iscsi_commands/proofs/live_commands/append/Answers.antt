@@ -1,7 +1,5 @@
-use Rattle.std.proofs.Common.{true, ◌≡◌, ◌≢◌, ◌++◌, [], ◌∷◌, ℕ, List, length, take, sym, subst, ◌∙◌, rules, arith}
+use Rattle.std.proofs.Common.{arith}
 use Rattle.std.proofs.lemmas.Bool.Decides.{nat_tests}
-use Rattle.iscsi_commands.specs.declared.entry.Entry.{Entry}
-use Rattle.iscsi_commands.specs.Log.{IsLiveAt, tag_at}
 use Rattle.iscsi_commands.proofs.LogLemmas.{unused_pushed}
 use Rattle.iscsi_commands.proofs.live_commands.append.Goals as goal
 

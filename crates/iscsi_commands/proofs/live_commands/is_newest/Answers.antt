@@ -1,7 +1,6 @@
-use Rattle.std.proofs.Common.{◌-◌, length, ap, arith}
+use Rattle.std.proofs.Common.{arith}
 use Rattle.std.proofs.lemmas.Bool.{ltb-true, lt-ltb}
 use Rattle.std.proofs.lemmas.Bool.Decides.{nat_tests}
-use Rattle.iscsi_commands.specs.Log.{NOTHING, ticket_of}
 use Rattle.iscsi_commands.proofs.LogLemmas.{newest}
 use Rattle.iscsi_commands.proofs.live_commands.is_newest.Goals as goal
 

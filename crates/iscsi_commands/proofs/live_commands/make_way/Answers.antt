@@ -1,8 +1,8 @@
-use Rattle.std.proofs.Common.{◌<◌, ap, sym, subst, ◌∙◌, arith, All}
+use Rattle.std.proofs.Common.{ap, sym, subst, ◌∙◌, arith}
 use Rattle.std.proofs.lemmas.Bool.Decides.{nat_tests}
 use Rattle.iscsi_slots.specs.Places.{AreAscending}
 use Rattle.iscsi_commands.specs.Log.{live_in, ticket_of}
-use Rattle.iscsi_commands.proofs.LogLemmas.{live_again, kept_up, kept_newest, live_fewer}
+use Rattle.iscsi_commands.proofs.LogLemmas.{live_again, kept_up, kept_newest}
 use Rattle.iscsi_commands.proofs.live_commands.make_way.Goals as goal
 
 pub close_up-requires-clause-tagged : goal.close_up-requires-clause-tagged

@@ -1,5 +1,4 @@
-use Rattle.std.proofs.Common.{sym, ◌∙◌}
-use Rattle.iscsi_commands.proofs.LogLemmas.{same_ticket, ticket_at}
+use Rattle.iscsi_commands.proofs.LogLemmas.{ticket_at}
 use Rattle.iscsi_commands.proofs.live_commands.place_in.Goals as goal
 
 pub returns : goal.returns

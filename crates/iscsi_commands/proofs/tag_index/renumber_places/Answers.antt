@@ -1,6 +1,5 @@
-use Rattle.std.proofs.Common.{◌≡◌, ◌+◌, get_or, ap, sym, subst, ◌∙◌, arith}
+use Rattle.std.proofs.Common.{◌≡◌, ◌+◌, get_or, ap, sym, subst, ◌∙◌}
 use Rattle.iscsi_commands.specs.Log.{group_of, tag_at}
-use Rattle.iscsi_commands.proofs.LogLemmas.{group_below}
 use Rattle.iscsi_commands.proofs.RankLemmas.{AreRenumbered, renumbered_here, renumbered_past}
 use Rattle.iscsi_commands.proofs.tag_index.renumber_places.Goals as goal
 use Rattle.iscsi_commands.proofs.tag_index.renumber_places.Goals.{then-from-k, else-from-k}

@@ -1,10 +1,6 @@
-use Rattle.std.proofs.Common.{◌≡◌, ◌≢◌, ℕ, List, Some, ap, sym, subst, ◌∙◌, option_map, arith}
+use Rattle.std.proofs.Common.{arith}
 use Rattle.std.proofs.lemmas.Bool.Decides.{nat_tests}
-use Rattle.iscsi_commands.specs.declared.entry.Entry.{Entry}
-use Rattle.iscsi_commands.specs.declared.live.Placed.{Placed}
-use Rattle.iscsi_commands.specs.Commands.{AreAscending, find_ticket}
-use Rattle.iscsi_commands.specs.Log.{IsLiveAt, entry_at, ticket_of}
-use Rattle.iscsi_commands.proofs.LogLemmas.{tickets_up, found_ticket, no_ticket}
+use Rattle.iscsi_commands.proofs.LogLemmas.{found_ticket, no_ticket}
 use Rattle.iscsi_commands.proofs.live_commands.LiveCommands.find_placed.Goals as goal
 
 pub returns-in_err-at-clause-command : goal.returns-in_err-at-clause-command

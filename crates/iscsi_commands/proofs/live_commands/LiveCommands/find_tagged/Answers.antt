@@ -1,8 +1,5 @@
-use Rattle.std.proofs.Common.{◌≡◌, ◌≢◌, ℕ, List, Some, ap, sym, subst, ◌∙◌, arith}
+use Rattle.std.proofs.Common.{arith}
 use Rattle.std.proofs.lemmas.Bool.Decides.{nat_tests}
-use Rattle.iscsi_commands.specs.declared.entry.Entry.{Entry}
-use Rattle.iscsi_commands.specs.Commands.{find_tag}
-use Rattle.iscsi_commands.specs.Log.{IsLiveAt, entry_at, tag_at}
 use Rattle.iscsi_commands.proofs.LogLemmas.{found_tag, no_tag}
 use Rattle.iscsi_commands.proofs.live_commands.LiveCommands.find_tagged.Goals as goal
 

@@ -1,9 +1,7 @@
-use Rattle.std.proofs.Common.{◌≡◌, ◌≢◌, ◌-◌, ℕ, List, length, set, vec_capacity, ap, sym, subst, ◌∙◌, arith}
+use Rattle.std.proofs.Common.{◌≡◌, ◌-◌, List, length, set, vec_capacity, sym, subst, arith}
 use Rattle.std.proofs.lemmas.Bool.Decides.{nat_tests}
-use Rattle.iscsi_slots.specs.Queued.{queued}
 use Rattle.iscsi_commands.specs.declared.entry.Entry.{Entry}
-use Rattle.iscsi_commands.specs.Commands.{without_ticket}
-use Rattle.iscsi_commands.specs.Log.{AreTagged, AreLogged, IsLiveAt, ended, entry_at, live_in, ticket_of}
+use Rattle.iscsi_commands.specs.Log.{AreTagged, AreLogged, IsLiveAt, ended, entry_at, ticket_of}
 use Rattle.iscsi_commands.proofs.LogLemmas.{one_fewer, ticket_leaves, no_ticket_leaves, logged_without}
 use Rattle.iscsi_commands.proofs.live_commands.LiveCommands.remove.Goals as goal
 

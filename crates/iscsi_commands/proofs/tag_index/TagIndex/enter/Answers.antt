@@ -4,7 +4,6 @@ use Rattle.std.proofs.lemmas.List.{get_or_read}
 use Rattle.iscsi_slots.specs.Queued.{Queued}
 use Rattle.iscsi_slots.proofs.SlotLemmas.{times_at}
 use Rattle.iscsi_commands.specs.Log.{AreTagged, tag_at, group_of, IsLiveAt}
-use Rattle.iscsi_commands.proofs.LogLemmas.{group_below}
 use Rattle.iscsi_commands.proofs.TagIndexLemmas.{place_below, entered_first, entered_other, other_before, sorted_before}
 use Rattle.iscsi_commands.proofs.tag_index.TagIndex.enter.Goals as goal
 

@@ -1,10 +1,9 @@
-use Rattle.std.proofs.Common.{◌≡◌, ◌<◌, false, length, get_or, ap, sym, subst, ◌∙◌, arith}
+use Rattle.std.proofs.Common.{◌≡◌, ◌<◌, length, get_or, ap, sym, subst, ◌∙◌, arith}
 use Rattle.std.proofs.lemmas.Bool.{false≢true}
 use Rattle.std.proofs.lemmas.List.{get_or_read}
 use Rattle.std.proofs.lemmas.Bool.Decides.{nat_tests}
 use Rattle.iscsi_commands.specs.Log.{tag_at, group_of, IsLiveAt}
-use Rattle.iscsi_commands.proofs.LogLemmas.{group_below}
-use Rattle.iscsi_commands.proofs.TagIndexLemmas.{place_below, other_live, other_within, no_tagged, unmarked_tag}
+use Rattle.iscsi_commands.proofs.TagIndexLemmas.{place_below, other_live, other_within, no_tagged}
 use Rattle.iscsi_commands.proofs.tag_index.TagIndex.find.Goals as goal
 
 pub count_below-place-requires-clause-within : goal.count_below-place-requires-clause-within

@@ -1,10 +1,9 @@
-use Rattle.std.proofs.Common.{◌≡◌, ◌<◌, ℕ, false, length, get_or, set, ap, sym, subst, ◌∙◌, arith, ⊎_elim}
+use Rattle.std.proofs.Common.{◌≡◌, ap, sym, ◌∙◌, arith, ⊎_elim}
 use Rattle.std.proofs.lemmas.Bool.{cases_lt}
 use Rattle.std.proofs.lemmas.List.{get_or_read}
 use Rattle.std.proofs.lemmas.Bool.Decides.{nat_tests}
-use Rattle.iscsi_slots.specs.Queued.{Queued}
 use Rattle.iscsi_slots.specs.Slots.{times}
-use Rattle.iscsi_commands.specs.Log.{AreTagged, ended, group_of, tag_at, entry_at}
+use Rattle.iscsi_commands.specs.Log.{tag_at}
 use Rattle.iscsi_commands.proofs.LogLemmas.{group_below}
 use Rattle.iscsi_commands.proofs.TagIndexLemmas.{other_within, other_at, left_first, left_other, not_other}
 use Rattle.iscsi_commands.proofs.tag_index.TagIndex.leave.Goals as goal

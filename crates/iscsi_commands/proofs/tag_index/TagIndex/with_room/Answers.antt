@@ -1,7 +1,5 @@
-use Rattle.std.proofs.Common.{◌≡◌, ℕ, [], length, subst, sym, rules, arith}
+use Rattle.std.proofs.Common.{arith}
 use Rattle.std.proofs.lemmas.Bool.Decides.{nat_tests}
-use Rattle.iscsi_slots.specs.Queued.{Queued}
-use Rattle.iscsi_commands.specs.Log.{AreTagged}
 use Rattle.iscsi_commands.proofs.TagIndexLemmas.{none_tagged}
 use Rattle.iscsi_commands.proofs.tag_index.TagIndex.with_room.Goals as goal
 
