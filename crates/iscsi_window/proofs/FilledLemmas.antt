@@ -1,5 +1,5 @@
 -- The bits of the slots stay right where a place is written, and where the first one turns; a search by them.
-use Rattle.std.proofs.Common.{◌^◌, w64, min, ◌≡◌, ◌≢◌, ◌∙◌, ℕ, suc, ◌+◌, ◌-◌, ◌*◌, ◌/◌, ◌%◌, ◌<◌, ◌≤◌, ◌==◌, ◌++◌, true, false, List, [], ◌∷◌, length, take, drop, replicate, set, get_or, Option, Some, None, arith, ap, sym, refl, ⊎_elim, get_or-set_same, get_or-set_other, eq-eqb}
+use Rattle.std.proofs.Common.{◌^◌, w64, min, ◌≡◌, ◌≢◌, ◌∙◌, ℕ, suc, ◌+◌, ◌-◌, ◌*◌, ◌/◌, ◌%◌, ◌<◌, ◌≤◌, ◌==◌, ◌++◌, false, List, [], ◌∷◌, length, take, drop, replicate, set, get_or, Option, Some, None, arith, ap, sym, ⊎_elim, get_or-set_same, get_or-set_other, eq-eqb}
 use Rattle.std.specs.Prelude.{bit_and, bit_or}
 use Rattle.std.specs.Int.{bit_at, bit_not}
 use Rattle.std.specs.List.{list_any}

@@ -1,14 +1,13 @@
 -- What a window stands for, after each change.
-use Rattle.std.proofs.Common.{◌≡◌, ◌≢◌, ℕ, zero, suc, ◌+◌, ◌-◌, ◌<◌, ◌≤◌, ◌==◌, ◌||◌, ⊎_elim, cond, true, false, List, [], ◌∷◌, ◌++◌, length, drop, get_or, set, replicate, Option, Some, None, is_some, refl, ap, sym, ◌∙◌, arith, eq-eqb, length-set, length-drop}
-use Rattle.std.proofs.lemmas.Bool.{cases_lt, cases_eq}
+use Rattle.std.proofs.Common.{◌≡◌, ℕ, suc, ◌+◌, ◌-◌, ◌<◌, ◌≤◌, true, false, List, [], ◌∷◌, ◌++◌, length, drop, Some, None, is_some, ap, arith, length-set, length-drop}
 use Rattle.std.proofs.lemmas.Bool.Decides.{nat_tests}
-use Rattle.std.proofs.lemmas.List.{get_or_past, length-replicate, length_push, get_or_append_left, get_or-drop, get_or-set_same, get_or-set_other, get_or-replicate}
+use Rattle.std.proofs.lemmas.List.{get_or_past, length-replicate, length_push, get_or-set_same, get_or-set_other, get_or-replicate}
 use Rattle.iscsi_wire.specs.declared.request.Request.{Request}
-use Rattle.iscsi_wire.specs.Serial.{wire, number_of_first}
+use Rattle.iscsi_wire.specs.Serial.{wire}
 use Rattle.iscsi_wire.specs.Fields.{cmd_sn}
 use Rattle.iscsi_window.specs.Received.{Received, number_expected, room_of, at_place, HasRoom}
 use Rattle.iscsi_window.specs.Windows.{opened, with_place, with_unfinished}
-use Rattle.iscsi_window.specs.History.{Change, Admitted, Voided, Emptied, Turned, Started, Finished, is_received, held, has_turned, turned, unfinished, place_of, StandsFor}
+use Rattle.iscsi_window.specs.History.{Change, Admitted, Voided, Emptied, Turned, Started, Finished, is_received, held, place_of, StandsFor}
 use Rattle.iscsi_window.proofs.PlaceLemmas.{passed}
 
 -- ---- what is held

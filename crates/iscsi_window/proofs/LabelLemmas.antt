@@ -1,5 +1,5 @@
 -- The tags beside the places stay right where a place is written, and where the first one turns; a search by them.
-use Rattle.std.proofs.Common.{◌⊎◌, inl, inr, ◌^◌, min, ◌≡◌, ◌≢◌, ◌∙◌, ℕ, suc, ◌+◌, ◌-◌, ◌%◌, ◌<◌, ◌≤◌, ◌++◌, Bool, true, false, List, [], ◌∷◌, length, take, drop, replicate, set, get_or, position, is_some, Option, Some, None, arith, ap, sym, refl, ⊎_elim, length-set, get_or-set_same, get_or-set_other}
+use Rattle.std.proofs.Common.{◌⊎◌, inl, inr, ◌^◌, min, ◌≡◌, ◌≢◌, ℕ, ◌+◌, ◌-◌, ◌%◌, ◌<◌, ◌≤◌, ◌++◌, Bool, true, false, List, [], ◌∷◌, length, take, drop, replicate, set, get_or, position, is_some, Option, Some, None, arith, ⊎_elim, length-set, get_or-set_same, get_or-set_other}
 use Rattle.std.proofs.lemmas.Bool.{cases_eq, cases_lt}
 use Rattle.std.proofs.lemmas.List.{get_or_past, length-replicate}
 use Rattle.std.proofs.lemmas.Bool.Decides.{nat_tests}

@@ -1,16 +1,15 @@
 -- The first place that passes has the lowest number that fits.
-use Rattle.std.proofs.Common.{◌≡◌, ℕ, ◌+◌, ◌-◌, ◌<◌, ◌≤◌, ⊎_elim, cond, Bool, true, false, List, length, take, get_or, position, Option, Some, None, option_map, nat_lt, refl, ap, sym, subst, ◌∙◌, arith}
-use Rattle.std.proofs.lemmas.Bool.{cases_lt}
+use Rattle.std.proofs.Common.{◌≡◌, ℕ, ◌+◌, ◌-◌, ◌<◌, cond, Bool, false, List, take, get_or, position, Option, Some, None, option_map, nat_lt, refl, sym, subst, ◌∙◌, arith}
 use Rattle.std.proofs.lemmas.Bool.Decides.{nat_tests}
 use Rattle.std.proofs.lemmas.List.{get_or_past, get_or-take, length-take}
 use Rattle.std.proofs.lemmas.List.Quantifiers.{position-Some}
 use Rattle.std.proofs.lemmas.List.Sums.{fails_before_first}
 use Rattle.iscsi_wire.specs.declared.request.Request.{Request}
 use Rattle.iscsi_wire.specs.Serial.{wire, lift}
-use Rattle.iscsi_window.specs.Received.{Received, number_expected, at_place}
+use Rattle.iscsi_window.specs.Received.{Received, number_expected}
 use Rattle.iscsi_window.specs.Windows.{is_command, is_held_from, number_shown, find_command, first_from, dropped_at}
-use Rattle.iscsi_window.specs.History.{Change, is_received, held, StandsFor, number_of, after_emptying, is_command_below, is_held_at, IsLowest, ShowsLowest, TookLowest}
-use Rattle.iscsi_window.proofs.HistoryLemmas.{unheld_below, place_shows, StandsFor-emptied}
+use Rattle.iscsi_window.specs.History.{Change, StandsFor, number_of, after_emptying, is_command_below, is_held_at, IsLowest, ShowsLowest, TookLowest}
+use Rattle.iscsi_window.proofs.HistoryLemmas.{unheld_below, place_shows}
 use Rattle.iscsi_window.proofs.SinceLemmas.{expected_is, test_held, held_from_here, StandsFor-take}
 
 -- no place passes

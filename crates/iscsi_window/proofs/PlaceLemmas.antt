@@ -1,5 +1,5 @@
 -- Places that are read and written, also beyond the last one.
-use Rattle.std.proofs.Common.{◌++◌, Bool, cond, count_by, drop, replicate, is_some, false, ◌≡◌, ℕ, zero, suc, List, [], ◌∷◌, get_or, set, slice_get, Option, Some, None, ap, sym, refl, arith}
+use Rattle.std.proofs.Common.{◌++◌, Bool, cond, count_by, drop, replicate, is_some, false, ◌≡◌, ℕ, zero, suc, List, [], ◌∷◌, get_or, set, slice_get, Option, Some, None, ap, refl, arith}
 use Rattle.std.specs.Option.{option_flatten}
 use Rattle.std.proofs.lemmas.Bool.Decides.{nat_tests}
 use Rattle.std.proofs.lemmas.List.{get_or_past, get_or-replicate, length-replicate, set_past, get_or_append_left, get_or_push, length_push}

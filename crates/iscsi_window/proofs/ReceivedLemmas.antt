@@ -1,5 +1,5 @@
 -- How many places are received, and how many hold a request, where one is written and where the first one turns.
-use Rattle.std.proofs.Common.{◌≡◌, ℕ, zero, suc, ◌+◌, ◌-◌, ◌<◌, ◌≤◌, ◌++◌, cond, Bool, true, false, is_some, List, [], ◌∷◌, length, drop, replicate, set, get_or, count_by, Option, Some, None, arith, ap, refl}
+use Rattle.std.proofs.Common.{◌≡◌, ℕ, ◌+◌, ◌-◌, ◌<◌, ◌≤◌, ◌++◌, cond, Bool, true, false, is_some, List, [], ◌∷◌, length, drop, set, get_or, count_by, Option, None, arith, refl}
 use Rattle.std.proofs.lemmas.List.Sums.{sum_by-set, sum_by-cons, sum_by_push, get_or-le-sum_by}
 use Rattle.std.proofs.lemmas.Bool.Decides.{nat_tests}
 use Rattle.iscsi_window.specs.declared.held_request.HeldRequest.{HeldRequest}

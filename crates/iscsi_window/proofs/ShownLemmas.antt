@@ -1,5 +1,5 @@
 -- What a window shows without its events: of each query the same, and after each change what that change makes of it.
-use Rattle.std.proofs.Common.{◌≡◌, ◌∙◌, ℕ, zero, suc, ◌-◌, arith, Bool, [], List, ◌∷◌, length, map, take, replicate, position, Option, Some, None, is_some, option_map, ap, sym, refl}
+use Rattle.std.proofs.Common.{◌≡◌, ◌∙◌, ℕ, zero, suc, ◌-◌, arith, Bool, [], List, ◌∷◌, map, take, replicate, position, Option, Some, None, is_some, option_map, ap, sym, refl}
 use Rattle.std.specs.List.{position_or_len}
 use Rattle.std.proofs.Math.ListN.{get_or-map}
 use Rattle.std.proofs.lemmas.List.{length-map, map-append, map-set, drop-map, take-map}
@@ -10,7 +10,7 @@ use Rattle.iscsi_wire.specs.declared.request.Request.{Request}
 use Rattle.iscsi_window.specs.declared.answer.Place.{Place}
 use Rattle.iscsi_window.specs.declared.held_request.HeldRequest.{HeldRequest}
 use Rattle.iscsi_window.specs.Received.{Arrived, number_expected, at_place, IsSound, HasRoom}
-use Rattle.iscsi_window.specs.Windows.{opened, place_at, place_in, with_place, held_at, is_received_at, received_at, offer_at, offer_to, offered_to, voided, is_command, is_held_from, find_command, emptied_if, emptied, first_from, dropped_at, taken_at, turned_by, turned_on, advanced_if, advanced, is_next_at, is_next, request_at, shown, holds_from, find_held, offered_in, taken_from}
+use Rattle.iscsi_window.specs.Windows.{opened, place_at, place_in, with_place, held_at, is_received_at, received_at, offer_to, offered_to, voided, is_command, is_held_from, find_command, emptied, first_from, dropped_at, taken_at, turned_by, turned_on, advanced, is_next, request_at, shown, holds_from, find_held, offered_in, taken_from}
 
 -- ---- places
 

@@ -1,18 +1,16 @@
 -- What each call answers and becomes, by the history.
-use Rattle.std.proofs.Common.{◌≡◌, ◌⊎◌, inl, inr, ℕ, ◌+◌, ◌-◌, ◌<◌, ◌≤◌, ◌&&◌, not, ⊎_elim, cond, Bool, true, false, List, ◌∷◌, length, Option, Some, None, is_some, option_map, nat_lt, nat_le, get_or-set_same, refl, ap, sym, subst, ◌∙◌, arith}
+use Rattle.std.proofs.Common.{◌≡◌, ℕ, ◌+◌, ◌-◌, ◌<◌, not, cond, Bool, true, false, List, ◌∷◌, length, Option, Some, None, option_map, get_or-set_same, refl, ap, ◌∙◌, arith}
 use Rattle.std.specs.Option.{option_flatten}
-use Rattle.std.proofs.lemmas.Bool.{cases_lt, false≢true}
 use Rattle.std.proofs.lemmas.Bool.Decides.{nat_tests}
 use Rattle.iscsi_wire.specs.declared.request.Request.{Request}
 use Rattle.iscsi_wire.specs.Serial.{wire, lift, number_of_first}
 use Rattle.iscsi_wire.specs.Fields.{cmd_sn}
-use Rattle.iscsi_window.specs.declared.answer.Place.TheVariants.{Inside, Outside}
 use Rattle.iscsi_window.specs.declared.answer.Offer.{Offer}
-use Rattle.iscsi_window.specs.declared.answer.Offer.TheVariants.{Held, Duplicate}
+use Rattle.iscsi_window.specs.declared.answer.Offer.TheVariants.{Held}
 use Rattle.iscsi_window.specs.declared.answer.Turned.{Turned as Turn}
 use Rattle.iscsi_window.specs.Received.{Received, number_expected, room_of, at_place, IsSound}
-use Rattle.iscsi_window.specs.Windows.{place_in, IsInside, with_place, held_at, is_received_at, received_at, offer_at, offer_to, offered_to, voided, is_held_from, number_shown, emptied, emptied_if, taken_at, turned_by, advanced, advanced_if, is_next_at, is_next}
-use Rattle.iscsi_window.specs.History.{Change, Admitted, Voided, Emptied, Turned, is_received, held, expected, place_of, StandsFor, number_of, after_offer, after_voiding, after_taking, after_emptying, after_turning, offer_since, is_next_since, turn_since, is_held_at, held_number, Law}
+use Rattle.iscsi_window.specs.Windows.{place_in, IsInside, held_at, is_received_at, offer_to, offered_to, voided, is_held_from, number_shown, emptied, taken_at, turned_by, advanced, is_next}
+use Rattle.iscsi_window.specs.History.{Change, Admitted, Turned, is_received, held, expected, place_of, StandsFor, number_of, after_offer, after_voiding, after_taking, after_emptying, after_turning, offer_since, is_next_since, turn_since, is_held_at, held_number, Law}
 use Rattle.iscsi_window.proofs.HistoryLemmas.{received_of_held, unheld, unheld_below, is_some-place_of, place_shows, StandsFor-admitted, StandsFor-voided, StandsFor-emptied, StandsFor-turned}
 
 -- ExpCmdSN, as the history has it

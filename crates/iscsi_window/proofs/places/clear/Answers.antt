@@ -1,7 +1,5 @@
 use Rattle.std.proofs.Common.{◌≡◌, arith, ◌∙◌, ap, sym, is_some, Some, None}
 use Rattle.iscsi_window.specs.Received.{is_held}
-use Rattle.iscsi_window.specs.PlaceTags.{Placed}
-use Rattle.std.specs.List.{slice_get}
 use Rattle.std.specs.Option.{option_copied_mut}
 use Rattle.iscsi_window.proofs.PlaceLemmas.{past_from_slice_get}
 use Rattle.iscsi_window.proofs.TagLemmas.{read_held, put_counted}

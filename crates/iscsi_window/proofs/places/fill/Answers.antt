@@ -5,7 +5,7 @@ use Rattle.std.proofs.lemmas.Option.{slice_get_within, get_or_from_slice_get}
 use Rattle.std.proofs.lemmas.Bool.Decides.{nat_tests}
 use Rattle.iscsi_window.specs.PlaceTags.{Placed}
 use Rattle.iscsi_window.proofs.PlaceLemmas.{set_same, none_there}
-use Rattle.iscsi_window.proofs.TagLemmas.{is_few, raised_counted}
+use Rattle.iscsi_window.proofs.TagLemmas.{raised_counted}
 use Rattle.iscsi_window.proofs.BoundLemmas.{bounds_filled}
 use Rattle.iscsi_window.proofs.ReceivedLemmas.{one, count_set}
 use Rattle.iscsi_window.proofs.LabelLemmas.{labels_put}

@@ -1,7 +1,5 @@
-use Rattle.std.proofs.Common.{◌∙◌, ap, sym, None, get_or, arith}
-use Rattle.std.specs.Option.{option_copied, option_flatten}
+use Rattle.std.proofs.Common.{arith}
 use Rattle.std.proofs.lemmas.Bool.Decides.{nat_tests}
-use Rattle.iscsi_window.specs.Windows.{holds_command}
 use Rattle.iscsi_window.proofs.PlaceLemmas.{option_flatten-slice_get}
 use Rattle.iscsi_window.proofs.places.holds_command_at.Goals as goal
 

@@ -1,6 +1,6 @@
-use Rattle.std.proofs.Common.{◌≡◌, ◌∙◌, [], ◌∷◌, ◌++◌, ◌<◌, length, drop, count_by, is_some, None, ap, sym, subst, arith, ◌+◌}
+use Rattle.std.proofs.Common.{◌≡◌, ◌<◌, length, count_by, is_some, sym, subst, arith, ◌+◌}
 use Rattle.std.proofs.lemmas.Bool.Decides.{nat_tests}
-use Rattle.iscsi_window.specs.PlaceTags.{Placed, AreLabelled}
+use Rattle.iscsi_window.specs.PlaceTags.{AreLabelled}
 use Rattle.iscsi_window.specs.FilledSlots.{AreFilled}
 use Rattle.iscsi_window.proofs.ReceivedLemmas.{turned_sound, passed_sound, turns_into_itself}
 use Rattle.iscsi_window.proofs.FilledLemmas.{filled_turned, filled_passed}

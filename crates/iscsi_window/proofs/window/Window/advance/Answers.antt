@@ -1,8 +1,7 @@
-use Rattle.std.proofs.Common.{◌∙◌, ap, sym, subst, OnSome}
-use Rattle.iscsi_window.specs.Received.{HasRoom}
+use Rattle.std.proofs.Common.{◌∙◌, ap, sym}
 use Rattle.iscsi_window.specs.Windows.{shown}
-use Rattle.iscsi_window.proofs.SinceLemmas.{turned_since, StandsFor-advance}
-use Rattle.iscsi_window.proofs.ShownLemmas.{turn_shown, none_shown, advanced_shown, room_shown}
+use Rattle.iscsi_window.proofs.SinceLemmas.{StandsFor-advance}
+use Rattle.iscsi_window.proofs.ShownLemmas.{turn_shown, advanced_shown}
 use Rattle.iscsi_window.proofs.window.Window.advance.Goals as goal
 
 pub returns-clause-answer : goal.returns-clause-answer

@@ -1,7 +1,7 @@
-use Rattle.std.proofs.Common.{◌∙◌, ap, cond, Some, None}
-use Rattle.iscsi_window.specs.Windows.{shown, number_shown}
-use Rattle.iscsi_window.proofs.SinceLemmas.{taken_since, StandsFor-take}
-use Rattle.iscsi_window.proofs.ShownLemmas.{from_shown, taken_shown}
+use Rattle.std.proofs.Common.{◌∙◌, ap}
+use Rattle.iscsi_window.specs.Windows.{shown}
+use Rattle.iscsi_window.proofs.SinceLemmas.{StandsFor-take}
+use Rattle.iscsi_window.proofs.ShownLemmas.{taken_shown}
 use Rattle.iscsi_window.proofs.window.Window.drop_at.Goals as goal
 
 pub returns-clause-state : goal.returns-clause-state

@@ -1,7 +1,7 @@
 use Rattle.std.proofs.Common.{◌∙◌, ap}
 use Rattle.iscsi_window.specs.Windows.{shown}
 use Rattle.iscsi_window.proofs.SinceLemmas.{StandsFor-pass}
-use Rattle.iscsi_window.proofs.ShownLemmas.{next_shown, passed_shown, room_shown}
+use Rattle.iscsi_window.proofs.ShownLemmas.{passed_shown}
 use Rattle.iscsi_window.proofs.window.Window.pass.Goals as goal
 
 pub returns-clause-state : goal.returns-clause-state
