@@ -1,5 +1,5 @@
 -- Each item fits in where it stands.
-use Rattle.std.proofs.Common.{◌≡◌, ℕ, ◌<◌, ◌≤◌, ◌==◌, ◌&&◌, not, Bool, true, false, List, [], ◌∷◌, filter, Some, None, ap, sym, subst, ◌∙◌, arith}
+use Rattle.std.proofs.Common.{◌≡◌, ℕ, ◌<◌, ◌≤◌, ◌==◌, ◌&&◌, not, Bool, true, false, List, [], ◌∷◌, filter, Some, None, sym, subst, ◌∙◌, arith}
 use Rattle.std.specs.List.{list_any, filter_map}
 use Rattle.std.proofs.lemmas.Bool.{false≢true, eqb-true, false_from_ne_true}
 use Rattle.std.proofs.lemmas.Bool.Decides.{nat_tests}
@@ -14,7 +14,7 @@ use Rattle.iscsi_history.proofs.BoolLemmas.{or_first, and_parts, and_both}
 use Rattle.iscsi_history.proofs.ListLemmas.{any_filter}
 use Rattle.iscsi_history.proofs.TraceLemmas.{unadmitted, filter-same, filter-true}
 use Rattle.iscsi_history.proofs.AbortLemmas.{Fits}
-use Rattle.iscsi_history.proofs.Forms.{Start, AtTurn, start_mark, Deeds, marks_done, Form, Executed, marks_of_form, begun, is_completed_by, Sweeps, IsFormed}
+use Rattle.iscsi_history.proofs.Forms.{Start, start_mark, Deeds, marks_done, Form, Executed, marks_of_form, begun, is_completed_by, Sweeps, IsFormed}
 use Rattle.iscsi_history.proofs.FormItems.{live-begun}
 use Rattle.iscsi_history.proofs.FormRuns.{StandsAt, Stands, AnyArrival}
 use Rattle.iscsi_history.proofs.DeedLemmas.{none_done}

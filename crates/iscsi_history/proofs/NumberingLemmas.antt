@@ -1,5 +1,5 @@
 -- The StatSNs of each connection count its replies.
-use Rattle.std.proofs.Common.{◌≡◌, ℕ, ◌+◌, ◌==◌, cond, true, false, List, [], ◌∷◌, ◌++◌, map, length, count_by, Option, Some, None, option_map, refl, ap, sym, ◌∙◌, arith}
+use Rattle.std.proofs.Common.{◌≡◌, ℕ, ◌+◌, ◌==◌, cond, List, [], ◌∷◌, ◌++◌, map, length, count_by, Option, Some, None, option_map, refl, ap, sym, ◌∙◌, arith}
 use Rattle.std.specs.List.{filter_map, flat_map, range_with_len, cons_option}
 use Rattle.std.proofs.lemmas.Bool.{eqb-true}
 use Rattle.std.proofs.lemmas.List.{append-nil}
@@ -15,7 +15,7 @@ use Rattle.iscsi_history.specs.declared.event.Event.{Event}
 use Rattle.iscsi_history.specs.rules.Settings.{Setting}
 use Rattle.iscsi_history.specs.rules.Trace.{Command, Mark, Sends, Trace, shown, sent_on}
 use Rattle.iscsi_history.specs.rules.Run.{first_stat_sn, stat_sn_of, effects_of_mark, newly_enabled, effects_of_item, trace_of, run_of}
-use Rattle.iscsi_history.specs.promises.Enabling.{effects_so_far, effects_in}
+use Rattle.iscsi_history.specs.promises.Enabling.{effects_so_far}
 use Rattle.iscsi_history.specs.promises.Numbering.{stat_sn_shown, stat_sns_on, CountsReplies}
 use Rattle.iscsi_history.proofs.DeliveryLemmas.{range_more}
 use Rattle.iscsi_history.proofs.MomentLemmas.{log_effects}

@@ -1,5 +1,5 @@
 -- Places of a list: what is read and written there, and the first one that passes a test.
-use Rattle.std.proofs.Common.{Bool, List, [], refl, set, suc, true, zero, ℕ, ◌∷◌, ◌≡◌, ◌&&◌, ◌++◌, None, Option, Some, ap, drop, get_or, sym, ◌∙◌, ◌<◌, arith, length, ◌≤◌, take, replicate, cond, false, option_map, position, find}
+use Rattle.std.proofs.Common.{Bool, List, [], refl, set, suc, true, zero, ℕ, ◌∷◌, ◌≡◌, ◌&&◌, ◌++◌, None, Option, Some, ap, drop, get_or, ◌∙◌, ◌<◌, arith, length, ◌≤◌, take, replicate, cond, option_map, position, find}
 use Rattle.std.specs.List.{list_all}
 use Rattle.std.proofs.lemmas.List.Folds.{list_all-append}
 use Rattle.std.proofs.lemmas.List.{append-nil}

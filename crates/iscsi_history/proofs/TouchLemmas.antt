@@ -10,7 +10,7 @@ use Rattle.iscsi_history.specs.declared.effect.Effect.TheVariants.{Enter, Enable
 use Rattle.iscsi_history.specs.rules.Settings.{Setting}
 use Rattle.iscsi_history.specs.rules.Trace.{Command, Mark, Leaves, Enters, Trace, enters, entered, leaves_ticket, live, is_among}
 use Rattle.iscsi_history.specs.rules.Run.{effects_of_mark, newly_enabled, effects_of_item}
-use Rattle.iscsi_history.specs.promises.Lives.{names_ticket, life_of}
+use Rattle.iscsi_history.specs.promises.Lives.{life_of}
 use Rattle.iscsi_history.proofs.CountLemmas.{among_counted, counted_among}
 use Rattle.iscsi_history.proofs.ElementLemmas.{In}
 use Rattle.iscsi_history.proofs.Forms.{AtTurn, Form, Completed, Executed, marks_of_form, Each, IsFormed}

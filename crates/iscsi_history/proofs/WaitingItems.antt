@@ -1,7 +1,6 @@
 -- Which functions wait after an item, and the functions of a number.
 use Rattle.std.proofs.Common.{arith, List, ◌≡◌, ◌++◌, [], ◌∷◌, Bool, filter, refl, ℕ, cond, false, true, ◌==◌, not, ap, sym, subst, ◌∙◌, eq-eqb}
 use Rattle.std.specs.List.{list_any}
-use Rattle.std.proofs.lemmas.Bool.{false≢true}
 use Rattle.std.proofs.lemmas.Bool.Decides.{nat_tests}
 use Rattle.iscsi_history.specs.rules.Deeds.{function_marks}
 use Rattle.iscsi_history.specs.rules.Trace.{Arrival, Mark, waiting_through, Trace, Executes, waiting, after_items}
