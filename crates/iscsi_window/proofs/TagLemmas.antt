@@ -4,7 +4,7 @@ use Rattle.std.proofs.lemmas.Bool.Decides.{nat_tests}
 use Rattle.std.specs.List.{slice_get}
 use Rattle.std.proofs.lemmas.Option.{slice_get_within, get_or_from_slice_get}
 use Rattle.std.proofs.lemmas.List.{get_or_past, get_or-replicate, length-replicate, set-set}
-use Rattle.std.proofs.lemmas.List.Sums.{sum_by-set, sum_by-cons, sum_by_push, count_by-le-length, get_or-le-sum_by}
+use Rattle.std.proofs.lemmas.List.Sums.{sum_by-set, sum_by-cons, sum_by_push, get_or-le-sum_by}
 use Rattle.iscsi_window.specs.declared.held_request.HeldRequest.{HeldRequest}
 use Rattle.iscsi_window.specs.Windows.{holds_command}
 use Rattle.iscsi_window.proofs.PlaceLemmas.{none_pass}
@@ -24,10 +24,6 @@ group_within place g is = grind (arith, nat_tests)
 
 pub is_held : (counts : List ℕ) (xs : List (Option (Option HeldRequest))) (k g : ℕ) → IsCounted counts xs → k < length xs → group_of (get_or xs k None) ≡ Some g → 0 < get_or counts g 0
 is_held counts xs k g c within is = let least = get_or-le-sum_by (λ x. cond (is_of g x) 1 0) xs k None within in grind (arith, nat_tests, c.exact g)
-
--- a counter has room for one more
-pub is_few : (counts : List ℕ) (xs : List (Option (Option HeldRequest))) (g : ℕ) → IsCounted counts xs → get_or counts g 0 < 65535
-is_few counts xs g c = omega (arith, c.exact g, c.few, count_by-le-length (is_of g) xs)
 
 -- what was there is taken back
 lowered_counted : (counts : List ℕ) (xs : List (Option (Option HeldRequest))) (k : ℕ) → IsCounted counts xs → k < length xs → IsCounted (lowered counts (group_of (get_or xs k None))) (set xs k None)
