@@ -54,10 +54,6 @@ module _ {log : List Entry} {places : List ℕ} {crowded : List Bool} {others : 
     pub no_tagged : (IsLiveAt log (get_or places (group_of itt) 0) → tag_at log (get_or places (group_of itt) 0) ≢ itt) → (at < length others → tag_at log (get_or others at 0) ≢ itt) → (k : ℕ) → IsLiveAt log k → tag_at log k ≢ itt
     no_tagged other_first other_found k live is = grind (arith, tagged.known k live, other_at k)
 
-  -- no live command has a tag whose group isn't marked, where the place of the group has none
-  pub unmarked_tag : (itt : ℕ) → get_or crowded (group_of itt) false ≡ false → (IsLiveAt log (get_or places (group_of itt) 0) → tag_at log (get_or places (group_of itt) 0) ≢ itt) → (k : ℕ) → IsLiveAt log k → tag_at log k ≢ itt
-  unmarked_tag itt unmarked other_first k live is = grind (arith, tagged.known k live, tagged.marked k)
-
   -- none of them stands at two places
   twice : (at : ℕ) → at < length others → (j : ℕ) → get_or others at 0 ≡ j → 1 ≤ times j (remove others at) → ⊥
   twice at l j there some =
