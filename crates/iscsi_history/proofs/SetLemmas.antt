@@ -3,10 +3,10 @@ use Rattle.std.proofs.Common.{List, map, ℕ, [], ap, false, refl, true, ◌∷�
 use Rattle.std.proofs.lemmas.Grind.{common_steps}
 use Rattle.std.specs.List.{list_any, list_all}
 use Rattle.iscsi_tasks.specs.declared.member.Member.{Member}
-use Rattle.iscsi_tasks.specs.Sets.{given_in, after_moment, looked_at, Members, left_by, tasks_in, with_ticket, opened as opened_set}
+use Rattle.iscsi_tasks.specs.Sets.{given_in, after_moment, looked_at, opened as opened_set}
 use Rattle.iscsi_tasks.specs.declared.task.Task.{Task}
 use Rattle.iscsi_history.proofs.ListLemmas.{none_left}
-use Rattle.iscsi_history.proofs.ListLemmas.{map-map, filter-map, find-found}
+use Rattle.iscsi_history.proofs.ListLemmas.{map-map}
 use Rattle.iscsi_history.proofs.BoolLemmas.{or_false, and_parts, and_false}
 use Rattle.iscsi_history.proofs.NumberLemmas.{none_above}
 
@@ -25,10 +25,6 @@ tickets-moment ms = map-map (λ (m : Member). m.task.ticket) (looked_at ms) ms
 none_with : (k : ℕ) (ms : List Member) → find (λ (t : Task). t.ticket == k) (map (λ (m : Member). m.task) ms) ≡ None → filter (λ t. not (t == k)) (tickets ms) ≡ tickets ms
 none_with k [] h = refl
 none_with k (m ∷ ms) h = grind (arith, none_with k ms)
-
--- a command that leaves takes its ticket with it
-pub tickets-left : (s : Members) (k : ℕ) → tickets (left_by s (with_ticket k (tasks_in s))).list ≡ filter (λ t. not (t == k)) (tickets s.list)
-tickets-left s k = grind (arith, none_with, find-found, tickets-moment, filter-map)
 
 pub set_opened : (n u depth : ℕ) → u < n → get_or (replicate n (opened_set depth)) u (opened_set 0) ≡ opened_set depth
 set_opened zero u depth lt = absurd (omega arith)
