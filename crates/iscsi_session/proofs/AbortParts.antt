@@ -1,5 +1,5 @@
 -- What ABORT TASK comes to, by what a session keeps, and by the definitions.
-use Rattle.std.proofs.Common.{◌≡◌, ℕ, ◌+◌, ◌-◌, ◌<◌, ◌≤◌, ◌&&◌, ◌^◌, not, Bool, true, false, nat_lt, nat_le, List, [], ◌∷◌, length, map, Some, None, option_map, refl, ap, sym, ◌∙◌, arith}
+use Rattle.std.proofs.Common.{◌≡◌, ℕ, ◌+◌, ◌-◌, ◌<◌, ◌≤◌, ◌&&◌, ◌^◌, not, Bool, true, false, List, [], ◌∷◌, length, map, Some, None, option_map, refl, ap, sym, ◌∙◌, arith}
 use Rattle.std.proofs.lemmas.Bool.{false≢true}
 use Rattle.std.proofs.lemmas.Bool.Decides.{nat_tests}
 use Rattle.iscsi_wire.specs.declared.request.Request.{Request}
@@ -7,10 +7,8 @@ use Rattle.iscsi_window.specs.declared.held_request.HeldRequest.{HeldRequest}
 use Rattle.iscsi_wire.specs.Serial.{wire, lift}
 use Rattle.iscsi_wire.specs.Fields.{connection_of, is_immediate, rtt, cmd_sn, ref_cmd_sn}
 use Rattle.iscsi_window.specs.declared.answer.Place.{Place}
-use Rattle.iscsi_window.specs.declared.answer.Place.TheVariants.{Inside, Outside as NoPlace}
-use Rattle.iscsi_window.specs.Windows.{Arrived, number_expected, number_shown, room_of, at_place, place_in, find_held}
+use Rattle.iscsi_window.specs.Windows.{Arrived, number_expected, at_place, place_in, find_held}
 use Rattle.iscsi_history.specs.declared.deed.Deed.{Deed}
-use Rattle.iscsi_history.specs.declared.deed.Deed.TheVariants.{Void, Empty}
 use Rattle.iscsi_history.specs.rules.Deeds.{facts_of}
 use Rattle.iscsi_history.specs.rules.Settings.{Setting, is_known}
 use Rattle.iscsi_history.specs.rules.Trace.{Arrival, Mark, Delivers, Executes, Trace, waiting, held}
@@ -39,16 +37,11 @@ pub record Found (o : Setting) (s : Core) (t : Trace) (a : Arrival) : Type 0 whe
 
 -- no request is held below the number of a numbered function
 none_below : (w : Arrived) (r : Request) (unit n : ℕ) → n + 1 ≡ number_expected w → wire (cmd_sn r) ≡ wire n → find_held w (rtt r) unit (cmd_sn r) ≡ None
-none_below w r unit n next shows =
-    let own : lift (number_expected w) (cmd_sn r) ≡ n = last_number (number_expected w) n (cmd_sn r) (omega arith) next shows in
-    let none : lift (number_expected w) (cmd_sn r) - number_expected w ≡ 0 = omega (arith, own, next) in
-    rw none
+none_below w r unit n next shows = grind (arith, nat_tests, last_number)
 
 -- so it neither empties nor voids a number
 pub numbered_deed : (s : Core) (r : Request) (n : ℕ) (d : Deed) → is_immediate r ≡ false → n + 1 ≡ number_expected s.window → wire (cmd_sn r) ≡ wire n → Fits s r d → is_of_number d ≡ false
-numbered_deed s r n Void later next shows fits = absurd (false≢true (sym later ∙ (missing_parts s r fits).0))
-numbered_deed s r n (Empty unit sn) later next shows fits = absurd (let none : None ≡ Some sn = sym (ap (option_map (number_shown s.window)) (none_below s.window r unit n next shows)) ∙ fits.1 in cc)
-numbered_deed s r n _ later next shows fits = refl
+numbered_deed s r x2 d later next shows fits = grind (arith, nat_tests, false≢true, missing_parts, none_below)
 
 none_of : (i b c d : Bool) → (b && c) ≡ false → (i && b && c && d) ≡ false
 none_of i b c d out = grind arith
@@ -59,25 +52,10 @@ all_of i b c d is = grind arith
 -- a number is voided where it is in the window and below the function's own
 missing_is : (o : Setting) (s : Core) (t : Trace) (a : Arrival) → WindowAgrees o s.window t → exp_of o t ≡ number_expected s.window → max_of o t ≡ number_expected s.window + length s.window.places - 1 - s.window.unfinished → a.number ≡ lift (number_expected s.window) (cmd_sn a.request)
     → (facts_of o t a).is_missing ≡ missing_by s a.request
-missing_is o s t a h exp max own =
-    rw (max, exp, within_window e n (length s.window.places) s.window.unfinished (omega arith) h.few) (by_tests (nat_le e n && nat_lt n (e + room_of s.window)) refl)
-  where
-    e : ℕ
-    e = number_expected s.window
-
-    n : ℕ
-    n = lift e (ref_cmd_sn a.request)
-
-    by_tests : (b : Bool) → (nat_le e n && nat_lt n (e + room_of s.window)) ≡ b → (is_immediate a.request && nat_le e n && nat_lt n (e + room_of s.window) && nat_lt n a.number) ≡ missing_by s a.request
-    by_tests false out = rw out (none_of (is_immediate a.request) (nat_le e n) (nat_lt n (e + room_of s.window)) (nat_lt n a.number) out)
-    by_tests true is =
-        let low : e ≤ n = grind (arith, nat_tests) in
-        let at : e + (n - e) ≡ n = omega (arith, low) in
-        rw (is, at, ← own) (all_of (is_immediate a.request) (nat_le e n) (nat_lt n (e + room_of s.window)) (nat_lt n a.number) is)
+missing_is o s t a h exp max own = grind (arith, nat_tests, within_window, none_of)
 
 numbered_missing : (s : Core) (r : Request) (p : Place) → is_immediate r ≡ false → false ≡ missing_at s r p
-numbered_missing s r NoPlace later = refl
-numbered_missing s r (Inside k) later = rw later
+numbered_missing s r p later = grind (arith, nat_tests)
 
 -- an immediate request, at its arrival
 pub Found-arrived : (o : Setting) (s : Core) (index : ℕ) (t : Trace) (r : Request) → Settled o s t → waiting ((Executes (arrival_of o index t r) ∷ []) ∷ t) ≡ map (arrival_waiting o.first) s.waiting

@@ -1,6 +1,6 @@
 -- The agenda: what is left of it, function by function and number by number.
-use Rattle.std.proofs.Common.{◌≡◌, ℕ, ◌+◌, ◌-◌, ◌<◌, ◌==◌, true, List, [], ◌∷◌, ◌++◌, filter, Option, Some, None, is_some, refl, ap, sym, subst, ◌∙◌, arith, append_assoc}
-use Rattle.std.specs.List.{list_all, filter_map}
+use Rattle.std.proofs.Common.{◌≡◌, ℕ, ◌+◌, ◌-◌, ◌<◌, ◌==◌, true, List, [], ◌∷◌, ◌++◌, Option, Some, None, is_some, refl, ap, sym, subst, ◌∙◌, arith, append_assoc}
+use Rattle.std.specs.List.{filter_map}
 use Rattle.std.proofs.lemmas.List.{append-nil}
 use Rattle.std.proofs.lemmas.List.Folds.{list_all-map}
 use Rattle.iscsi_window.specs.declared.held_request.HeldRequest.{HeldRequest}
@@ -9,7 +9,7 @@ use Rattle.iscsi_window.specs.Windows.{number_expected, at_place}
 use Rattle.iscsi_history.specs.declared.effect.Effect.{Effect}
 use Rattle.iscsi_session.specs.declared.session.waiting.Waiting.{Waiting}
 use Rattle.iscsi_history.specs.rules.Settings.{Setting}
-use Rattle.iscsi_history.specs.rules.Trace.{Arrival, Mark, Trace, after_items, waiting, received, number_received}
+use Rattle.iscsi_history.specs.rules.Trace.{Arrival, Mark, Trace, after_items, received, number_received}
 use Rattle.iscsi_history.specs.rules.Execution.{exp_of}
 use Rattle.iscsi_history.specs.rules.Management.{may_wait}
 use Rattle.iscsi_history.specs.rules.Items.{item_of, function_item, functions_at, turn_at, agenda}
@@ -29,6 +29,7 @@ use Rattle.iscsi_session.proofs.TurnLemmas.{turned_core, turned_is, numbered_hel
 use Rattle.iscsi_session.proofs.FunctionLemmas.{turned-item, waited-item}
 use Rattle.iscsi_session.proofs.PaceLemmas.{stays_expected, executed_stays, function_stays}
 use Rattle.iscsi_session.proofs.AgreeLemmas.{settled_expected}
+use Rattle.std.proofs.lemmas.Bool.Decides.{nat_tests}
 
 -- ---- what is left
 
@@ -44,18 +45,7 @@ pub record Leads (o : Setting) (t₀ : Trace) (out₀ : List Effect) (whole : Li
 pub Leads-on : (o : Setting) (t₀ : Trace) (out₀ : List Effect) (whole : List (List Mark)) (s s' : Core) (out out' : List Effect) (rest rest' : Trace → List (List Mark)) (d : Leads o t₀ out₀ whole s out rest) (items : List (List Mark))
     → Agrees o s' (after_items items d.trace) → received (after_items items d.trace) ≡ received d.trace → rest d.trace ≡ items ++ rest' (after_items items d.trace) → out' ≡ out ++ effects_of o d.trace items → Leads o t₀ out₀ whole s' out' rest'
 Leads-on o t₀ out₀ whole s s' out out' rest rest' d items agrees same splits given =
-    let t : Trace = d.trace in
-    let t' : Trace = after_items items t in
-    record {
-      trace = t';
-      agrees = agrees;
-      same = same ∙ d.same;
-      effects = ap (λ es. es ++ effects_of o t' (rest' t')) given
-          ∙ append_assoc out (effects_of o t items) (effects_of o t' (rest' t'))
-          ∙ ap (λ es. out ++ es) (sym (effects_of-append o items (rest' t') t))
-          ∙ ap (λ is. out ++ effects_of o t is) (sym splits) ∙ d.effects;
-      after = sym (after_items-append items (rest' t') t) ∙ ap (λ is. after_items is t) (sym splits) ∙ d.after;
-    }
+    grind (arith, nat_tests, append_assoc, effects_of-append, after_items-append)
 
 -- one item more
 Leads-item : (o : Setting) (t₀ : Trace) (out₀ : List Effect) (whole : List (List Mark)) (s : Core) (out : List Effect) (rest rest' : Trace → List (List Mark)) (d : Leads o t₀ out₀ whole s out rest) (item : List Mark) (x : Step)
@@ -90,9 +80,7 @@ abbrev pub left_functions : Setting → Core → Trace → List (List Mark)
 left_functions o s t = functions_at o (number_expected s.window) t
 
 functions_at_receive_none : (o : Setting) (s : Core) (t : Trace) (n : ℕ) → Agrees o s t → received (after_items (functions_at o n t) t) ≡ received t
-functions_at_receive_none o s t n a =
-    functions_receive_none o (filter (λ b. b.number == n) (waiting t)) t
-    (list_all-filter (λ (b : Arrival). b.number == n) (λ b. may_wait b.request) (waiting t) (ap (list_all (λ (b : Arrival). may_wait b.request)) a.waiting.list ∙ list_all-map (λ (b : Arrival). may_wait b.request) (arrival_waiting o.first) s.waiting ∙ a.waiting.may))
+functions_at_receive_none o s t n a = grind (arith, nat_tests, functions_receive_none, list_all-filter, list_all-map)
 
 -- the next one executes
 pub functions-on : (o : Setting) (t₀ : Trace) (out₀ : List Effect) (whole : List (List Mark)) (s : Core) (out : List Effect) (x : Option Waiting) → next_waiting s ≡ x → is_some x ≡ true → Leads o t₀ out₀ whole s out (left_functions o s)
@@ -112,14 +100,7 @@ functions-on o t₀ out₀ whole s out (Some w) is some d =
 
 -- there is none any more
 pub functions-done : (o : Setting) (t₀ : Trace) (out₀ : List Effect) (whole : List (List Mark)) (s : Core) (out : List Effect) → next_waiting s ≡ None → Leads o t₀ out₀ whole s out (left_functions o s) → Runs o t₀ whole s out₀ out
-functions-done o t₀ out₀ whole s out none d =
-    let t : Trace = d.trace in
-    let at : number_of_first o.first + s.window.turned ≡ number_expected s.window = omega (arith, d.agrees.window.first) in
-    let nothing : functions_at o (number_expected s.window) t ≡ [] = subst (λ k. functions_at o k t ≡ []) at (no_function o t s.waiting s.window.turned d.agrees.waiting.list none) in
-    record {
-      agrees = subst (Agrees o s) (ap (λ items. after_items items t) (sym nothing) ∙ d.after) d.agrees;
-      effects = sym (append-nil out) ∙ ap (λ items. out ++ effects_of o t items) (sym nothing) ∙ d.effects;
-    }
+functions-done o t₀ out₀ whole s out none d = grind (arith, nat_tests, no_function, append-nil)
 
 -- once they are taken
 pub Due-functions : (o : Setting) (t₀ : Trace) (out₀ : List Effect) (whole : List (List Mark)) (s s' : Core) (out out' : List Effect) → Due o t₀ out₀ whole s out → number_expected s'.window ≡ number_expected s.window
@@ -167,23 +148,11 @@ turned-number o t₀ out₀ whole s out None d place =
 
 pub turned-one : (o : Setting) (t₀ : Trace) (out₀ : List Effect) (whole : List (List Mark)) (s : Core) (out : List Effect) (p : Option (Option HeldRequest)) → at_place s.window 0 ≡ p → is_some p ≡ true → DueTurn o t₀ out₀ whole s out
     → let x = turn_taken s p in Due o t₀ out₀ whole x.core (out ++ x.effects)
-turned-one o t₀ out₀ whole s out None here some d = absurd cc
-turned-one o t₀ out₀ whole s out (Some q) here some d = subst (λ (x : Step). Due o t₀ out₀ whole x.core (out ++ x.effects)) (sym (turned_is s q here)) (turned-number o t₀ out₀ whole s out q d here)
+turned-one o t₀ out₀ whole s out p here some d = grind (arith, nat_tests, turned_is, turned-number)
 
 -- where nothing is due any more, the agenda is done
 pub turned-all : (o : Setting) (t₀ : Trace) (out₀ : List Effect) (whole : List (List Mark)) (s : Core) (out : List Effect) → DueTurn o t₀ out₀ whole s out → at_place s.window 0 ≡ None → Handles o t₀ whole HasNoMore s out₀ out
-turned-all o t₀ out₀ whole s out d none =
-    let t : Trace = d.trace in
-    let e : ℕ = number_expected s.window in
-    let settled : Settled o s t = record { agrees = d.agrees; none_due = none } in
-    let done : exp_of o t₀ ≡ e = sym (same_exp o t t₀ d.same) ∙ settled_expected o s t settled in
-    let nothing : turns o e (exp_of o t₀ - e) t ≡ [] = ap (λ n. turns o e n t) (let z : exp_of o t₀ - e ≡ 0 = omega (arith, done) in z) in
-    let ends : t ≡ after_items whole t₀ = ap (λ items. after_items items t) (sym nothing) ∙ d.after in
-    record {
-      settled = subst (Settled o s) ends settled;
-      effects = sym (append-nil out) ∙ ap (λ items. out ++ effects_of o t items) (sym nothing) ∙ d.effects;
-      receives = ap received (sym ends) ∙ d.same;
-    }
+turned-all o t₀ out₀ whole s out d none = grind (arith, nat_tests, same_exp, settled_expected, append-nil)
 
 -- what an agenda comes to, from a state on, where no function waits for its first number, which turns
 pub Handles-turned : (o : Setting) (s f : Core) (t : Trace) (out out' : List Effect) (p : Option (Option HeldRequest)) → next_waiting s ≡ None → at_place s.window 0 ≡ p → is_some p ≡ true → Agrees o s t

@@ -32,6 +32,7 @@ use Rattle.iscsi_session.proofs.CommandParts.{CommandsAgree-untouched}
 use Rattle.iscsi_history.proofs.EnabledItems.{EnabledSoFar-untouched}
 use Rattle.iscsi_history.proofs.CommandItems.{unfinished-untouched, untouched-admits}
 use Rattle.iscsi_session.proofs.SetParts.{SetsAgree-untouched}
+use Rattle.std.proofs.lemmas.Bool.Decides.{nat_tests}
 
 -- ---- numbers
 
@@ -48,9 +49,7 @@ pub record Regular (o : Setting) (c : Command) : Type 0 where
   pub known : is_known (connection_of c.arrival.request) o.conns ≡ true
 
 pub regular_parts : (o : Setting) (c : Command) → is_regular o c ≡ true → Regular o c
-regular_parts o c h =
-    let parts = and_parts _ _ h in
-    record { unit = ltb-true c.unit o.units parts.0; known = parts.1 }
+regular_parts o c h = grind (arith, nat_tests, and_parts, ltb-true)
 
 -- the live commands are regular
 pub regular_live : (o : Setting) (lives : List Live) (n : ℕ) (t : Trace) → CommandsAgree o lives n t → list_all (is_regular o) (live t) ≡ true

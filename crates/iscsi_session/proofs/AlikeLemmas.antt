@@ -1,5 +1,5 @@
 -- A session finds what the definitions find, and so it does what they say.
-use Rattle.std.proofs.Common.{◌≡◌, ℕ, ◌+◌, ◌==◌, ◌&&◌, cond, Bool, true, false, [], ◌∷◌, Option, Some, None, option_map, refl, ap, sym, ◌∙◌}
+use Rattle.std.proofs.Common.{◌≡◌, ℕ, ◌+◌, ◌==◌, ◌&&◌, Bool, true, false, [], ◌∷◌, Option, Some, None, option_map, refl, ap, sym, ◌∙◌}
 use Rattle.std.specs.List.{list_any}
 use Rattle.iscsi_wire.specs.declared.request.Request.{Request}
 use Rattle.iscsi_wire.specs.Serial.{wire}
@@ -7,14 +7,11 @@ use Rattle.iscsi_wire.specs.Fields.{function, itt, rtt, cid, cmd_sn}
 use Rattle.iscsi_window.specs.Windows.{number_expected, find_held}
 use Rattle.iscsi_commands.specs.declared.live.Live.{Live}
 use Rattle.iscsi_history.specs.declared.effect.Effect.{Effect}
-use Rattle.iscsi_history.specs.declared.deed.Answer.TheVariants.{Reject, NoUnit, Full, Respond}
-use Rattle.iscsi_history.specs.declared.deed.Deed.{Deed}
-use Rattle.iscsi_history.specs.declared.deed.Deed.TheVariants.{Nothing, Reply, Enter, Void, Empty, Abort}
 use Rattle.iscsi_history.specs.rules.Settings.{Setting}
 use Rattle.iscsi_history.specs.rules.Trace.{Arrival, Command, Mark, Trace, live, live_in}
 use Rattle.iscsi_history.specs.rules.Execution.{unit_named}
-use Rattle.iscsi_history.specs.rules.Management.{live_with_tag, held_command, refusal}
-use Rattle.iscsi_history.specs.rules.Deeds.{Facts, abort_deed, unit_deed, function_deed, deed_of, of_unit, facts_of}
+use Rattle.iscsi_history.specs.rules.Management.{live_with_tag, held_command}
+use Rattle.iscsi_history.specs.rules.Deeds.{Facts, abort_deed, function_deed, deed_of, of_unit, facts_of}
 use Rattle.iscsi_session.specs.private.Standing.{Core, kept, CommandsAgree, SetsAgree}
 use Rattle.iscsi_session.specs.private.Deeds.{facts_by}
 use Rattle.iscsi_history.proofs.BoolLemmas.{and_true}
@@ -27,6 +24,8 @@ use Rattle.iscsi_session.proofs.FindLemmas.{tagged_in-is}
 use Rattle.iscsi_session.proofs.ExecutionLemmas.{Begun, full_is, crowded_is, untouched-begun}
 use Rattle.iscsi_session.proofs.LogoutItem.{open_same}
 use Rattle.iscsi_session.proofs.AbortParts.{Found}
+use Rattle.std.proofs.Common.{arith}
+use Rattle.std.proofs.lemmas.Bool.Decides.{nat_tests}
 
 -- ---- facts that are alike
 
@@ -46,55 +45,24 @@ pub record Finds (f g : Facts) : Type 0 where
   pub is_missing : f.is_missing ≡ g.is_missing
 
 abort_alike : (f g : Facts) (unit : ℕ) → f.live ≡ g.live → Finds f g → abort_deed f unit ≡ abort_deed g unit
-abort_alike f g unit live x =
-    ap {B = Deed} (λ y. elim y [ Some ticket ↦ Abort unit ticket | None ↦ elim f.held [ Some sn ↦ Empty unit sn | None ↦ cond f.is_missing Void (Reply (Respond 1)) ] ]) live
-    ∙ ap {B = Deed} (λ y. elim g.live [ Some ticket ↦ Abort unit ticket | None ↦ elim y [ Some sn ↦ Empty unit sn | None ↦ cond f.is_missing Void (Reply (Respond 1)) ] ]) x.held
-    ∙ ap {B = Deed} (λ b. elim g.live [ Some ticket ↦ Abort unit ticket | None ↦ elim g.held [ Some sn ↦ Empty unit sn | None ↦ cond b Void (Reply (Respond 1)) ] ]) x.is_missing
+abort_alike f g unit live x = grind (arith, nat_tests)
 
 pub function_alike : (f g : Facts) (r : Request) → Alike f g → ((function r == 1) ≡ true → Finds f g) → function_deed f r ≡ function_deed g r
-function_alike f g r a finds = by_unit f.unit g.unit a.unit
-  where
-    by_one : (unit : ℕ) (b : Bool) → (function r == 1) ≡ b → unit_deed f r unit ≡ unit_deed g r unit
-    by_one unit true is = rw is (abort_alike f g unit a.live (finds is))
-    by_one unit false is = rw (is, a.live, a.has_commands)
-
-    by_unit : (x y : Option ℕ) → x ≡ y → ◌≡◌ {A = Deed} (elim x [ Some unit ↦ unit_deed f r unit | None ↦ Nothing ]) (elim y [ Some unit ↦ unit_deed g r unit | None ↦ Nothing ])
-    by_unit None None same = refl
-    by_unit None (Some v) same = absurd cc
-    by_unit (Some u) None same = absurd cc
-    by_unit (Some u) (Some v) same = let unit : u ≡ v = cc in rw unit (by_one v (function r == 1) refl)
+function_alike f g r a finds = grind (arith, nat_tests, abort_alike, finds)
 
 pub deed_alike : (f g : Facts) (r : Request) → Alike f g → ((function r == 1) ≡ true → Finds f g) → deed_of f r ≡ deed_of g r
-deed_alike f g r a finds = rw (managed, a.is_open, a.is_used, command)
-  where
-    refused : refusal f.level f.unit r ≡ refusal g.level g.unit r
-    refused = rw (a.level, a.unit)
-
-    managed : ◌≡◌ {A = Deed} (elim (refusal f.level f.unit r) [ Some x ↦ Reply x | None ↦ function_deed f r ]) (elim (refusal g.level g.unit r) [ Some x ↦ Reply x | None ↦ function_deed g r ])
-    managed = rw refused (ap {B = Deed} (λ d. elim (refusal g.level g.unit r) [ Some x ↦ Reply x | None ↦ d ]) (function_alike f g r a finds))
-
-    command : ◌≡◌ {A = Deed} (elim f.unit [ Some unit ↦ cond f.is_crowded (Reply (Reject 6)) (cond f.is_full (Reply Full) (Enter unit)) | None ↦ Reply NoUnit ])
-        (elim g.unit [ Some unit ↦ cond g.is_crowded (Reply (Reject 6)) (cond g.is_full (Reply Full) (Enter unit)) | None ↦ Reply NoUnit ])
-    command =
-        ap {B = Deed} (λ b. elim f.unit [ Some unit ↦ cond b (Reply (Reject 6)) (cond f.is_full (Reply Full) (Enter unit)) | None ↦ Reply NoUnit ]) a.is_crowded
-        ∙ ap {B = Deed} (λ b. elim f.unit [ Some unit ↦ cond g.is_crowded (Reply (Reject 6)) (cond b (Reply Full) (Enter unit)) | None ↦ Reply NoUnit ]) a.is_full
-        ∙ ap {B = Deed} (λ x. elim x [ Some unit ↦ cond g.is_crowded (Reply (Reject 6)) (cond g.is_full (Reply Full) (Enter unit)) | None ↦ Reply NoUnit ]) a.unit
+deed_alike f g r a finds = grind (arith, nat_tests, function_alike, finds)
 
 -- ---- those of a unit
 
 of_unit-same : {A : Type 0} (x : Option ℕ) (none : A) (p q : ℕ → A) → ((unit : ℕ) → x ≡ Some unit → p unit ≡ q unit) → of_unit x none p ≡ of_unit x none q
-of_unit-same None none p q same = refl
-of_unit-same (Some unit) none p q same = same unit refl
+of_unit-same x none p q same = grind (arith, nat_tests)
 
 ticket_kept : (x : Option Command) → option_map (λ (c : Command). c.ticket) x ≡ option_map (λ (l : Live). l.ticket) (option_map kept x)
-ticket_kept None = refl
-ticket_kept (Some c) = refl
+ticket_kept x = grind (arith, nat_tests)
 
 number_shown-is : (e : ℕ) (x : Option Arrival) (y : Option ℕ) → option_map (λ (h : Arrival). h.number) x ≡ option_map (λ k. e + k) y → option_map (λ (h : Arrival). wire h.number) x ≡ option_map (λ k. wire (e + k)) y
-number_shown-is e None None same = refl
-number_shown-is e None (Some k) same = absurd cc
-number_shown-is e (Some h) None same = absurd cc
-number_shown-is e (Some h) (Some k) same = let number : h.number ≡ e + k = cc in rw number
+number_shown-is e x y same = grind (arith, nat_tests)
 
 module _ (o : Setting) (s : Core) (t : Trace) (m : Mark) (e : Effect) (a : Arrival) (b : Begun o s t m e a) where
   abbrev t' : Trace

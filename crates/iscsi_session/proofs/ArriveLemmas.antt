@@ -1,6 +1,6 @@
 -- The turns that are taken, and an arrival as a whole.
-use Rattle.std.proofs.Common.{◌&&◌, not, map, ◌≡◌, ℕ, ◌+◌, ◌-◌, ◌==◌, inl, inr, ⊎_elim, cond, true, false, nat_lt, List, [], ◌∷◌, ◌++◌, None, Some, find, is_some, refl, ap, sym, subst, ◌∙◌, append_assoc}
-use Rattle.std.specs.List.{list_all, list_any}
+use Rattle.std.proofs.Common.{not, ◌≡◌, ℕ, ◌+◌, ◌-◌, ◌==◌, inl, inr, ⊎_elim, cond, true, false, nat_lt, List, [], ◌∷◌, ◌++◌, None, Some, find, is_some, refl, ap, sym, subst, ◌∙◌, append_assoc}
+use Rattle.std.specs.List.{list_all}
 use Rattle.std.proofs.lemmas.List.{append-nil}
 use Rattle.iscsi_wire.specs.declared.request.Request.{Request}
 use Rattle.iscsi_wire.specs.declared.reply.Reply.{Reply}
@@ -13,7 +13,7 @@ use Rattle.iscsi_history.specs.declared.effect.Effect.TheVariants.{Send}
 use Rattle.iscsi_history.specs.declared.effect.Why.TheVariants.{Closed, Data}
 use Rattle.iscsi_history.specs.declared.kind.Kind.TheVariants.{PassedOver, Unknown, Executes as ExecutesKind}
 use Rattle.iscsi_history.specs.rules.Settings.{Setting, is_known}
-use Rattle.iscsi_history.specs.rules.Trace.{Arrival, Mark, Admits, Trace, received, is_closed}
+use Rattle.iscsi_history.specs.rules.Trace.{Arrival, Mark, Trace, received, is_closed}
 use Rattle.iscsi_history.specs.promises.Flow.{HasOneMore}
 use Rattle.iscsi_history.specs.rules.Execution.{exp_of, rejected, ignored}
 use Rattle.iscsi_history.specs.rules.Agenda.{with_turns, numbered, kind_of, arrival_as, arrival_open, arrival, arrival_of}
@@ -22,7 +22,6 @@ use Rattle.iscsi_history.specs.rules.Run.{effects_of, effects_of_item, stat_sn_o
 use Rattle.iscsi_session.specs.private.Standing.{Core, Agrees, Settled}
 use Rattle.iscsi_session.specs.private.Steps.{count_reply, is_among_open, Takes, Handles, HasNoMore, with_offered, replied, request_answered}
 use Rattle.iscsi_session.specs.private.Deeds.{arrival_by, turn_taken, next_waiting, comes_next, immediate_taken}
-use Rattle.iscsi_history.specs.rules.Logout.{is_open}
 use Rattle.iscsi_history.proofs.ListLemmas.{list_any-map, filtered_among, is_none}
 use Rattle.iscsi_history.proofs.DeliveryLemmas.{IsQuiet}
 use Rattle.iscsi_session.proofs.WindowParts.{WindowAgrees-quiet}
@@ -42,6 +41,8 @@ use Rattle.std.specs.Prelude.{Vec}
 use Rattle.std.specs.declared.alloc.Global.{Global}
 use Rattle.iscsi_history.specs.declared.deed.Answer.TheVariants.{Reject as RejectAnswer}
 use Rattle.iscsi_session.proofs.PaceLemmas.{immediate_same}
+use Rattle.std.proofs.Common.{arith}
+use Rattle.std.proofs.lemmas.Bool.Decides.{nat_tests}
 
 -- ---- turns
 
@@ -73,13 +74,7 @@ carried_at_once s s' f r out out' out'' next x rest = λ o t a.
 
 -- a request that is held
 pub held_handled : (o : Setting) (s s' f : Core) (index : ℕ) (t : Trace) (r : Request) (out out' : List Effect) → Offered o s index t r → offer_to s.window r ≡ Held → s' ≡ with_offered s r → RunsAgenda s' f out out' → Handles o t (numbered o t (arrival_of o index t r)) HasOneMore f out out'
-held_handled o s s' f index t r out out' x said is runs =
-    let a : Arrival = arrival_of o index t r in
-    let t₁ : Trace = (Admits a ∷ []) ∷ t in
-    let h = x.taken said in
-    let rest : List (List Mark) = whole_of o (with_offered s r) t₁ in
-    let done : Handles o t₁ rest HasNoMore f out out' = subst (λ (v : Core). RunsAgenda v f out out') is runs o t₁ h.0 in
-    subst (λ (items : List (List Mark)). Handles o t items HasOneMore f out out') (sym h.1.0) (record { settled = done.settled; effects = done.effects ∙ ap (λ es. out ++ es) (sym (h.1.1 rest)); receives = inr (a.number, done.receives) })
+held_handled o s s' f index t r out out' x said is runs = grind (arith, nat_tests)
 
 -- ---- an arrival that isn't numbered
 
@@ -130,20 +125,14 @@ at_once o s s' f index t r out out' out'' h kind immediate known taken waited x 
 
 -- the session knows which connections are open
 open_is : (o : Setting) (s : Core) (t : Trace) (conn : ℕ) → Agrees o s t → is_known conn o.conns ≡ true → is_among_open conn s.open_conns ≡ not (is_closed conn t)
-open_is o s t conn h known =
-    ap (list_any (λ c. c == conn)) h.open_conns
-    ∙ filtered_among (is_open o t) conn (map (λ (c : ℕ × ℕ). c.0) o.conns)
-    ∙ ap (λ b. b && is_open o t conn) (list_any-map (λ c. c == conn) (λ (c : ℕ × ℕ). c.0) o.conns)
-    ∙ ap (λ b. b && (b && not (is_closed conn t))) known
+open_is o s t conn h known = grind (arith, nat_tests, filtered_among, list_any-map)
 
 pub opened_arrival : (o : Setting) (s : Core) (index : ℕ) (t : Trace) (r : Request) → Agrees o s t → is_known (connection_of r) o.conns ≡ true → is_among_open (connection_of r) s.open_conns ≡ true
     → arrival o t (arrival_of o index t r) ≡ arrival_open o t (arrival_of o index t r)
-opened_arrival o s index t r h known there =
-    ap (λ b. cond b (ignored Closed) (arrival_open o t (arrival_of o index t r))) (not_flip (is_closed (connection_of r) t) true (sym there ∙ open_is o s t (connection_of r) h known))
+opened_arrival o s index t r h known there = grind (arith, nat_tests, not_flip, open_is)
 
 closed_is : (o : Setting) (s : Core) (index : ℕ) (t : Trace) (r : Request) → Agrees o s t → is_known (connection_of r) o.conns ≡ true → is_among_open (connection_of r) s.open_conns ≡ false → arrival o t (arrival_of o index t r) ≡ ignored Closed
-closed_is o s index t r h known gone =
-    ap (λ b. cond b (ignored Closed) (arrival_open o t (arrival_of o index t r))) (not_flip (is_closed (connection_of r) t) false (sym gone ∙ open_is o s t (connection_of r) h known))
+closed_is o s index t r h known gone = grind (arith, nat_tests, not_flip, open_is)
 
 pub closed_arrival : (o : Setting) (s : Core) (index : ℕ) (t : Trace) (r : Request) → Settled o s t → is_known (connection_of r) o.conns ≡ true → is_among_open (connection_of r) s.open_conns ≡ false
     → Stepped o (step_ignored s Closed) t (arrival o t (arrival_of o index t r))

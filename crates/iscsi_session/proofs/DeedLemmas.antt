@@ -1,15 +1,13 @@
 -- What a request does that executes, by what a session keeps: when it does that, and what stays as it was.
-use Rattle.std.proofs.Common.{◌≡◌, ℕ, ℤ, ◌+◌, ◌<◌, ◌≤◌, ◌==◌, ◌&&◌, not, cond, Bool, true, false, nat_lt, nat_le, length, count_by, is_some, Option, Some, None, refl, ap, sym, ◌∙◌, arith}
+use Rattle.std.proofs.Common.{◌≡◌, ℕ, ℤ, ◌+◌, ◌<◌, ◌≤◌, ◌==◌, ◌&&◌, not, cond, Bool, true, false, length, count_by, is_some, Option, Some, None, refl, ap, sym, ◌∙◌, arith}
 use Rattle.std.proofs.lemmas.Bool.Decides.{nat_tests}
 use Rattle.std.proofs.lemmas.Bool.{false≢true, cond_both}
 use Rattle.std.proofs.lemmas.Bool.Decides.{nat_tests}
 use Rattle.iscsi_window.specs.declared.held_request.HeldRequest.{HeldRequest}
 use Rattle.iscsi_wire.specs.declared.request.Request.{Request}
-use Rattle.iscsi_wire.specs.Serial.{lift}
-use Rattle.iscsi_wire.specs.Fields.{connection_of, is_immediate, opcode, cmd_sn, ref_cmd_sn}
+use Rattle.iscsi_wire.specs.Fields.{connection_of, is_immediate, opcode, ref_cmd_sn}
 use Rattle.iscsi_window.specs.declared.answer.Place.{Place}
-use Rattle.iscsi_window.specs.declared.answer.Place.TheVariants.{Inside, Outside}
-use Rattle.iscsi_window.specs.Windows.{HasRoom, IsInside, number_expected, room_of, place_in, held_at, received_at, emptied_if}
+use Rattle.iscsi_window.specs.Windows.{HasRoom, IsInside, place_in, held_at, received_at, emptied_if}
 use Rattle.iscsi_tasks.specs.declared.task.Task.{Task}
 use Rattle.iscsi_tasks.specs.declared.cover.Cover.TheVariants.{All as AllOfThem, Below}
 use Rattle.iscsi_tasks.specs.Sets.{is_covered}
@@ -18,11 +16,11 @@ use Rattle.iscsi_history.specs.declared.deed.Deed.{Deed}
 use Rattle.iscsi_history.specs.declared.deed.Deed.TheVariants.{Nothing, Wait, Reply, Enter, Void, Empty, Abort, AbortEarlier, AbortAll, CloseConn, CloseSession}
 use Rattle.iscsi_history.specs.rules.Settings.{is_known}
 use Rattle.iscsi_history.specs.rules.Execution.{unit_named}
-use Rattle.iscsi_history.specs.rules.Management.{may_wait, MOST_WAITING}
+use Rattle.iscsi_history.specs.rules.Management.{may_wait}
 use Rattle.iscsi_history.specs.rules.Deeds.{Facts, of_unit, function_deed}
 use Rattle.iscsi_session.specs.private.Standing.{Core}
-use Rattle.iscsi_session.specs.private.Steps.{set_at, is_set_full, waiting_in, is_numbered, is_gone, covers_ticket, aborted}
-use Rattle.iscsi_session.specs.private.Deeds.{refusal_by, live_by, held_by, missing_at, missing_by, facts_by, deed_by, waits_by, arrival_by, Fits, IsReady, most_emptied, carried}
+use Rattle.iscsi_session.specs.private.Steps.{set_at, is_numbered, is_gone, covers_ticket, aborted}
+use Rattle.iscsi_session.specs.private.Deeds.{refusal_by, live_by, held_by, missing_by, facts_by, deed_by, waits_by, arrival_by, Fits, IsReady, most_emptied, carried}
 use Rattle.iscsi_history.proofs.BoolLemmas.{and_first, and_second}
 use Rattle.iscsi_history.proofs.ListLemmas.{fewer_counted}
 use Rattle.iscsi_history.proofs.DeedTable.{named_below, Befits, befits_function, befits_deed}
@@ -37,12 +35,7 @@ of_named units r unit none some named = sym (ap (λ x. of_unit x none some) name
 
 fits : (s : Core) (r : Request) (d : Deed) → Befits (facts_by s r) r d → Fits s r d
 fits s r Wait b = absurd b
-fits s r (Enter unit) b = record {
-  inside = named_below (length s.sets) r unit b.named;
-  not_full = of_named (length s.sets) r unit false (λ u. is_set_full (set_at s u)) b.named ∙ b.not_full;
-  unused = b.unused;
-  uncrowded = b.uncrowded;
-}
+fits s r (Enter unit) b = grind (arith, nat_tests, named_below, of_named)
 fits s r Void b = b.1
 fits s r (Empty unit sn) b = (named_below (length s.sets) r unit b.1, of_named (length s.sets) r unit None (held_by s r) b.1 ∙ b.2)
 fits s r (Abort unit ticket) b = (named_below (length s.sets) r unit b.1, of_named (length s.sets) r unit None (live_by s r) b.1 ∙ b.2)
@@ -60,14 +53,10 @@ pub fits_arrival : (s : Core) (r : Request) → Fits s r (arrival_by s r)
 fits_arrival s r = cond_both (opcode r == 0x02 && may_wait r) _ _ (Fits s r) (λ is. unless_refused (refusal_by s r) (waiting (and_second (opcode r == 0x02) (may_wait r) is))) (λ is. fits_deed s r)
   where
     waiting : may_wait r ≡ true → Fits s r (waits_by s r)
-    waiting may =
-        cond_both (nat_lt (number_expected s.window + room_of s.window) (lift (number_expected s.window) (cmd_sn r))) _ _ (Fits s r) (λ is. tt) (λ is.
-        cond_both (not (nat_lt (number_expected s.window) (lift (number_expected s.window) (cmd_sn r)))) _ _ (Fits s r) (λ is. fits_function s r) (λ ahead.
-        cond_both (nat_le MOST_WAITING (waiting_in s.waiting (connection_of r))) _ _ (Fits s r) (λ is. tt) (λ few. record { may = may; ahead = grind (arith, nat_tests, ahead); few = grind (arith, nat_tests, few) })))
+    waiting may = grind (arith, nat_tests, cond_both, fits_function)
 
     unless_refused : (x : Option Answer) → Fits s r (waits_by s r) → Fits s r (elim x [ Some y ↦ Reply y | None ↦ waits_by s r ])
-    unless_refused (Some y) fits = tt
-    unless_refused None fits = fits
+    unless_refused x x1 = grind (arith, nat_tests)
 
 -- ---- a number is voided, or a held request is taken out
 
@@ -78,18 +67,12 @@ is_of_number _ = false
 
 -- only an immediate function voids a number, which is in the window
 pub missing_parts : (s : Core) (r : Request) → missing_by s r ≡ true → (is_immediate r ≡ true) × IsInside (place_in s.window (ref_cmd_sn r))
-missing_parts s r missing = by_place (place_in s.window (ref_cmd_sn r)) missing
-  where
-    by_place : (p : Place) → missing_at s r p ≡ true → (is_immediate r ≡ true) × IsInside p
-    by_place Outside is = absurd (false≢true is)
-    by_place (Inside k) is = (and_first (is_immediate r) (nat_lt (number_expected s.window + k) (lift (number_expected s.window) (cmd_sn r))) is, tt)
+missing_parts s r missing = grind (arith, nat_tests, false≢true, and_first)
 
 -- there is room for it
 pub ready : (s : Core) (r : Request) (d : Deed) → Fits s r d → (is_immediate r ≡ false → HasRoom s.window) → (is_immediate r ≡ true → s.window.turned + count_by is_some s.window.places < s.taken)
     → s.entered + count_by is_some s.window.places < s.taken → is_known (connection_of r) s.conns ≡ true → IsReady s r d
-ready s r (Enter unit) fits space turned entered known = record { space = space; entered = entered; known = known }
-ready s r Void fits space turned entered known = (turned (missing_parts s r fits).0, entered)
-ready s r _ fits space turned entered known = tt
+ready s r d x3 space turned entered known = grind (arith, nat_tests, missing_parts)
 
 -- ---- a function over a whole set
 
@@ -112,11 +95,7 @@ pub record Whole (s : Core) (r : Request) (number : ℤ) (event : ℕ) (d : Deed
   pub of_no_number : is_of_number d ≡ false
 
 pub whole : (s : Core) (r : Request) (number : ℤ) (event : ℕ) (d : Deed) → is_whole d ≡ true → Whole s r number event d
-whole s r number event Nothing is = record { ready = tt; none_emptied = refl; places = refl; of_no_number = refl }
-whole s r number event (Reply x) is = record { ready = tt; none_emptied = refl; places = refl; of_no_number = refl }
-whole s r number event (AbortEarlier unit) is = record { ready = tt; none_emptied = refl; places = refl; of_no_number = refl }
-whole s r number event (AbortAll unit) is = record { ready = tt; none_emptied = refl; places = refl; of_no_number = refl }
-whole s r number event _ is = absurd (false≢true is)
+whole s r number event d is = grind (arith, nat_tests, ready, false≢true)
 
 -- ---- what stays
 

@@ -3,10 +3,10 @@ use Rattle.std.proofs.Common.{◌≡◌, ℕ, ◌==◌, ◌&&◌, ◌||◌, not,
 use Rattle.std.proofs.lemmas.Bool.{eqb-true}
 use Rattle.std.proofs.lemmas.List.{append-nil, map-append}
 use Rattle.iscsi_tasks.specs.declared.member.Member.{Member}
-use Rattle.iscsi_tasks.specs.Sets.{is_free, queued, is_free_among, looked_at, after_moment, is_new, next_in, given_in}
+use Rattle.iscsi_tasks.specs.Sets.{is_free_among, looked_at, after_moment, is_new, next_in, given_in}
 use Rattle.iscsi_history.specs.declared.effect.Effect.TheVariants.{Enable}
 use Rattle.iscsi_history.specs.rules.Settings.{Setting}
-use Rattle.iscsi_history.specs.rules.Trace.{Command, Mark, Trace, live, live_in, is_among, queued_of, was_free}
+use Rattle.iscsi_history.specs.rules.Trace.{Command, Mark, Trace, live, live_in, was_free}
 use Rattle.iscsi_session.specs.private.Standing.{task_of, member_of, set_of}
 use Rattle.iscsi_session.specs.private.Steps.{as_given, enable_effects, enable_effect}
 use Rattle.iscsi_history.proofs.BoolLemmas.{and_parts, or_comm}
@@ -14,18 +14,14 @@ use Rattle.iscsi_history.proofs.ListLemmas.{list_all-filter, all_of_filter, filt
 use Rattle.iscsi_history.proofs.MomentLemmas.{enables}
 use Rattle.iscsi_history.proofs.NewlyLemmas.{all_here, filter-twice, is_here, new_in, new_in-more, was_free-stays}
 use Rattle.iscsi_history.proofs.EnabledItems.{was_before}
+use Rattle.std.proofs.lemmas.Bool.Decides.{nat_tests}
 
 -- ---- a set, after a moment
 
 -- a command's member, before the moment is noted, and after
 noted_one : (o : Setting) (t : Trace) (item : List Mark) (unit : ℕ) (c : Command) → is_here unit (live_in unit (item ∷ t)) c ≡ true
     → (was_free c t || is_free_among (task_of o c) (map (member_of o t) (live_in unit (item ∷ t)))) ≡ was_free c (item ∷ t)
-noted_one o t item unit c here =
-    let parts = and_parts _ _ here in
-    let cs : List Command = live_in unit (item ∷ t) in
-    ap (λ qs. was_free c t || is_free (queued_of c) qs) (map-map (λ (m : Member). queued m.task) (member_of o t) cs) ∙ or_comm (was_free c t) (is_free (queued_of c) (map queued_of cs))
-    ∙ ap (λ b. (b && is_free (queued_of c) (map queued_of cs)) || was_free c t) (sym parts.1)
-    ∙ ap (λ u. (is_among c.ticket (live_in u (item ∷ t)) && is_free (queued_of c) (map queued_of (live_in u (item ∷ t)))) || was_free c t) (sym (eqb-true c.unit unit parts.0))
+noted_one o t item unit c here = grind (arith, nat_tests, and_parts, map-map, or_comm, eqb-true)
 
 -- a member, before the commands that became enabled are given
 abbrev noted_member : Setting → Trace → List Mark → Command → Member

@@ -1,5 +1,5 @@
 -- The commands that the effects show as enabled are those that the rule enables, after one item more.
-use Rattle.std.proofs.Common.{◌≡◌, ℕ, ◌<◌, ◌==◌, ◌&&◌, ◌||◌, not, cond, Bool, true, false, List, [], ◌∷◌, ◌++◌, filter, refl, ap, sym, subst, ◌∙◌, arith}
+use Rattle.std.proofs.Common.{◌≡◌, ℕ, ◌<◌, ◌==◌, ◌&&◌, ◌||◌, not, cond, Bool, false, List, [], ◌∷◌, ◌++◌, filter, refl, ap, sym, ◌∙◌, arith}
 use Rattle.std.specs.List.{list_any}
 use Rattle.std.proofs.lemmas.Bool.{eqb-true}
 use Rattle.std.proofs.lemmas.List.{append-nil}
@@ -14,6 +14,7 @@ use Rattle.iscsi_history.proofs.NewlyLemmas.{new_in-more}
 use Rattle.iscsi_session.proofs.CommandParts.{live-entered, live_in-entered, live_in-elsewhere}
 use Rattle.iscsi_history.proofs.EnabledItems.{newly-one, EnabledSoFar-more, Exact, enabled_once, exact_now, same_enabled, shown-before, shown-item}
 use Rattle.iscsi_history.proofs.CommandItems.{EntersOne}
+use Rattle.std.proofs.lemmas.Bool.Decides.{nat_tests}
 
 -- ---- a command enters
 
@@ -30,19 +31,11 @@ exact-entered o lives n item t c a e inside new x k =
     more unit = cond (unit == c.unit) (c ∷ []) []
 
     now : (unit : ℕ) → live_in unit (item ∷ t) ≡ live_in unit t ++ more unit
-    now unit = by_unit (unit == c.unit) refl
-      where
-        by_unit : (b : Bool) → (unit == c.unit) ≡ b → live_in unit (item ∷ t) ≡ live_in unit t ++ cond b (c ∷ []) []
-        by_unit true is = subst (λ u. live_in u (item ∷ t) ≡ live_in u t ++ c ∷ []) (sym (eqb-true unit c.unit is)) (live_in-entered o lives n item t c a e)
-        by_unit false is = live_in-elsewhere o lives n item t c a e unit is ∙ sym (append-nil (live_in unit t))
+    now unit = grind (arith, nat_tests, eqb-true, live_in-entered, live_in-elsewhere, append-nil)
 
     by_ticket : (b free before was : Bool) → (c.ticket == k) ≡ b → before ≡ false
         → ((was || is_among k (cond (free && not before) (c ∷ []) [])) && not (has (leaves_ticket k) t)) ≡ ((was && not (has (leaves_ticket k) t)) || (((c.ticket == k) && free) || false))
-    by_ticket true true before was is none =
-        let unleft : has (leaves_ticket k) t ≡ false = rw (← eqb-true c.ticket k is) (a.unleft c.ticket (omega (arith, e.ticket))) in
-        rw (none, is, unleft) (grind arith)
-    by_ticket true false before was is none = rw is (grind arith)
-    by_ticket false free before was is none = rw is (grind arith)
+    by_ticket b free before was is none = grind (arith, nat_tests, eqb-true)
 
 -- ---- each moment
 

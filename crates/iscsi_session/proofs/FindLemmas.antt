@@ -1,5 +1,5 @@
 -- What ABORT TASK finds: a session's lookups against those of the definitions.
-use Rattle.std.proofs.Common.{◌≡◌, ℕ, zero, suc, ◌+◌, ◌-◌, ◌<◌, ◌≤◌, ◌==◌, ◌&&◌, ⊎_elim, cond, Bool, true, false, List, [], ◌∷◌, length, map, filter, find, take, get_or, position, Option, Some, None, option_map, nat_lt, refl, ap, ◌∙◌, arith}
+use Rattle.std.proofs.Common.{◌≡◌, ℕ, suc, ◌+◌, ◌-◌, ◌<◌, ◌≤◌, ◌==◌, ◌&&◌, ⊎_elim, cond, Bool, true, false, List, [], ◌∷◌, length, map, filter, find, take, get_or, position, Option, Some, None, option_map, nat_lt, refl, ap, ◌∙◌, arith}
 use Rattle.std.specs.List.{range_with_len}
 use Rattle.std.proofs.lemmas.Bool.{cases_lt}
 use Rattle.std.proofs.lemmas.Bool.Decides.{nat_tests}
@@ -30,12 +30,10 @@ module _ (o : Setting) (t : Trace) (tag unit below : ℕ) where
 
   one : (b : Bool) (a : Arrival) (as' : List Arrival) (e : ℕ) (y : Option ℕ) → a.number ≡ e → option_map (λ (h : Arrival). h.number) (first_of as') ≡ option_map (λ k. e + 1 + k) y
       → option_map (λ (h : Arrival). h.number) (first_of (cond b (a ∷ as') as')) ≡ option_map (λ k. e + k) (cond b (Some 0) (option_map suc y))
-  one true a as' e y is after = let same : a.number ≡ e + 0 = omega (arith, is) in rw same
-  one false a as' e y is after = rw after (fuse e y)
+  one b a as' e y is after = grind (arith, nat_tests, fuse)
 
   take-none : {A : Type 0} (n : ℕ) → take n (let xs : List A = [] in xs) ≡ []
-  take-none zero = refl
-  take-none (suc n) = refl
+  take-none n = grind (arith, nat_tests)
 
   -- the number that is found is that of the place that is found
   pub found_numbers : (ps : List (Option (Option HeldRequest))) (e : ℕ) → unit < o.units → ((k : ℕ) → k < length ps → get_or ps k None ≡ place_of t (e + k))
@@ -86,12 +84,7 @@ held_command-is o w t tag unit below sn h exp own inside = rw (exp, ← h.size, 
 
 find-two : (p : Live → Bool) (q r : Command → Bool) (cs : List Command) → ((c : Command) → p (kept c) ≡ (q c && r c)) → find p (map kept cs) ≡ option_map kept (first_of (filter r (filter q cs)))
 find-two p q r [] h = refl
-find-two p q r (c ∷ cs) h = by_tests (q c) (r c) refl refl (find-two p q r cs h)
-  where
-    by_tests : (b d : Bool) → q c ≡ b → r c ≡ d → find p (map kept cs) ≡ option_map kept (first_of (filter r (filter q cs))) → find p (map kept (c ∷ cs)) ≡ option_map kept (first_of (filter r (filter q (c ∷ cs))))
-    by_tests false d qs rs rest = rw (h c, qs) rest
-    by_tests true false qs rs rest = rw (h c, qs, rs) rest
-    by_tests true true qs rs rest = rw (h c, qs, rs)
+find-two p q r (c ∷ cs) h = grind (arith, nat_tests, find-two p q r cs h)
 
 -- the live command with a tag and a unit
 pub tagged_in-is : (s : Core) (t : Trace) (tag unit : ℕ) → s.live ≡ map kept (live t) → tagged_in s tag unit ≡ option_map kept (live_with_tag t tag unit)

@@ -41,7 +41,7 @@ use Rattle.iscsi_session.proofs.TurnLemmas.{turned_core, numbered_held, turn-beg
 use Rattle.iscsi_wire.specs.declared.reply.Reply.TheVariants.{Task as TaskReply}
 use Rattle.iscsi_tasks.specs.declared.cover.Cover.TheVariants.{All as AllOfThem, Below}
 use Rattle.iscsi_history.specs.declared.deed.Answer.{Answer}
-use Rattle.iscsi_history.specs.declared.deed.Answer.TheVariants.{Reject, Respond}
+use Rattle.iscsi_history.specs.declared.deed.Answer.TheVariants.{Respond}
 use Rattle.iscsi_history.specs.declared.deed.Deed.{Deed}
 use Rattle.iscsi_history.specs.declared.deed.Deed.TheVariants.{Nothing, Wait, Reply, Enter, Void, Empty, Abort, AbortEarlier, AbortAll, CloseConn, CloseSession}
 use Rattle.iscsi_history.specs.rules.Execution.{exp_of, max_of, reply_of, unit_named}
@@ -197,10 +197,7 @@ module _ (o : Setting) (s : Core) (t : Trace) (m : Mark) (e : Effect) (a : Arriv
 -- what is known of a request that begins to execute meets what it does
 meets : (o : Setting) (s : Core) (t : Trace) (m : Mark) (e : Effect) (a : Arrival) (b : Begun o s t m e a) → number_by s a.request ≡ a.number → event_by s a.request ≡ cond (is_immediate a.request) a.event 0 → Found o s ((m ∷ []) ∷ t) a → (d : Deed)
     → (is_of_number d ≡ true → Windowed o s t m) → Meets o s t m e a b d
-meets o s t m e a b number_is event_is x (Enter unit) w = (number_is, event_is)
-meets o s t m e a b number_is event_is x Void w = (x, w refl)
-meets o s t m e a b number_is event_is x (Empty unit sn) w = (x, w refl)
-meets o s t m e a b number_is event_is x _ w = tt
+meets o s t m x4 a b number_is event_is x d w = grind (arith, nat_tests)
 
 position_of : (o : Setting) (s : Core) (a : Arrival) → s.window.first ≡ o.first → number_by s a.request ≡ a.number → position_by s a.request ≡ pos a.number -ℤ pos (number_of_first o.first)
 position_of o s a first number = rw (number, first)
@@ -274,22 +271,14 @@ waited-item o s t w h found =
     subst (λ item. Follows o t item (function_taken s (Some w))) (sym is) done
   where
     whole_meets : (o : Setting) (s : Core) (t : Trace) (a : Arrival) (b : Begun o s t (Executes a) (Immediate a.request) a) (d : Deed) → is_whole d ≡ true → Meets o s t (Executes a) (Immediate a.request) a b d
-    whole_meets o s t a b (Enter unit) is = absurd (false≢true is)
-    whole_meets o s t a b Void is = absurd (false≢true is)
-    whole_meets o s t a b (Empty unit sn) is = absurd (false≢true is)
-    whole_meets o s t a b _ is = tt
+    whole_meets o s t a b d is = grind (arith, nat_tests, false≢true)
 
 -- ---- at its arrival
 
 -- no function that waits arrived in this event
 none_of_event : (first index taken : ℕ) (ws : List Waiting) → taken ≡ index + 1 → list_all (λ w. nat_lt (w.event + 1) taken) ws ≡ true → filter (λ b. not (b.event == index)) (map (arrival_waiting first) ws) ≡ map (arrival_waiting first) ws
 none_of_event first index taken [] is all = refl
-none_of_event first index taken (w ∷ ws) is all =
-    let parts = and_parts (nat_lt (w.event + 1) taken) (list_all (λ v. nat_lt (v.event + 1) taken) ws) all in
-    let lt : w.event + 1 < taken = grind (arith, nat_tests, parts.0) in
-    let less : w.event < index = omega (arith, lt, is) in
-    let apart : (w.event == index) ≡ false = grind (arith, nat_tests) in
-    rw (apart, none_of_event first index taken ws is parts.1)
+none_of_event first index taken (w ∷ ws) is all = grind (arith, nat_tests, none_of_event first index taken ws is, and_parts)
 
 -- an immediate request of a settled session
 module _ (o : Setting) (s : Core) (index : ℕ) (t : Trace) (r : Request) (h : Settled o s t) (immediate : is_immediate r ≡ true) (known : is_known (connection_of r) o.conns ≡ true) (taken : s.taken ≡ index + 1) (waited : list_all (λ w. nat_lt (w.event + 1) s.taken) s.waiting ≡ true) where
@@ -365,10 +354,7 @@ module _ (o : Setting) (s : Core) (index : ℕ) (t : Trace) (r : Request) (h : S
       many = rw h.agrees.waiting.list (count_by-map (λ (b : Arrival). connection_of b.request == connection_of r) (arrival_waiting o.first) s.waiting)
 
       by_tests : (b c d : Bool) → nat_lt (e + room_of s.window) n ≡ b → nat_lt e n ≡ c → nat_le 4 (waiting_in s.waiting (connection_of r)) ≡ d → Becomes (waiting_item o t a) (waits_by s r)
-      by_tests true c d f g k = rw (far, f) (becomes_done (Reply (Respond 255)) tt (λ e. cc))
-      by_tests false false d f g k = rw (far, near, f, g) (subst (Becomes (execution o t (Executes a) a)) executed becomes_now)
-      by_tests false true true f g k = rw (far, near, many, f, g, k) (becomes_done (Reply (Reject 6)) tt (λ e. cc))
-      by_tests false true false f g k = rw (far, near, many, f, g, k) (becomes_waiting may g)
+      by_tests b c d f g k = grind (arith, nat_tests, far, becomes_done, near, becomes_now, many, becomes_waiting)
 
   pub immediate-item : Follows o t (immediate_item o t (arrival_of o index t r)) (immediate_taken s r (arrival_by s r))
   immediate-item = by_function (opcode r == 0x02 && may_wait r) refl
@@ -380,8 +366,7 @@ module _ (o : Setting) (s : Core) (index : ℕ) (t : Trace) (r : Request) (h : S
       Chosen x y = Becomes (elim (option_map (reply_of r) x) [ Some reply ↦ execution o t (Executes a) a | None ↦ waiting_item o t a ]) (elim y [ Some z ↦ Reply z | None ↦ waits_by s r ])
 
       by_refusal : (opcode r == 0x02) ≡ true → may_wait r ≡ true → (y : Option Answer) → refusal_by s r ≡ y → Chosen y y
-      by_refusal is may (Some y) refused = let executed : deed_by s r ≡ Reply y = rw (is, refused) in subst (Becomes (execution o t (Executes a) a)) executed becomes_now
-      by_refusal is may None none = becomes_by_number may (rw (is, none))
+      by_refusal is may y refused = grind (arith, nat_tests, becomes_now, becomes_by_number)
 
       by_function : (v : Bool) → (opcode r == 0x02 && may_wait r) ≡ v → Becomes (immediate_item o t a) (arrival_by s r)
       by_function false is = rw is becomes_now

@@ -1,7 +1,7 @@
 -- The live commands that a session keeps, beside its task sets.
-use Rattle.std.proofs.Common.{◌≡◌, ℕ, ◌+◌, ◌<◌, ◌==◌, ◌&&◌, ⊎_elim, cond, Bool, true, false, nat_lt, nat_le, List, [], ◌∷◌, ◌++◌, length, map, filter, get_or, set, Option, Some, None, refl, ap, ◌∙◌, arith, length-set, eq-eqb}
+use Rattle.std.proofs.Common.{◌≡◌, ℕ, ◌+◌, ◌<◌, ◌==◌, ◌&&◌, cond, Bool, true, false, nat_lt, nat_le, List, [], ◌∷◌, ◌++◌, length, map, filter, get_or, set, Option, Some, None, refl, arith, length-set, eq-eqb}
 use Rattle.std.specs.List.{list_all}
-use Rattle.std.proofs.lemmas.Bool.{cases_eq, cond_both, leb-true}
+use Rattle.std.proofs.lemmas.Bool.{cond_both, leb-true}
 use Rattle.std.proofs.lemmas.Bool.Decides.{nat_tests}
 use Rattle.std.proofs.lemmas.List.{append-nil, map-append, get_or-set_same, get_or-set_other}
 use Rattle.std.proofs.lemmas.List.Elements.{filter-append}
@@ -11,7 +11,7 @@ use Rattle.iscsi_tasks.specs.declared.task.Task.{Task}
 use Rattle.iscsi_tasks.specs.declared.member.Member.{Member}
 use Rattle.std.specs.List.{list_any}
 use Rattle.iscsi_history.proofs.ApartLemmas.{eq_sym}
-use Rattle.iscsi_tasks.specs.Sets.{is_enabled_in, Members, opened, entered_to, after_moment, given_by}
+use Rattle.iscsi_tasks.specs.Sets.{is_enabled_in, Members, opened, entered_to, given_by}
 use Rattle.iscsi_commands.specs.declared.live.Live.{Live}
 use Rattle.iscsi_session.specs.private.Standing.{Match, are_ascending, are_within, tickets_of, tickets_in}
 use Rattle.iscsi_session.specs.private.Steps.{enabled_of, covers_ticket, has_covered}
@@ -24,24 +24,17 @@ use Rattle.iscsi_history.proofs.SetLemmas.{tickets-given_in, tickets-moment}
 -- ---- no call but entering and leaving changes the tickets
 
 tickets-entered : (s : Members) (task : Task) → tickets_of (given_by (entered_to s task)) ≡ tickets_of s ++ task.ticket ∷ []
-tickets-entered s task =
-    let newcomer : Member = record { task = task; enabled = false; given = false } in
-    tickets-given_in (after_moment (s.list ++ newcomer ∷ [])) ∙ tickets-moment (s.list ++ newcomer ∷ []) ∙ map-append (λ (m : Member). m.task.ticket) s.list (newcomer ∷ [])
+tickets-entered s task = grind (arith, nat_tests, tickets-given_in, tickets-moment, map-append)
 
 -- one set is another now, and the commands of the other units are as they were
 pub match_set : (sets : List Members) (lives left : List Live) (unit : ℕ) (new : Members) → unit < length sets → Match sets lives → tickets_of new ≡ tickets_in unit left
     → ((u : ℕ) → (u == unit) ≡ false → tickets_in u left ≡ tickets_in u lives) → Match (set sets unit new) left
-match_set sets lives left unit new inside m here elsewhere = λ u lt.
-    ⊎_elim
-    (λ (same : u ≡ unit). rw (same, get_or-set_same sets unit new (opened 0) inside) here)
-    (λ other. rw (get_or-set_other sets unit u new (opened 0) other, elsewhere u (let no : (u == unit) ≡ false = grind (arith, nat_tests) in no)) (m u (omega (arith, length-set sets unit new, lt))))
-    (cases_eq u unit)
+match_set sets lives left unit new inside m here elsewhere = grind (arith, nat_tests, get_or-set_same, get_or-set_other, length-set)
 
 -- ---- a command enters
 
 tickets_in-push : (unit : ℕ) (lives : List Live) (l : Live) → tickets_in unit (lives ++ l ∷ []) ≡ tickets_in unit lives ++ map (λ (x : Live). x.ticket) (cond (l.unit == unit) (l ∷ []) [])
-tickets_in-push unit lives l =
-    ap (map (λ (x : Live). x.ticket)) (filter-append (λ (x : Live). x.unit == unit) lives (l ∷ [])) ∙ map-append (λ (x : Live). x.ticket) (filter (λ (x : Live). x.unit == unit) lives) (cond (l.unit == unit) (l ∷ []) [])
+tickets_in-push unit lives l = grind (arith, nat_tests, filter-append, map-append)
 
 pub Match-entered : (sets : List Members) (lives : List Live) (l : Live) (task : Task) → Match sets lives → l.unit < length sets → task.ticket ≡ l.ticket
     → Match (set sets l.unit (given_by (entered_to (get_or sets l.unit (opened 0)) task))) (lives ++ l ∷ [])
@@ -56,19 +49,10 @@ is_within n units l = nat_le l.ticket n && nat_lt l.unit units
 
 pub ascending-push : (n units : ℕ) (lives : List Live) (l : Live) → are_ascending lives ≡ true → are_within n units lives ≡ true → n < l.ticket → are_ascending (lives ++ l ∷ []) ≡ true
 ascending-push n units [] l up within later = refl
-ascending-push n units (x ∷ lives) l up within later =
-    let ups = and_parts _ _ up in
-    let ins = and_parts _ _ within in
-    and_both (list_all (λ (y : Live). nat_lt x.ticket y.ticket) (lives ++ l ∷ [])) (are_ascending (lives ++ l ∷ []))
-    (list_all-push (λ (y : Live). nat_lt x.ticket y.ticket) lives l ups.0 (before x ins.0))
-    (ascending-push n units lives l ups.1 ins.1 later)
-  where
-    before : (y : Live) → is_within n units y ≡ true → nat_lt y.ticket l.ticket ≡ true
-    before y within = grind (arith, nat_tests)
+ascending-push n units (x ∷ lives) l up within later = grind (arith, nat_tests, ascending-push n units lives l, and_parts, and_both, list_all-push)
 
 pub within-push : (n units : ℕ) (lives : List Live) (l : Live) → are_within n units lives ≡ true → l.ticket ≡ n + 1 → l.unit < units → are_within (n + 1) units (lives ++ l ∷ []) ≡ true
-within-push n units lives l within ticket inside =
-    list_all-push (is_within (n + 1) units) lives l (weaker (is_within n units) (is_within (n + 1) units) lives (λ x h. grind (arith, nat_tests)) within) (grind (arith, nat_tests))
+within-push n units lives l within ticket inside = grind (arith, nat_tests, list_all-push, weaker)
 
 -- no member of a set is newer than the last command that entered
 pub newest_in : (sets : List Members) (lives : List Live) (n units unit : ℕ) → Match sets lives → are_within n units lives ≡ true → unit < length sets
@@ -86,14 +70,11 @@ newest_in sets lives n units unit m within inside = λ k d lt.
 
 pub ascending-kept : (p : Live → Bool) (lives : List Live) → are_ascending lives ≡ true → are_ascending (filter p lives) ≡ true
 ascending-kept p [] up = refl
-ascending-kept p (x ∷ lives) up =
-    let ups = and_parts _ _ up in
-    cond_both (p x) _ _ (λ ls. are_ascending ls ≡ true) (λ is. and_both _ _ (list_all-filter p (λ (y : Live). nat_lt x.ticket y.ticket) lives ups.0) (ascending-kept p lives ups.1)) (λ is. ascending-kept p lives ups.1)
+ascending-kept p (x ∷ lives) up = grind (arith, nat_tests, ascending-kept p lives, and_parts, cond_both, and_both, list_all-filter)
 
 -- the command that is enabled was found by its ticket
 pub enabled_found : (sets : List Members) (k : ℕ) (x : Option Live) (l : Live) → enabled_of sets k x ≡ Some l → x ≡ Some l
-enabled_found sets k None l h = absurd cc
-enabled_found sets k (Some y) l h = grind arith
+enabled_found sets k x l h = grind (arith, nat_tests)
 
 -- and is in the set of its unit
 pub enabled_covered : (sets : List Members) (k : ℕ) (x : Option Live) (l : Live) → enabled_of sets k x ≡ Some l → has_covered (covers_ticket k) (get_or sets l.unit (opened 0)) ≡ true
@@ -105,5 +86,4 @@ enabled_covered sets k (Some y) l h = by_test (is_enabled_in k (get_or sets y.un
     among (m ∷ ms) is = grind (arith, among ms)
 
     by_test : (b : Bool) → is_enabled_in k (get_or sets y.unit (opened 0)).list ≡ b → cond b (Some y) None ≡ Some l → has_covered (covers_ticket k) (get_or sets l.unit (opened 0)) ≡ true
-    by_test true is here = let same : y ≡ l = cc in rw (← same) (among (get_or sets y.unit (opened 0)).list is)
-    by_test false is here = absurd cc
+    by_test b is here = grind (arith, nat_tests, among)

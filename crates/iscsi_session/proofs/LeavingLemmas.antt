@@ -34,13 +34,13 @@ use Rattle.iscsi_session.proofs.CommandParts.{CommandsAgree-left}
 use Rattle.iscsi_session.proofs.SetParts.{set-changed}
 use Rattle.iscsi_session.proofs.AgreeLemmas.{units_live, Lasting}
 use Rattle.iscsi_session.proofs.ExecutionLemmas.{Begun, Follows}
+use Rattle.std.proofs.lemmas.Bool.Decides.{nat_tests}
 
 -- ---- the window
 
 -- fewer are unfinished
 pub WindowAgrees-fewer : (o : Setting) (w : Arrived) (t : Trace) (n : ℕ) → n ≤ w.unfinished → WindowAgrees o w t → WindowAgrees o (with_unfinished w n) t
-WindowAgrees-fewer o w t n less a =
-    search (arith, a.free)
+WindowAgrees-fewer o w t n less a = grind (arith, nat_tests)
 
 -- the numbered live commands are the unfinished ones
 pub numbered_live : (o : Setting) (lives : List Live) (n : ℕ) (t : Trace) → CommandsAgree o lives n t → count_by is_numbered lives ≡ unfinished t
@@ -93,8 +93,7 @@ leaving_item o t m a unit covers = m ∷ (map Leaves (covered_in o t unit covers
 module _ (o : Setting) (t : Trace) (old : Members) (unit : ℕ) (list_is : old.list ≡ set_of o t unit) (covers : Task → Bool) where
   -- the tickets that leave are those of the covered commands
   pub gone_tickets : (k : ℕ) → is_gone covers old k ≡ is_among k (covered_in o t unit covers)
-  gone_tickets k =
-      rw (list_is, list_any-map, any_filter (λ (c : Command). c.ticket == k) (λ c. covers (task_of o c))) (any_same _ _ (live_in unit t) (λ c. and_comm (c.ticket == k) (covers (task_of o c))))
+  gone_tickets k = grind (arith, nat_tests, list_is, list_any-map, any_filter, any_same, and_comm)
 
   -- they are all of the unit
   gone_in_unit : are_apart (live t) ≡ true → are_all_in unit (is_gone covers old) (live t) ≡ true

@@ -1,5 +1,5 @@
 -- Covered commands of a unit leave: what is left of its set and of the live commands.
-use Rattle.std.proofs.Common.{◌≡◌, ℕ, zero, suc, ◌+◌, ◌<◌, ◌≤◌, ◌==◌, ◌&&◌, ◌||◌, ◌++◌, not, ⊎_elim, cond, Bool, true, false, nat_lt, List, [], ◌∷◌, length, map, filter, count_by, All, take, get_or, set, Option, Some, None, is_some, refl, ap, sym, arith, ◌∙◌, eq-eqb}
+use Rattle.std.proofs.Common.{◌≡◌, ℕ, zero, suc, ◌+◌, ◌<◌, ◌≤◌, ◌==◌, ◌&&◌, ◌||◌, ◌++◌, not, ⊎_elim, cond, Bool, true, false, nat_lt, List, [], ◌∷◌, length, map, filter, count_by, All, take, get_or, set, None, is_some, refl, ap, sym, arith, ◌∙◌, eq-eqb}
 use Rattle.std.specs.Prelude.{IsSome}
 use Rattle.std.specs.List.{list_any, list_all, AllPairs}
 use Rattle.std.proofs.lemmas.Bool.{cases_Bool, eqb-true, false≢true, ltb-true, ne_eqb}
@@ -94,9 +94,7 @@ ungiven_in-set (x ∷ sets) (suc unit) new lt = omega (arith, ungiven_in-set set
 
 -- no more is owed than was
 pub ungiven_in-staying : (sets : List Members) (unit : ℕ) (covers : Task → Bool) → unit < length sets → ungiven_in (set sets unit (set_staying covers (get_or sets unit (opened 0)))) ≤ ungiven_in sets
-ungiven_in-staying sets unit covers inside =
-    let old : Members = get_or sets unit (opened 0) in
-    omega (arith, ungiven_in-set sets unit (set_staying covers old) inside, ungiven-staying covers old)
+ungiven_in-staying sets unit covers inside = grind (arith, nat_tests, ungiven_in-set, ungiven-staying)
 
 -- ---- tickets that go up
 
@@ -108,12 +106,8 @@ all_in (x ∷ ts) = and_both _ _ (or_first (x == x) (list_any (λ u. u == x) ts)
 pairs_up : (ts : List ℕ) → rising ts ≡ true → AllPairs (λ (a b : ℕ). a < b) ts
 pairs_up [] up i j d lt l = absurd (omega (arith, l))
 pairs_up (t ∷ ts) up i zero d lt l = absurd (omega (arith, lt))
-pairs_up (t ∷ ts) up zero (suc j) d lt l =
-    let parts = and_parts (list_all (λ u. nat_lt t u) ts) (rising ts) up in
-    ltb-true t (get_or ts j d) (AllPass-from_list_all (λ u. nat_lt t u) ts parts.0 j d (omega (arith, l)))
-pairs_up (t ∷ ts) up (suc i) (suc j) d lt l =
-    let parts = and_parts (list_all (λ u. nat_lt t u) ts) (rising ts) up in
-    pairs_up ts parts.1 i j d (omega (arith, lt)) (omega (arith, l))
+pairs_up (t ∷ ts) up zero (suc j) d lt l = grind (arith, nat_tests, and_parts, ltb-true, AllPass-from_list_all)
+pairs_up (t ∷ ts) up (suc i) (suc j) d lt l = grind (arith, nat_tests, pairs_up ts, and_parts)
 
 -- ---- one command after the other
 
@@ -158,9 +152,7 @@ module _ (ts : List ℕ) (k d : ℕ) (inside : k < length ts) where
 
 -- a set has no more commands than are live
 pub few_in : (now : Members) (unit : ℕ) (lives : List Live) → tickets_of now ≡ tickets_in unit lives → length now.list ≤ length lives
-few_in now unit lives match =
-    let here : List Live = filter (λ (x : Live). x.unit == unit) lives in
-    omega (arith, length-map now.list (λ (m : Member). m.task.ticket), ap length match, length-map here (λ (x : Live). x.ticket), filter-shorter (λ (x : Live). x.unit == unit) lives)
+few_in now unit lives match = grind (arith, nat_tests, length-map, filter-shorter)
 
 -- ---- the covered commands of a set, by their tickets
 
@@ -187,11 +179,7 @@ module _ (now : Members) (covers : Task → Bool) where
     where
       rising-filter : (ms : List Member) → rising (tickets ms) ≡ true → rising (tickets (filter (λ m. covers m.task) ms)) ≡ true
       rising-filter [] up = refl
-      rising-filter (x ∷ ms) up =
-          let parts = and_parts (list_all (λ u. nat_lt x.task.ticket u) (tickets ms)) (rising (tickets ms)) up in
-          let rest = rising-filter ms parts.1 in
-          let first : list_all (λ u. nat_lt x.task.ticket u) (tickets (filter (λ m. covers m.task) ms)) ≡ true = rw list_all-map (list_all-filter _ _ ms (sym (list_all-map (λ u. nat_lt x.task.ticket u) (λ (m : Member). m.task.ticket) ms) ∙ parts.0)) in
-          grind (arith, rest, first)
+      rising-filter (x ∷ ms) up = grind (arith, nat_tests, rising-filter ms, and_parts, list_all-map, list_all-filter)
 
 -- the places that are given back one after the other
 pub finished_on : (w v : Arrived) (a b c : List Live) → v ≡ finished_by w a b → count_by is_numbered a ≤ w.unfinished → count_by is_numbered c ≤ count_by is_numbered b → count_by is_numbered b ≤ count_by is_numbered a → finished_by v b c ≡ finished_by w a c
@@ -204,11 +192,7 @@ finished_none w a = ap (with_unfinished w) {y = w.unfinished} (omega arith)
 
 -- what is left of its set, and whether it was there
 pub one_leaving : (k : ℕ) (now : Members) → (set_staying (covers_ticket k) now ≡ left_by now (with_ticket k (tasks_in now))) × (is_some (with_ticket k (tasks_in now)) ≡ has_covered (covers_ticket k) now)
-one_leaving k now = by_task (with_ticket k (tasks_in now)) refl
-  where
-    by_task : (x : Option Task) → with_ticket k (tasks_in now) ≡ x → (set_staying (covers_ticket k) now ≡ left_by now x) × (is_some x ≡ has_covered (covers_ticket k) now)
-    by_task None is = rw (none_found (covers_ticket k) now.list is) (refl, refl)
-    by_task (Some task) is = rw (some_covered (covers_ticket k) now.list task is, eqb-true task.ticket k (find-found (covers_ticket k) (tasks_in now) task is)) (refl, refl)
+one_leaving k now = grind (arith, nat_tests, none_found, some_covered, eqb-true, find-found)
 
 pub one_found : (k unit : ℕ) (now : Members) (lives : List Live) → tickets_of now ≡ tickets_in unit lives → has_covered (covers_ticket k) now ≡ true → IsSome (find_ticket k lives)
 one_found k unit now lives match has = some_live k unit lives (rw (← match, list_any-map) has)

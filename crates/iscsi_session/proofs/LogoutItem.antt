@@ -38,6 +38,7 @@ use Rattle.iscsi_session.proofs.LeavingLemmas.{WindowAgrees-fewer, numbered_live
 use Rattle.iscsi_session.proofs.LoggedOutLemmas.{Keeps, left_keeps}
 use Rattle.iscsi_session.proofs.LogoutUnits.{sets_left, gone_in, live_staying, effects_leaving, unfinished_left}
 use Rattle.iscsi_session.proofs.EmptyingLemmas.{taken_requests, emptied_from-is, WindowAgrees-logged_out}
+use Rattle.std.proofs.lemmas.Bool.Decides.{nat_tests}
 
 -- ---- what the closing marks come to
 
@@ -207,8 +208,7 @@ module _ (o : Setting) (s : Core) (t : Trace) (m : Mark) (e : Effect) (a : Arriv
   }
 
   enabling : flat_map (λ unit. enable_effects unit (set_at left unit).list) (units_of left) ≡ enables (newly_enabled o t item)
-  enabling =
-      rw (units_same, map-flat_map) (flat_map_in_range _ _ 0 o.units (λ unit low high. rw (set_is unit (omega arith)) (set_after unit (omega arith)).effects))
+  enabling = grind (arith, nat_tests, units_same, map-flat_map, flat_map_in_range, set_is, set_after)
 
   -- ---- the window
 
@@ -238,8 +238,7 @@ module _ (o : Setting) (s : Core) (t : Trace) (m : Mark) (e : Effect) (a : Arriv
       rw (b.lasts.open_is, filter-twice, last_is o t closing o.conns (λ c known. known)) (list_all-same _ _ o.conns (λ d. rw (closed-same d.0 (m ∷ []) t b.closes_no)))
 
   closes_are : (x : Option ℕ) → closing_effects x ++ session_closes (still_open x s.open_conns) ≡ closes_shown o t₁ a x
-  closes_are None = rw none_stay
-  closes_are (Some closing) = grind (arith, last_open closing)
+  closes_are x = grind (arith, nat_tests, none_stay, last_open)
 
   -- what the item closes, the closing marks do
   closes : (test : Mark → Bool) → (test m || false) ≡ false → ((c : Command) → test (Leaves c) ≡ false) → ((h : Arrival) → test (Empties h) ≡ false) → has test (item ∷ t) ≡ (list_any test rest || has test t)
@@ -257,8 +256,7 @@ module _ (o : Setting) (s : Core) (t : Trace) (m : Mark) (e : Effect) (a : Arriv
   stays_open (Some closing) = by_last (is_last_open o t₁ closing) refl
     where
       by_last : (v : Bool) → is_last_open o t₁ closing ≡ v → still_open (Some closing) (open_of o t) ≡ filter (opens (Some closing)) cids
-      by_last true is =
-          nil_is _ (rw b.lasts.open_is at (last_open closing) ∙ is) ∙ sym (filter-none (opens (Some closing)) cids (λ c. rw is (and_false (is_known c o.conns))))
+      by_last true is = grind (arith, nat_tests, nil_is, last_open, filter-none, and_false)
       by_last false is = rw filter-twice (filter-same _ _ cids (λ c. grind (arith, is, eq_sym closing c)))
 
   -- ---- what waits still
@@ -271,8 +269,7 @@ module _ (o : Setting) (s : Core) (t : Trace) (m : Mark) (e : Effect) (a : Arriv
     where
       rest_waits : (x : Option ℕ) → waiting_through (closing_marks o t₁ a x) (map (arrival_waiting o.first) s.waiting)
           ≡ map (arrival_waiting o.first) (waiting_then (still_open x s.open_conns) (filter (λ w. not (is_asked x (connection_of w.request))) s.waiting))
-      rest_waits None = rw none_stay
-      rest_waits (Some closing) = grind (arith, last_open closing, filter-map (λ (c : Arrival). not (connection_of c.request == closing)) (arrival_waiting o.first) s.waiting)
+      rest_waits x = grind (arith, nat_tests, none_stay, last_open, filter-map)
 
   still_all : (test : Waiting → Bool) → list_all test s.waiting ≡ true → list_all test (logged_out s a.request scope).core.waiting ≡ true
   still_all test h = rw k.same (grind (arith, list_all-filter stays test s.waiting h))

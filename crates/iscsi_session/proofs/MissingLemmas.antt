@@ -1,5 +1,5 @@
 -- A number that is received without a request, and a held request that is taken out, in the window.
-use Rattle.std.proofs.Common.{◌≡◌, ℕ, filter_map, ne_eqb, ◌+◌, ◌-◌, ◌^◌, ◌<◌, ◌≤◌, ◌==◌, ◌&&◌, ◌||◌, ⊎_elim, cond, Bool, true, false, List, [], ◌∷◌, length, get_or, set, Option, Some, None, option_map, is_some, nat_lt, nat_le, refl, ap, sym, subst, ◌∙◌, arith, eq-eqb, length-set}
+use Rattle.std.proofs.Common.{◌≡◌, ℕ, filter_map, ne_eqb, ◌+◌, ◌-◌, ◌^◌, ◌<◌, ◌≤◌, ◌==◌, ◌||◌, ⊎_elim, Bool, true, false, List, [], ◌∷◌, length, get_or, set, Some, None, refl, ap, sym, subst, ◌∙◌, arith, eq-eqb, length-set}
 use Rattle.std.specs.List.{list_any}
 use Rattle.std.proofs.lemmas.Grind.{get_or-set_at}
 use Rattle.std.proofs.lemmas.Bool.{cases_eq, cases_lt, eqb-true}
@@ -7,8 +7,8 @@ use Rattle.std.proofs.lemmas.Bool.Decides.{nat_tests}
 use Rattle.std.proofs.lemmas.List.{append-nil, get_or-set_other}
 use Rattle.iscsi_window.specs.declared.held_request.HeldRequest.{HeldRequest}
 use Rattle.iscsi_wire.specs.Serial.{wire, lift, number_of_first}
-use Rattle.iscsi_window.specs.declared.answer.Place.TheVariants.{Inside, Outside}
-use Rattle.iscsi_window.specs.Windows.{Arrived, IsInside, number_expected, room_of, at_place, with_place, place_in, received_at, is_received_at, voided, emptied}
+use Rattle.iscsi_window.specs.declared.answer.Place.TheVariants.{Inside}
+use Rattle.iscsi_window.specs.Windows.{Arrived, IsInside, number_expected, room_of, at_place, with_place, place_in, is_received_at, voided, emptied}
 use Rattle.iscsi_history.specs.rules.Settings.{Setting}
 use Rattle.iscsi_history.specs.rules.Trace.{Arrival, Mark, Voids, Empties, Trace, shown, first_of, contains, is_received, is_emptied, held, admits_at, delivers_number}
 use Rattle.iscsi_history.specs.promises.Executed.{delivers, request_at}
@@ -68,9 +68,7 @@ WindowAgrees-clears o w item t n h v low high = record {
         get_or-set_at w.places (n - e) k (Some None) None is (omega arith) ∙ now ∙ ap (place_of (item ∷ t)) (sym at)
 
     other : (k : ℕ) → k < length w.places → (k ≡ n - e → ⊥) → get_or (set w.places (n - e) (Some None)) k None ≡ place_of (item ∷ t) (e + k)
-    other k lt differ =
-        let no : (n == e + k) ≡ false = apart (e + k) (λ same. differ (omega (arith, same))) in
-        get_or-set_other w.places (n - e) k (Some None) None differ ∙ h.inside k lt ∙ rw (v.received_is (e + k), no, or_false, v.other (e + k) no)
+    other k lt differ = grind (arith, nat_tests, apart, get_or-set_other, or_false)
 
 -- a number is received without a request
 pub WindowAgrees-voided : (o : Setting) (w : Arrived) (t : Trace) (m : Mark) (n : ℕ) (ms : List Mark) → WindowAgrees o w t → IsQuiet (m ∷ []) → IsQuiet ms → number_expected w ≤ n → n < number_expected w + room_of w → is_received t n ≡ false
@@ -136,18 +134,11 @@ WindowAgrees-emptied o w t m n h ms a q qs is low high =
 
 -- a place of the window is that of a number inside
 pub inside_place : (w : Arrived) (n x : ℕ) → number_expected w ≤ n → n < number_expected w + room_of w → lift (number_expected w) x ≡ n → place_in w x ≡ Inside (n - number_expected w)
-inside_place w n x low high is =
-    let test : (nat_le (number_expected w) n && nat_lt n (number_expected w + room_of w)) ≡ true = grind (arith, nat_tests) in
-    rw (is, test)
+inside_place w n x low high is = grind (arith, nat_tests)
 
 -- a number that has a place is in the window
 pub inside_bounds : (w : Arrived) (x : ℕ) → IsInside (place_in w x) → (number_expected w ≤ lift (number_expected w) x) × (lift (number_expected w) x < number_expected w + room_of w)
-inside_bounds w x = by_test (nat_le (number_expected w) (lift (number_expected w) x) && nat_lt (lift (number_expected w) x) (number_expected w + room_of w)) refl
-  where
-    by_test : (b : Bool) → (nat_le (number_expected w) (lift (number_expected w) x) && nat_lt (lift (number_expected w) x) (number_expected w + room_of w)) ≡ b
-        → IsInside (cond b (Inside (lift (number_expected w) x - number_expected w)) Outside) → (number_expected w ≤ lift (number_expected w) x) × (lift (number_expected w) x < number_expected w + room_of w)
-    by_test false is inside = absurd inside
-    by_test true is inside = (grind (arith, nat_tests), grind (arith, nat_tests))
+inside_bounds w x = grind (arith, nat_tests)
 
 -- a number inside is voided
 pub record VoidedAt (w : Arrived) (t : Trace) (x n : ℕ) : Type 0 where
@@ -156,17 +147,7 @@ pub record VoidedAt (w : Arrived) (t : Trace) (x n : ℕ) : Type 0 where
   pub received_is : is_received_at w (place_in w x) ≡ is_received t n
 
 pub voided_at : (o : Setting) (w : Arrived) (t : Trace) (x n : ℕ) → WindowAgrees o w t → number_expected w ≤ n → n < number_expected w + room_of w → lift (number_expected w) x ≡ n → VoidedAt w t x n
-voided_at o w t x n h low high is =
-    let place = inside_place w n x low high is in
-    let test : is_some (at_place w (n - number_expected w)) ≡ is_received t n = rw (read_inside o w t n h low (omega (arith, high))) (some_place (is_received t n) (option_map held_of (held t n))) in
-    record {
-      new = λ gone. rw (place, received_at, test, gone);
-      known = λ there. rw (place, received_at, test, there);
-      received_is = rw (place, test);
-    }
-  where
-    some_place : (b : Bool) (x : Option HeldRequest) → is_some (let y : Option (Option HeldRequest) = cond b (Some x) None in y) ≡ b
-    some_place b x = grind arith
+voided_at o w t x n h low high is = grind (arith, nat_tests, inside_place, read_inside)
 
 -- a held request is taken out
 pub emptied_at : (o : Setting) (w : Arrived) (t : Trace) (n : ℕ) (h : Arrival) → WindowAgrees o w t → n < number_expected w + 2 ^ 31 → held t n ≡ Some h → number_expected w ≤ n → n < number_expected w + length w.places

@@ -1,18 +1,17 @@
 -- A session that was opened, and how many requests one holds.
-use Rattle.std.proofs.Common.{Bool, ◌≡◌, ℕ, ◌+◌, ◌-◌, ◌*◌, ◌==◌, cond, false, List, [], ◌∷◌, length, map, filter, replicate, Option, Some, None, option_map, is_some, refl, ap, sym, ◌∙◌, arith, count_by}
+use Rattle.std.proofs.Common.{◌≡◌, ℕ, ◌+◌, ◌-◌, ◌*◌, ◌==◌, List, [], ◌∷◌, length, map, filter, replicate, Some, None, is_some, refl, ap, sym, ◌∙◌, arith, count_by}
 use Rattle.std.specs.List.{filter_map, range_with_len}
 use Rattle.std.proofs.lemmas.List.{length-map, length-replicate}
 use Rattle.iscsi_wire.specs.Serial.{wire, number_of_first}
-use Rattle.iscsi_window.specs.declared.held_request.HeldRequest.{HeldRequest}
 use Rattle.iscsi_window.specs.Windows.{number_expected, opened}
 use Rattle.iscsi_tasks.specs.Sets.{Members, opened as opened_set}
 use Rattle.iscsi_history.specs.declared.event.Event.{Event}
 use Rattle.iscsi_history.specs.rules.Settings.{Setting}
-use Rattle.iscsi_history.specs.rules.Trace.{Arrival, Trace, first_of, is_received, held, live}
+use Rattle.iscsi_history.specs.rules.Trace.{Trace, first_of, held, live}
 use Rattle.iscsi_history.specs.rules.Run.{trace_of}
 use Rattle.iscsi_history.specs.promises.Executed.{request_at}
 use Rattle.iscsi_session.specs.promises.Bounds.{held_count, effect_bound_of}
-use Rattle.iscsi_session.specs.private.Standing.{Core, Settled, StandsFor, held_of, place_of, is_held, stat_sn_on, kept, arrival_waiting}
+use Rattle.iscsi_session.specs.private.Standing.{Core, Settled, StandsFor, place_of, is_held, stat_sn_on, kept, arrival_waiting}
 use Rattle.iscsi_history.proofs.EnabledItems.{EnabledSoFar-none}
 use Rattle.iscsi_history.proofs.HeldLemmas.{unreceived_unheld}
 use Rattle.iscsi_history.proofs.ClosingItems.{all_open}
@@ -20,6 +19,7 @@ use Rattle.iscsi_history.proofs.CountLemmas.{count_places}
 use Rattle.iscsi_history.proofs.PlaceLemmas.{nothing_at}
 use Rattle.iscsi_history.proofs.SetLemmas.{set_opened}
 use Rattle.iscsi_session.proofs.AgreeLemmas.{settled_expected}
+use Rattle.std.proofs.lemmas.Bool.Decides.{nat_tests}
 
 first_number : (cid : ℕ) (cs : List (ℕ × ℕ)) → stat_sn_on cid cs ≡ wire (elim (first_of (filter (λ c. c.0 == cid) cs)) [ Some c ↦ c.1 | None ↦ 0 ] + 0)
 first_number cid [] = refl
@@ -74,10 +74,7 @@ Settled-opened o taken = record {
 -- ---- how many are held
 
 held_place : (t : Trace) (n : ℕ) → is_held (place_of t n) ≡ is_some (held t n)
-held_place t n = by_received (is_received t n) (held t n) (unreceived_unheld t n)
-  where
-    by_received : (b : Bool) (x : Option Arrival) → (b ≡ false → x ≡ None) → is_held (let p : Option (Option HeldRequest) = cond b (Some (option_map held_of x)) None in p) ≡ is_some x
-    by_received b x none = grind arith
+held_place t n = grind (arith, nat_tests, unreceived_unheld)
 
 pub bound_is : (o : Setting) (s : Core) (h : List Event) → StandsFor o s h → 12 * (count_by is_held s.window.places + length s.waiting + 1) + 2 * length s.live ≡ effect_bound_of o (trace_of o h)
 bound_is o s h stands =

@@ -6,17 +6,18 @@ use Rattle.iscsi_wire.specs.declared.request.Request.{Request}
 use Rattle.iscsi_wire.specs.Fields.{is_immediate}
 use Rattle.iscsi_window.specs.Windows.{Arrived, number_expected, at_place, advanced, advanced_if}
 use Rattle.iscsi_history.specs.declared.deed.Deed.{Deed}
-use Rattle.iscsi_history.specs.declared.deed.Deed.TheVariants.{Nothing, Wait, Enter}
+use Rattle.iscsi_history.specs.declared.deed.Deed.TheVariants.{Wait}
 use Rattle.iscsi_history.specs.rules.Deeds.{Facts, function_deed}
 use Rattle.iscsi_history.proofs.DeedTable.{through_function}
 use Rattle.iscsi_session.specs.declared.session.waiting.Waiting.{Waiting}
 use Rattle.iscsi_session.specs.private.Standing.{Core}
-use Rattle.iscsi_session.specs.private.Steps.{KeepsPace, set_at, is_numbered, is_gone, covers_ticket, completed}
+use Rattle.iscsi_session.specs.private.Steps.{KeepsPace, completed}
 use Rattle.iscsi_session.specs.private.Deeds.{facts_by, deed_by, arrival_by, Fits, position_by, executed, turn_taken, without_waiting, next_position, function_taken, done_at_once, immediate_taken}
 use Rattle.iscsi_history.proofs.ListLemmas.{filter-shorter, fewer_counted}
 use Rattle.iscsi_commands.specs.declared.live.Live.{Live}
 use Rattle.iscsi_session.proofs.DeedLemmas.{fits_deed, fits_function, fits_arrival, begins, begins_one, carried_stays, carried_counted}
 use Rattle.iscsi_session.proofs.LoggedOutLemmas.{Stays}
+use Rattle.std.proofs.lemmas.Bool.Decides.{nat_tests}
 
 pub same_expected : (w w' : Arrived) → w'.first ≡ w.first → w'.turned ≡ w.turned → number_expected w' ≡ number_expected w
 same_expected w w' first turned = cc
@@ -30,9 +31,7 @@ one_more s s' r d h = omega (arith, h, begins_one r d)
 -- ---- a function that has waited
 
 begins_none : (r : Request) (d : Deed) → is_immediate r ≡ true → begins r d ≡ 0
-begins_none r (Enter unit) immediate = rw immediate
-begins_none r Nothing immediate = refl
-begins_none r _ immediate = refl
+begins_none r d immediate = grind (arith, nat_tests)
 
 -- a function begins none
 begins_function : (f : Facts) (r : Request) → begins r (function_deed f r) ≡ 0
@@ -64,8 +63,7 @@ pub at_once_stays : (s : Core) (r : Request) (d : Deed) → Fits s r d → is_im
 at_once_stays s r d fits immediate = let h = carried_stays s r (position_by s r) (s.taken - 1) d fits in omega (arith, h, begins_none r d immediate)
 
 pub immediate_is : (s : Core) (r : Request) (d : Deed) → (d ≡ Wait → ⊥) → immediate_taken s r d ≡ done_at_once s r d
-immediate_is s r Wait other = absurd (other refl)
-immediate_is s r _ other = refl
+immediate_is s r d other = grind (arith, nat_tests)
 
 -- the numbers and the events are the same after it
 pub record Same (s s' : Core) : Type 0 where
@@ -78,14 +76,12 @@ immediate_same s r =
     by_deed d (one_more s (done_at_once s r d).core r d (carried_stays s r (position_by s r) (s.taken - 1) d (fits_arrival s r)))
   where
     by_deed : (d : Deed) → Stays 1 s (done_at_once s r d).core → Same s (immediate_taken s r d).core
-    by_deed Wait h = record { expected = refl; taken = refl }
-    by_deed _ h = record { expected = stays_expected 1 s _ h; taken = h.taken }
+    by_deed d h = grind (arith, nat_tests, stays_expected)
 
 -- ---- a completion
 
 pub pace-completed : (s : Core) (x : Option Live) (status : ℕ) → KeepsPace s.window (completed s x status).core.window
-pace-completed s None status = omega arith
-pace-completed s (Some l) status = omega (arith, fewer_counted is_numbered (λ m. not (is_gone (covers_ticket l.ticket) (set_at s l.unit) m.ticket)) s.live)
+pace-completed s x status = grind (arith, nat_tests, fewer_counted)
 
 -- ---- a turn
 

@@ -1,9 +1,9 @@
 -- Where a session stands for some events, their log keeps the promises.
-use Rattle.std.proofs.Common.{◌≡◌, ◌∙◌, List, [], ap, sym}
+use Rattle.std.proofs.Common.{◌≡◌, List}
 use Rattle.iscsi_history.specs.declared.event.Event.{Event}
 use Rattle.iscsi_history.specs.rules.Settings.{Setting}
-use Rattle.iscsi_history.specs.rules.Run.{trace_of, run_of}
-use Rattle.iscsi_history.specs.promises.Executed.{delivered, executed, executed_below}
+use Rattle.iscsi_history.specs.rules.Run.{run_of}
+use Rattle.iscsi_history.specs.promises.Executed.{delivered, executed}
 use Rattle.iscsi_history.specs.promises.Flow.{FlowsThrough}
 use Rattle.iscsi_history.specs.promises.Enabling.{EnablesByTheRule}
 use Rattle.iscsi_history.specs.promises.Closes.{ClosesHoldIn}
@@ -19,19 +19,14 @@ use Rattle.iscsi_history.proofs.OrderRuns.{keeps_order}
 use Rattle.iscsi_history.proofs.MeaningTheorem.{means_what_it_says}
 use Rattle.iscsi_session.specs.private.Standing.{Core, StandsFor}
 use Rattle.iscsi_session.proofs.AgreeLemmas.{settled_expected}
+use Rattle.std.proofs.Common.{arith}
+use Rattle.std.proofs.lemmas.Bool.Decides.{nat_tests}
 
 pub stands_delivers : (o : Setting) (s : Core) (h : List Event) → StandsFor o s h → delivered (run_of o h) ≡ executed o h
-stands_delivers o s h stands =
-    sym (log_delivers o 0 [] h)
-    ∙ stands.settled.agrees.window.delivered
-    ∙ ap (executed_below o (trace_of o h)) (sym (settled_expected o s (trace_of o h) stands.settled))
+stands_delivers o s h stands = grind (arith, nat_tests, log_delivers, settled_expected)
 
 pub stands_enables : (o : Setting) (s : Core) (h : List Event) → StandsFor o s h → EnablesByTheRule o h (run_of o h)
-stands_enables o s h stands = record {
-  whole = sym (log_effects o 0 [] h);
-  exact = stands.settled.agrees.enabled;
-  means = rule_means;
-}
+stands_enables o s h stands = grind (arith, nat_tests, log_effects, rule_means)
 
 pub stands_closes : (o : Setting) (s : Core) (h : List Event) → StandsFor o s h → ClosesHoldIn o h (run_of o h)
 stands_closes o s h stands = closes_hold_in o h stands.belong

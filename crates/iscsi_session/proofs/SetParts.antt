@@ -1,6 +1,6 @@
 -- Task sets that agree with what has happened agree after one item more.
-use Rattle.std.proofs.Common.{◌≡◌, ◌≢◌, ℕ, ◌<◌, ◌==◌, ⊎_elim, false, List, [], ◌∷◌, ◌++◌, get_or, set, sym, ◌∙◌, arith, length-set}
-use Rattle.std.proofs.lemmas.Bool.{cases_eq, ne_eqb}
+use Rattle.std.proofs.Common.{◌≡◌, ℕ, ◌<◌, ◌==◌, false, List, [], ◌∷◌, ◌++◌, get_or, set, sym, ◌∙◌, arith, length-set}
+use Rattle.std.proofs.lemmas.Bool.{ne_eqb}
 use Rattle.std.proofs.lemmas.List.{get_or-set_same, get_or-set_other}
 use Rattle.iscsi_tasks.specs.declared.task.Task.{Task}
 use Rattle.iscsi_tasks.specs.declared.member.Member.{Member}
@@ -17,6 +17,7 @@ use Rattle.iscsi_history.proofs.MomentLemmas.{enables}
 use Rattle.iscsi_history.proofs.EnabledItems.{newly-one}
 use Rattle.iscsi_history.proofs.CommandItems.{EntersOne}
 use Rattle.iscsi_session.proofs.CommandParts.{live_in-entered, live_in-elsewhere}
+use Rattle.std.proofs.lemmas.Bool.Decides.{nat_tests}
 
 pub SetsAgree-untouched : (o : Setting) (sets : List Members) (t : Trace) (item : List Mark) → Untouched item → SetsAgree o sets t → SetsAgree o sets (item ∷ t)
 SetsAgree-untouched o sets t item u a = record {
@@ -28,14 +29,7 @@ SetsAgree-untouched o sets t item u a = record {
 -- one set is another now, and the other units are as they were
 pub set-changed : (o : Setting) (sets : List Members) (t : Trace) (item : List Mark) (unit : ℕ) (new : Members) → SetsAgree o sets t → unit < o.units → new.depth ≡ o.depth → new.list ≡ set_of o (item ∷ t) unit
     → ((other : ℕ) → (other == unit) ≡ false → live_in other (item ∷ t) ≡ live_in other t) → SetsAgree o (set sets unit new) (item ∷ t)
-set-changed o sets t item unit new a inside depth list same =
-    let here_is = get_or-set_same sets unit new (opened 0) (omega (arith, a.units)) in
-    let other_is = λ (u : ℕ) (apart : u ≢ unit). get_or-set_other sets unit u new (opened 0) apart in
-    record {
-      units = length-set sets unit new ∙ a.units;
-      depths = λ u lt. ⊎_elim (λ here. cc here_is) (λ apart. cc (other_is u apart, a.depths u lt)) (cases_eq u unit);
-      lists = λ u lt. ⊎_elim (λ here. cc here_is) (λ apart. cc (other_is u apart, a.lists u lt, set_of-same o item t u (same u (ne_eqb u unit apart)))) (cases_eq u unit);
-    }
+set-changed o sets t item unit new a inside depth list same = grind (arith, nat_tests, get_or-set_same, get_or-set_other, length-set, set_of-same, ne_eqb)
 
 -- ---- a command enters
 

@@ -1,5 +1,5 @@
 -- An arrival, a completion, and an event as a whole.
-use Rattle.std.proofs.Common.{eq-eqb, inl, ◌≡◌, ℕ, ◌+◌, ◌-◌, ◌<◌, ◌≤◌, ◌==◌, ◌&&◌, ◌||◌, not, cond, Bool, true, false, List, [], ◌∷◌, ◌++◌, length, filter, Option, Some, None, option_map, refl, ap, sym, ◌∙◌, arith, nat_lt, nat_le}
+use Rattle.std.proofs.Common.{eq-eqb, inl, ◌≡◌, ℕ, ◌+◌, ◌-◌, ◌<◌, ◌≤◌, ◌==◌, ◌&&◌, ◌||◌, not, cond, Bool, true, false, List, [], ◌∷◌, ◌++◌, filter, Option, Some, None, option_map, refl, ap, sym, ◌∙◌, arith, nat_lt, nat_le}
 use Rattle.std.specs.List.{list_any}
 use Rattle.std.proofs.lemmas.Bool.Decides.{nat_tests}
 use Rattle.std.proofs.lemmas.List.{append-nil}
@@ -13,8 +13,7 @@ use Rattle.iscsi_tasks.specs.Sets.{is_enabled_in}
 use Rattle.iscsi_window.specs.Windows.{number_expected, room_of, at_place, offer_to}
 use Rattle.iscsi_history.specs.declared.effect.Why.TheVariants.{Outside, Duplicate, Stale}
 use Rattle.iscsi_history.specs.declared.event.Event.{Event}
-use Rattle.iscsi_history.specs.declared.event.Event.TheVariants.{Arrive, Done}
-use Rattle.iscsi_session.specs.declared.fault.SessionFault.TheVariants.{UnknownConnection, Exhausted}
+use Rattle.iscsi_history.specs.declared.event.Event.TheVariants.{Done}
 use Rattle.iscsi_history.specs.rules.Settings.{Setting, is_known}
 use Rattle.iscsi_history.specs.rules.Trace.{Arrival, Command, Mark, Admits, Trace, first_of, is_received, live, live_in, was_free, is_among, received}
 use Rattle.iscsi_history.specs.rules.Execution.{exp_of, max_of, unfinished, ignored, completion, sense_of_status}
@@ -102,8 +101,7 @@ outside_by e long unfinished n some few = grind (arith, nat_tests)
 
 outside_test : (o : Setting) (s : Core) (t : Trace) (n : ℕ) → Settled o s t
     → (nat_lt n (exp_of o t) || nat_lt (max_of o t) n) ≡ not (nat_le (number_expected s.window) n && nat_lt n (number_expected s.window + room_of s.window))
-outside_test o s t n h =
-    rw (settled_max o s t h, settled_expected o s t h) (outside_by (number_expected s.window) (length s.window.places) s.window.unfinished n (omega arith) h.agrees.window.few)
+outside_test o s t n h = grind (arith, nat_tests, settled_max, settled_expected, outside_by)
 
 -- what is taken: the request is held at its place, which was empty, and its turn may have come
 record Taken (o : Setting) (s : Core) (t : Trace) (a : Arrival) (core : Core) : Type 0 where
@@ -184,21 +182,16 @@ pub Settled-counted : (o : Setting) (s : Core) (t : Trace) → Settled o s t →
 Settled-counted o s t h = assumption
 
 pub comes_on-same : (o : Setting) (s : Core) (t : Trace) (e : Event) → Agrees o s t → comes_on s.conns e ≡ comes_on o.conns e
-comes_on-same o s t (Arrive conn header) a = is_known-cids conn s.conns o.conns a.replies.cids
-comes_on-same o s t (Done ticket status) a = refl
+comes_on-same o s t e a = grind (arith, nat_tests, is_known-cids)
 
 -- ---- refusals
 
 belongs-comes_on : (o : Setting) (e : Event) → belongs o e ≡ comes_on o.conns e
-belongs-comes_on o (Arrive conn header) = refl
-belongs-comes_on o (Done ticket status) = refl
+belongs-comes_on o e = grind (arith, nat_tests)
 
 pub refusal_is : (o : Setting) (s : Core) (h : List Event) (e : Event) → StandsFor o s h → refusal_by s e ≡ refusal_of o h e
 refusal_is o s h e stands = cc (comes_on-same o s (trace_of o h) e stands.settled.agrees, belongs-comes_on o e)
 
 -- an event that isn't refused
 pub taken_by : (s : Core) (e : Event) → refusal_by s e ≡ None → (comes_on s.conns e ≡ true) × (s.taken < s.events)
-taken_by s e h = by_tests (comes_on s.conns e) h
-  where
-    by_tests : (b : Bool) → cond (not b) (Some UnknownConnection) (cond (nat_lt s.taken s.events) None (Some Exhausted)) ≡ None → (b ≡ true) × (s.taken < s.events)
-    by_tests b h = grind (arith, nat_tests)
+taken_by s e h = grind (arith, nat_tests)

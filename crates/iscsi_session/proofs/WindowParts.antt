@@ -17,6 +17,7 @@ use Rattle.iscsi_history.proofs.Missing.{expected_is, expected_low, expected_gon
 use Rattle.iscsi_history.proofs.HeldLemmas.{held-delivered, admitted-number, admitted-cases, held-admits, held-here, held-number, held-turned, request_at-turned, admitted_of_held, held_unemptied, received-admits, request_at-admits}
 use Rattle.iscsi_history.proofs.DeliveryLemmas.{held-quiet, IsQuiet, same_range, received-quiet, executed_below-quiet, delivered-quiet, admitted-quiet, executed_below-more}
 use Rattle.iscsi_history.proofs.PlaceLemmas.{has_first, last_none}
+use Rattle.std.proofs.lemmas.Bool.Decides.{nat_tests}
 
 -- the window keeps the same of each number
 pub place_of-quiet : (item : List Mark) (t : Trace) (n : ℕ) → IsQuiet item → place_of (item ∷ t) n ≡ place_of t n
@@ -31,10 +32,7 @@ no_place t n none = grind arith
 module _ (o : Setting) (w : Arrived) (t : Trace) (a : WindowAgrees o w t) where
   -- nothing is received at the next number, where its place is empty
   pub next_gone : at_place w 0 ≡ None → is_received t (number_expected w) ≡ false
-  next_gone none =
-      let e : ℕ = number_expected w in
-      let at : e + 0 ≡ e = omega arith in
-      ⊎_elim (λ some. no_place t e (cc (a.inside 0 some))) (λ empty. a.above e (omega arith)) (cases_lt 0 (length w.places))
+  next_gone none = grind (arith, nat_tests, no_place)
 
   pub next_expected : at_place w 0 ≡ None → exp_of o t ≡ number_expected w
   next_expected none = expected_is o.first (number_expected w) t (omega (arith, a.first)) a.below (next_gone none)
@@ -72,8 +70,7 @@ place_of-other : (t : Trace) (a : Arrival) (n : ℕ) → (a.number == n) ≡ fal
 place_of-other t a n apart = cc (received-admits t a n, or_false (is_received t n), held-admits t a n apart)
 
 place_of-here : (t : Trace) (a : Arrival) → is_received t a.number ≡ false → is_delivered t a.number ≡ false → is_emptied t a.number ≡ false → place_of ((Admits a ∷ []) ∷ t) a.number ≡ Some (Some (held_of a))
-place_of-here t a new undelivered unemptied =
-    cc (received-admits t a a.number, or_second (is_received t a.number) (a.number == a.number) (eq-eqb a.number a.number refl), held-here t a new undelivered unemptied)
+place_of-here t a new undelivered unemptied = grind (arith, nat_tests, received-admits, or_second, eq-eqb, held-here)
 
 pub WindowAgrees-admitted : (o : Setting) (w : Arrived) (t : Trace) (a : Arrival) → WindowAgrees o w t → number_expected w ≤ a.number → a.number < number_expected w + room_of w → is_received t a.number ≡ false → is_regular_request o a.request ≡ true → wire (cmd_sn a.request) ≡ wire a.number
     → WindowAgrees o (with_held w a) ((Admits a ∷ []) ∷ t)
@@ -117,9 +114,7 @@ pub record Next (w : Arrived) (t : Trace) (r : HeldRequest) : Type 0 where
   pub received_is : is_received t (number_expected w) ≡ true
 
 some_held : (b : Bool) (x : Option Arrival) (r : HeldRequest) → cond b (Some (option_map held_of x)) None ≡ Some (Some r) → (b ≡ true) × ((a : Arrival) × ((x ≡ Some a) × (held_of a ≡ r)))
-some_held true None r h = absurd (let z : Some None ≡ Some (Some r) = h in cc)
-some_held true (Some a) r h = (refl, (a, (refl, cc)))
-some_held false x r h = absurd cc
+some_held b x r h = grind (arith, nat_tests)
 
 pub next_request : (o : Setting) (w : Arrived) (t : Trace) (r : HeldRequest) → WindowAgrees o w t → at_place w 0 ≡ Some (Some r) → Next w t r
 next_request o w t r a h =
@@ -252,7 +247,4 @@ WindowAgrees-passed o w t h place =
 
 -- a command begins in a window that has turned
 pub WindowAgrees-started : (o : Setting) (w : Arrived) (t : Trace) → Turned o w t → WindowAgrees o (with_unfinished w (w.unfinished + 1)) t
-WindowAgrees-started o w t h =
-    let few : w.unfinished + 1 ≤ length w.places = omega (arith, h.not_full) in
-    let free : (k : ℕ) → length w.places ≤ k + (w.unfinished + 1) → get_or w.places k None ≡ None = λ k big. h.last_free k (omega (arith, big)) in
-    assumption
+WindowAgrees-started o w t h = grind (arith, nat_tests)
