@@ -26,22 +26,8 @@ any_in_set sets lives unit i set match at read inside =
     let long : length set.list ≡ length (filter (λ l. l.unit == unit) lives) = rw same at (simp length-map at (ap length (match unit inside))) in
     rw (long, any_filtered)
 
--- what is found of the unit
-live_is : (c : In-QueryTask) → (facts_by c.args.self.now c.args.request.now).live ≡ live_by c.args.self.now c.args.request.now c.args.unit
-live_is c = ap (λ x. of_unit x None (live_by c.args.self.now c.args.request.now)) c.requires.named
-
 has_is : (c : In-QueryTaskSet) → (facts_by c.args.self.now c.args.request.now).has_commands ≡ list_any (λ l. l.unit == c.args.unit) c.args.self.now.live
 has_is c = ap (λ x. of_unit x false (λ unit. list_any (λ (l : Live). l.unit == unit) c.args.self.now.live)) c.requires.named
-
-mapped : (x : Option Live) → is_some (option_map (λ (l : Live). l.ticket) x) ≡ is_some x
-mapped None = refl
-mapped (Some l) = refl
-
-pub returns-in-QueryTask : goal.returns-in-QueryTask
-returns-in-QueryTask c =
-    let f : function c.args.request.now ≡ 9 = search rules in
-    let there : c.is_some.result ≡ is_some (tagged_in c.args.self.now (rtt c.args.request.now) c.args.unit) = search rules in
-    c.query.ensures ∙ rw (f, live_is (goal.at.returns-in-QueryTask c).In-QueryTask, mapped, there)
 
 pub returns-in-QueryTaskSet : goal.returns-in-QueryTaskSet
 returns-in-QueryTaskSet c =

@@ -48,9 +48,6 @@ push-requires-clause-room c =
 pub push-requires-clause-newest : goal.push-requires-clause-newest
 push-requires-clause-newest c = all_before c.self.inside.entered (length c.self.inside.sets.items) c.self.inside.live.items c.self.invariant.commands.within
 
-pub push-requires-clause-unused : goal.push-requires-clause-unused
-push-requires-clause-unused c = rw c.itt.ensures (rw (← c.self.view_is) at c.requires.unused)
-
 -- the set of the unit has the task as the definitions say
 sets_are : (c : After-enter-slot) → c.enter-slot.new.sets ≡ set c.self.inside.sets.items c.args.unit (given_by (entered_to (get_or c.self.inside.sets.items c.args.unit (opened 0)) (new_task c.args.self.now c.args.request.now)))
 sets_are c =

@@ -24,11 +24,3 @@ loop-unit-preserved c =
       spent = omega (arith, c.leave_covered.ensures.spent, inv.spent);
       capacity = x.room ∙ inv.capacity;
     }
-
-pub returns-clause-done : goal.returns-clause-done
-returns-clause-done c =
-    let inv = c.loop-unit.invariant in
-    let u : ℕ = c.loop-unit.unit in
-    let end : ℕ = c.units-unit-end.result in
-    let none : range_with_len u (end - u) ≡ [] = ap (range_with_len u) (let z : end - u ≡ 0 = omega (arith, c.loop-unit-test.false) in z) in
-    record { core = rw none at inv.session; effects = rw (none, append-nil) at inv.effects; room = inv.capacity }

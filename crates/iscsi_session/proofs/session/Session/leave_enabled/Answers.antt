@@ -61,9 +61,6 @@ live_are c f = c.end_command.ensures.live ∙ rw f.covered at (one_live c.in-Som
 window_is : (c : After-end_command) → (f : Found c.self.inside.sets.items c.self.inside.live.items c.in-Some.command) → c.end_command.new.window ≡ finished_by c.self.inside.window c.self.inside.live.items (staying (covers_ticket c.in-Some.command.ticket) (get_or c.self.inside.sets.items c.in-Some.command.unit (opened 0)) c.self.inside.live.items)
 window_is c f = c.end_command.ensures.window ∙ ap (finished_by c.self.inside.window c.self.inside.live.items) (sym c.end_command.ensures.live ∙ live_are c f)
 
-pub push_reserved-requires : goal.push_reserved-requires
-push_reserved-requires c = omega (arith, c.requires.room, (command (goal.at.push_reserved-requires c).In-Some).left, ap (λ (x : Core). owed x.live x.sets) c.self.view_is)
-
 pub invariant_of-self-2 : goal.invariant_of-self-2
 invariant_of-self-2 c =
     let e = (goal.at.invariant_of-self-2 c).In-Some in

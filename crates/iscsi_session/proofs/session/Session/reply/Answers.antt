@@ -11,12 +11,3 @@ invariant_of-self c =
     let old : Inner = record { window = c.self.inside.window; events = c.self.inside.events; conns = c.self.inside.connections.conns; entered = c.self.inside.entered; taken = c.self.inside.taken; live = c.self.inside.live.items; immediate = c.self.inside.connections.immediate; sets = c.self.inside.sets.items; waiting = c.self.inside.waiting.items; live_room = c.self.inside.live.room; waiting_room = c.self.inside.waiting.room; left_room = vec_capacity c.self.inside.left } in
     subst (λ (x : Connected). IsSessionSound (record old { conns = x.conns; immediate = x.immediate })) (sym c.assign_stat_sn-stat_sn.ensures.state)
     (replied_sound c.self.invariant c.args.conn refl)
-
-pub returns-clause-done : goal.returns-clause-done
-returns-clause-done c =
-    let old : Core = record { window = c.self.inside.window; events = c.self.inside.events; conns = c.self.inside.connections.conns; entered = c.self.inside.entered; taken = c.self.inside.taken; live = c.self.inside.live.items; sets = c.self.inside.sets.items; level = c.self.inside.level; waiting = c.self.inside.waiting.items; open_conns = c.self.inside.connections.open_conns } in
-    record {
-      core = ap (λ (x : Connected). record old { conns = x.conns; open_conns = x.open_conns }) c.assign_stat_sn-stat_sn.ensures.state ∙ ap (λ (s : Core). record s { conns = count_reply c.args.conn s.conns }) c.self.view_is;
-      effects = c.push_reserved.ensures.items ∙ rw (c.assign_stat_sn-stat_sn.ensures.number, ← c.self.view_is);
-      room = c.push_reserved.ensures.capacity;
-    }

@@ -43,12 +43,3 @@ invariant_of-self c =
       may = rw (items, list_all-append, inv.functions.may, (waits_later here).may);
       few = λ cid. rw items (w.few cid);
     }) (omega (arith, ap (λ (q : Queued Waiting). q.room) c.push.ensures))
-
-pub returns-clause-done : goal.returns-clause-done
-returns-clause-done c =
-    let r = c.args.request in
-    let e : ℕ = number_expected c.self.inside.window in
-    let l = waits_later (goal.at.returns-clause-done c).After-exp in
-    let ahead : c.from.result ≡ lift e (cmd_sn r) - e = c.from.ensures ∙ rw (c.cmd_sn.ensures, c.exp.ensures) (ahead_by e (cmd_sn r) (omega arith) l.ahead) in
-    let turn : c.turned.result + c.from.result ≡ lift e (cmd_sn r) - number_of_first c.self.inside.window.first = omega (arith, ahead, c.turned.ensures, l.ahead) in
-    record { core = rw (← c.self.view_is, c.push.ensures, turn); effects = c.push_reserved.ensures.items; room = c.push_reserved.ensures.capacity }

@@ -50,16 +50,3 @@ loop-k-preserved c =
       spent = omega (arith, ap length c.end.ensures.live, without_shorter ticket before there, inv.spent, c.push_reserved.ensures.len);
       capacity = c.push_reserved.ensures.capacity ∙ inv.capacity;
     }
-
--- at the end all came
-pub returns-clause-live : goal.returns-clause-live
-returns-clause-live c = c.loop-k.invariant.live ∙ ap (λ ts. without_tickets ts c.args.live.now.items) (take_all c.loop-k.k c.args.tickets.now (omega arith))
-
-pub returns-clause-window : goal.returns-clause-window
-returns-clause-window c = c.loop-k.invariant.window ∙ ap (finished_by c.args.window.now c.args.live.now.items) (returns-clause-live c)
-
-pub returns-clause-effects : goal.returns-clause-effects
-returns-clause-effects c = record {
-  items = c.loop-k.invariant.effects ∙ ap (λ ts. c.args.out.now.items ++ leave_each c.args.unit ts) (take_all c.loop-k.k c.args.tickets.now (omega arith));
-  room = c.loop-k.invariant.capacity;
-}
