@@ -15,16 +15,16 @@ use Rattle.iscsi_history.specs.rules.Run.{effects_of_mark, effects_of_item}
 use Rattle.iscsi_session.specs.private.Standing.{Core, kept, is_regular, task_of, member_of, WindowAgrees, RepliesAgree, SetsAgree, WaitingAgrees, Agrees}
 use Rattle.iscsi_session.specs.private.Steps.{count_reply, Step, unchanged, after_effect, is_set_full, is_immediate_on, is_crowded_by, replied, new_live, number_by, event_by, new_task, started, command_entered}
 use Rattle.iscsi_history.proofs.BoolLemmas.{and_both}
-use Rattle.iscsi_session.proofs.OpenConns.{open_of-same}
+use Rattle.iscsi_session.proofs.AgreeLemmas.{open_of-same}
 use Rattle.iscsi_history.proofs.ListLemmas.{count_by-map, count_by-push}
 use Rattle.iscsi_history.proofs.DeliveryLemmas.{IsQuiet}
 use Rattle.iscsi_session.proofs.WindowParts.{Turned, WindowAgrees-started}
-use Rattle.iscsi_session.proofs.ReplyParts.{RepliesAgree-quiet, RepliesAgree-sent}
+use Rattle.iscsi_session.proofs.AgreeLemmas.{RepliesAgree-quiet, RepliesAgree-sent}
 use Rattle.iscsi_history.proofs.NewlyLemmas.{never_free, Untouched, newly-untouched}
-use Rattle.iscsi_session.proofs.EnablingLemmas.{EnabledSoFar-entered}
-use Rattle.iscsi_session.proofs.CommandParts.{live-entered, CommandsAgree-entered}
+use Rattle.iscsi_session.proofs.AgreeLemmas.{EnabledSoFar-entered}
+use Rattle.iscsi_session.proofs.AgreeLemmas.{live-entered, CommandsAgree-entered}
 use Rattle.iscsi_session.proofs.AgreeLemmas.{Lasting, Agrees-untouched}
-use Rattle.iscsi_session.proofs.SetParts.{SetEntry, SetsAgree-entered}
+use Rattle.iscsi_session.proofs.AgreeLemmas.{SetEntry, SetsAgree-entered}
 use Rattle.iscsi_history.proofs.ClosingItems.{ClosesNone, closes-more}
 use Rattle.iscsi_history.proofs.CommandItems.{EntersOne}
 use Rattle.iscsi_history.proofs.EmptyingMarks.{quiet_none, quiet_sends, quiet_enters}

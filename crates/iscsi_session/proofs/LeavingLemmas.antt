@@ -18,20 +18,20 @@ use Rattle.iscsi_history.specs.rules.Execution.{unfinished, reply_on}
 use Rattle.iscsi_history.specs.rules.Run.{newly_enabled, stat_sn_of}
 use Rattle.iscsi_session.specs.private.Standing.{Core, kept, task_of, member_of, set_of, WindowAgrees, RepliesAgree, CommandsAgree, WaitingAgrees, Agrees}
 use Rattle.iscsi_session.specs.private.Steps.{set_staying, covered_tickets, after_effect, set_at, as_given, all_given, enable_effects, is_numbered, is_gone, staying, leave_each, has_covered, left_answered, aborted}
-use Rattle.iscsi_session.proofs.OpenConns.{open_of-same}
+use Rattle.iscsi_session.proofs.AgreeLemmas.{open_of-same}
 use Rattle.iscsi_history.proofs.BoolLemmas.{and_parts, and_comm, alike, alike_same}
 use Rattle.iscsi_history.proofs.ListLemmas.{list_any-map, count_by-map, list_all-filter, any_filter, any_same, fewer_counted, map_all, filter-map, map-map, none_out}
 use Rattle.iscsi_history.proofs.TraceLemmas.{weaker}
 use Rattle.iscsi_history.proofs.ApartLemmas.{unamong-filter, apart-filter}
-use Rattle.iscsi_session.proofs.ReplyParts.{RepliesAgree-sent}
+use Rattle.iscsi_session.proofs.AgreeLemmas.{RepliesAgree-sent}
 use Rattle.iscsi_history.proofs.NewlyLemmas.{filter_all, filter-twice, is_here, all_here, new_in, new_in-none}
-use Rattle.iscsi_session.proofs.EnabledLemmas.{set_of-same, noted_given, noted_effects}
+use Rattle.iscsi_session.proofs.AgreeLemmas.{set_of-same, noted_given, noted_effects}
 use Rattle.iscsi_history.proofs.MomentLemmas.{enables}
 use Rattle.iscsi_history.proofs.ClosingItems.{ClosesNone, closes-more}
 use Rattle.iscsi_history.proofs.CommandItems.{LeavesSome, live_in-left, live_in-left_elsewhere, are_all_in, among_passing, leaving-calm, leaving-closes, leaving-enters, leaving-sends, leaving-shown, leaving-tickets, quiet-leaving}
 use Rattle.iscsi_history.proofs.EnabledItems.{EnabledSoFar-left, newly-one}
-use Rattle.iscsi_session.proofs.CommandParts.{CommandsAgree-left}
-use Rattle.iscsi_session.proofs.SetParts.{set-changed}
+use Rattle.iscsi_session.proofs.AgreeLemmas.{CommandsAgree-left}
+use Rattle.iscsi_session.proofs.AgreeLemmas.{set-changed}
 use Rattle.iscsi_session.proofs.AgreeLemmas.{units_live, Lasting}
 use Rattle.iscsi_session.proofs.ExecutionLemmas.{Begun, Follows}
 use Rattle.std.proofs.lemmas.Bool.Decides.{nat_tests}

@@ -21,7 +21,7 @@ use Rattle.iscsi_history.specs.rules.Run.{effects_of_mark, effects_of_item, newl
 use Rattle.iscsi_session.specs.private.Standing.{Core, Agrees, WindowAgrees, CommandsAgree, SetsAgree, arrival_waiting, open_of, task_of}
 use Rattle.iscsi_session.specs.private.Steps.{set_staying, is_among_open, still_open, after_effect, set_at, units_of, all_given, enable_effects, all_commands_left, covers_of, waiting_then, session_closes, closing_effects, logged_out}
 use Rattle.iscsi_history.proofs.MomentLemmas.{enables}
-use Rattle.iscsi_session.proofs.ReplyParts.{RepliesAgree-sent}
+use Rattle.iscsi_session.proofs.AgreeLemmas.{RepliesAgree-sent}
 use Rattle.iscsi_history.proofs.ListLemmas.{list_all-filter, list_all-same, list_any-map, any_filter, any_flat_map, any_in_range, flat_map_in_range, filter-flat_map, map-flat_map, filter-map, filtered_among}
 use Rattle.iscsi_history.proofs.BoolLemmas.{or_false, and_false, alike, alike_same}
 use Rattle.iscsi_history.proofs.TraceLemmas.{filter-same}
@@ -31,7 +31,7 @@ use Rattle.iscsi_history.proofs.NewlyLemmas.{Untouched, live-untouched, filter_a
 use Rattle.iscsi_history.proofs.CommandItems.{LeavesSome, live_in-left, among_passing, any_in_units, enters_only, leaves_only}
 use Rattle.iscsi_history.proofs.EnabledItems.{EnabledSoFar-left}
 use Rattle.iscsi_history.proofs.ClosingItems.{closed-same, closing_marks, quiet-closing, untouched-closing, untouched-emptied, emptied_any, emptied_sends, emptied_shown, emptied_waits, is_nil, last_is, left_any, left_sends, left_shown, left_waits, nil_is}
-use Rattle.iscsi_session.proofs.CommandParts.{CommandsAgree-left}
+use Rattle.iscsi_session.proofs.AgreeLemmas.{CommandsAgree-left}
 use Rattle.iscsi_session.proofs.AgreeLemmas.{units_live}
 use Rattle.iscsi_session.proofs.ExecutionLemmas.{Begun, Follows}
 use Rattle.iscsi_session.proofs.LeavingLemmas.{WindowAgrees-fewer, numbered_live, gone_tickets, leaving_shown, SetLeft, set_left}

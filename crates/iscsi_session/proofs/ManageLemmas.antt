@@ -18,7 +18,7 @@ use Rattle.iscsi_session.specs.private.Steps.{waiting_in, command_entered, ungiv
 use Rattle.iscsi_history.proofs.BoolLemmas.{and_parts}
 use Rattle.iscsi_history.proofs.ListLemmas.{count_by-map, count_by-push, fewer_counted}
 use Rattle.iscsi_history.proofs.SetLemmas.{ungiven_given}
-use Rattle.iscsi_session.proofs.LeavingParts.{ungiven_in-set}
+use Rattle.iscsi_session.proofs.KeptLemmas.{ungiven_in-set}
 
 -- ---- how many functions wait
 

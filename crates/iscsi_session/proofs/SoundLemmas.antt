@@ -1,16 +1,16 @@
 -- What holds of every session holds on, where only some of its fields change.
-use Rattle.std.proofs.Common.{◌≡◌, ◌+◌, ◌<◌, ◌≤◌, ◌==◌, not, ap, arith, nat_lt, length, filter, count_by, is_some, Bool, true, List, Option, ℕ, cond, ◌++◌, [], ◌∷◌}
+use Rattle.std.proofs.Common.{◌≡◌, ◌+◌, ◌<◌, ◌≤◌, ◌==◌, not, ap, arith, nat_lt, length, filter, count_by, is_some, Bool, true, List, Option, ℕ, cond, ◌++◌, [], ◌∷◌, ◌∙◌, take, drop, get_or, set, length-set, refl}
 use Rattle.std.specs.List.{list_all}
 use Rattle.iscsi_wire.specs.Fields.{connection_of}
 use Rattle.iscsi_window.specs.declared.held_request.HeldRequest.{HeldRequest}
 use Rattle.iscsi_window.specs.Windows.{Arrived, advanced}
-use Rattle.iscsi_tasks.specs.Sets.{Members}
+use Rattle.iscsi_tasks.specs.Sets.{Members, opened}
 use Rattle.iscsi_commands.specs.declared.live.Live.{Live}
 use Rattle.iscsi_session.specs.declared.session.waiting.Waiting.{Waiting}
 use Rattle.iscsi_history.specs.rules.Settings.{is_known}
 use Rattle.iscsi_history.specs.rules.Management.{may_wait}
 use Rattle.iscsi_session.specs.private.Standing.{is_place_known, Match}
-use Rattle.iscsi_session.specs.private.Steps.{count_reply, AreCounted, is_numbered}
+use Rattle.iscsi_session.specs.private.Steps.{count_reply, AreCounted, is_numbered, set_staying, is_gone, staying, finished_by}
 use Rattle.iscsi_session.specs.private.Invariant.{Inner, IsWindowSound, AreCommandsSound, AreFunctionsSound, IsSessionSound}
 use Rattle.iscsi_history.proofs.ListLemmas.{count_by-push, list_all-filter, fewer_counted}
 use Rattle.iscsi_session.proofs.ListLemmas.{list_all-push, are_known-replied, are_places_known-replied}
@@ -20,6 +20,9 @@ use Rattle.iscsi_session.proofs.WindowLemmas.{Changed, Advanced}
 use Rattle.iscsi_session.proofs.CountLemmas.{length-replied, AreCounted-replied}
 use Rattle.iscsi_session.proofs.KeptLemmas.{ascending-push, within-push, ascending-kept}
 use Rattle.std.proofs.lemmas.Bool.Decides.{nat_tests}
+use Rattle.iscsi_tasks.specs.declared.task.Task.{Task}
+use Rattle.iscsi_history.proofs.PlaceLemmas.{written}
+use Rattle.iscsi_session.proofs.KeptLemmas.{Match-staying}
 
 -- ---- the window
 
@@ -112,3 +115,20 @@ replied_sound {s} inv cid is =
       AreCounted-replied cid s.immediate s.conns s.live inv.commands.counted,
       are_known-replied (λ (v : Waiting). connection_of v.request) cid s.waiting s.conns inv.functions.known,
     ))
+
+-- ---- what holds of every session holds on, where covered commands of a unit left
+
+-- the sets, once the set of the unit was written
+pub sets_written : (unit n : ℕ) (covers : Task → Bool) (old sets : List Members) → n ≡ length old → sets ≡ set old unit (set_staying covers (get_or old unit (opened 0)))
+    → take n (sets ++ drop (length sets) old) ≡ set old unit (set_staying covers (get_or old unit (opened 0)))
+sets_written unit n covers old sets long is = written n sets old (rw is (length-set old unit (set_staying covers (get_or old unit (opened 0))))) long ∙ is
+
+pub left_sound : {s : Inner} → IsSessionSound s → (unit : ℕ) (covers : Task → Bool) → unit < length s.sets → {immediate : List ℕ} → AreCounted immediate s.conns (staying covers (get_or s.sets unit (opened 0)) s.live)
+    → IsSessionSound (record s { window = finished_by s.window s.live (staying covers (get_or s.sets unit (opened 0)) s.live); live = staying covers (get_or s.sets unit (opened 0)) s.live; immediate = immediate; sets = set s.sets unit (set_staying covers (get_or s.sets unit (opened 0))) })
+left_sound {s} inv unit covers inside counted =
+    let stays : Live → Bool = λ l. not (is_gone covers (get_or s.sets unit (opened 0)) l.ticket) in
+    let long : length (set s.sets unit (set_staying covers (get_or s.sets unit (opened 0)))) ≡ length s.sets = length-set s.sets unit (set_staying covers (get_or s.sets unit (opened 0))) in
+    let fewer = fewer_counted is_numbered stays s.live in
+    commands_sound inv (places_sound inv.window refl refl (omega (arith, inv.window.fits, fewer)) inv.window.entered)
+    (kept_sound inv.commands stays refl (omega (arith, fewer, inv.commands.numbered)) long (Match-staying s.sets s.live unit covers inside inv.commands.in_sets inv.commands.ascending) counted)
+    refl long (omega arith)

@@ -27,7 +27,7 @@ use Rattle.iscsi_history.proofs.BoolLemmas.{and_both}
 use Rattle.iscsi_history.proofs.ListLemmas.{list_any-map, is_known-cids}
 use Rattle.iscsi_session.proofs.WindowParts.{WindowAgrees-quiet, with_held}
 use Rattle.iscsi_history.proofs.MomentLemmas.{enables}
-use Rattle.iscsi_session.proofs.CommandParts.{find_kept}
+use Rattle.iscsi_session.proofs.AgreeLemmas.{find_kept}
 use Rattle.iscsi_history.proofs.NewlyLemmas.{newly-untouched}
 use Rattle.iscsi_history.proofs.NumberLemmas.{wire-lift}
 use Rattle.iscsi_history.proofs.CommandItems.{first_passing, none_passing, ticket_alone, untouched-admits, completion_item, first_passes, quiet-completion}

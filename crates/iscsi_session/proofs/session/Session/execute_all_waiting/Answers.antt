@@ -6,7 +6,7 @@ use Rattle.iscsi_session.specs.private.Standing.{Core}
 use Rattle.iscsi_session.specs.private.Steps.{KeepsPace}
 use Rattle.iscsi_session.specs.private.Deeds.{next_waiting, function_taken}
 use Rattle.iscsi_session.proofs.AgendaLemmas.{functions-on, functions-done}
-use Rattle.iscsi_session.proofs.PaceLemmas.{function_stays, pace-function}
+use Rattle.iscsi_session.proofs.DeedLemmas.{function_stays, pace-function}
 use Rattle.iscsi_session.proofs.session.Session.execute_all_waiting.Goals as goal
 use Rattle.iscsi_history.proofs.ListLemmas.{is_none}
 

@@ -10,8 +10,8 @@ use Rattle.iscsi_history.proofs.TraceLemmas.{weaker}
 use Rattle.iscsi_history.proofs.CountLemmas.{fewer}
 use Rattle.iscsi_session.proofs.FoundLemmas.{found_ticket}
 use Rattle.iscsi_session.proofs.KeptLemmas.{enabled_found, enabled_covered}
-use Rattle.iscsi_session.proofs.LeavingParts.{ungiven_in-staying, rises, one_live, one_leaves}
-use Rattle.iscsi_session.proofs.LeftSound.{sets_written, left_sound}
+use Rattle.iscsi_session.proofs.KeptLemmas.{ungiven_in-staying, rises, one_live, one_leaves}
+use Rattle.iscsi_session.proofs.SoundLemmas.{sets_written, left_sound}
 use Rattle.iscsi_session.proofs.session.Session.leave_enabled.Goals as goal
 use Rattle.iscsi_session.proofs.session.Session.leave_enabled.Goals.{In-Some, After-end_command}
 

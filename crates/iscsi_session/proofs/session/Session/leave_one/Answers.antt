@@ -2,8 +2,8 @@ use Rattle.std.proofs.Common.{◌≡◌, ◌∙◌, ◌<◌, ◌++◌, length, t
 use Rattle.iscsi_tasks.specs.Sets.{opened}
 use Rattle.iscsi_session.specs.private.Standing.{Core}
 use Rattle.iscsi_session.specs.private.Steps.{set_staying, staying, covers_ticket, has_covered, ungiven_in, owed}
-use Rattle.iscsi_session.proofs.LeavingParts.{ungiven_in-staying, rises, one_found, one_live, one_leaves}
-use Rattle.iscsi_session.proofs.LeftSound.{sets_written, left_sound}
+use Rattle.iscsi_session.proofs.KeptLemmas.{ungiven_in-staying, rises, one_found, one_live, one_leaves}
+use Rattle.iscsi_session.proofs.SoundLemmas.{sets_written, left_sound}
 use Rattle.iscsi_session.proofs.session.Session.leave_one.Goals.{After-dequeue_one-is_there}
 use Rattle.iscsi_session.proofs.session.Session.leave_one.Goals as goal
 

@@ -3,8 +3,8 @@ use Rattle.iscsi_window.specs.Windows.{at_place}
 use Rattle.iscsi_session.specs.private.Standing.{Core, is_held}
 use Rattle.iscsi_session.specs.private.Steps.{KeepsPace}
 use Rattle.iscsi_session.proofs.AgendaLemmas.{Due, whole_of, Due-start, Due-functions, turned-one}
-use Rattle.iscsi_session.proofs.ArriveLemmas.{turns_done}
-use Rattle.iscsi_session.proofs.PaceLemmas.{same_expected, pace-turned, turned_taken}
+use Rattle.iscsi_session.proofs.AgendaLemmas.{turns_done}
+use Rattle.iscsi_session.proofs.DeedLemmas.{same_expected, pace-turned, turned_taken}
 use Rattle.iscsi_session.proofs.session.Session.run_agenda.Goals as goal
 
 pub loop-self-preserved : goal.loop-self-preserved

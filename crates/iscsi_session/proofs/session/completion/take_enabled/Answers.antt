@@ -5,7 +5,7 @@ use Rattle.iscsi_tasks.specs.Sets.{Members, opened, is_enabled_in}
 use Rattle.iscsi_commands.specs.declared.live.Live.{Live}
 use Rattle.iscsi_session.specs.private.Steps.{find_ticket}
 use Rattle.iscsi_history.proofs.ListLemmas.{find-passes}
-use Rattle.iscsi_session.proofs.LeavingParts.{one_leaving}
+use Rattle.iscsi_session.proofs.KeptLemmas.{one_leaving}
 use Rattle.iscsi_session.proofs.FoundLemmas.{found_ticket}
 use Rattle.iscsi_session.proofs.session.completion.take_enabled.Goals as goal
 use Rattle.iscsi_session.proofs.session.completion.take_enabled.Goals.{After-from}

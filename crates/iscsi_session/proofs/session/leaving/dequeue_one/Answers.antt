@@ -3,7 +3,7 @@ use Rattle.std.proofs.lemmas.List.{get_or_default, set-get_or}
 use Rattle.iscsi_tasks.specs.Sets.{Members, opened}
 use Rattle.iscsi_commands.specs.declared.live.Placed.{Placed}
 use Rattle.iscsi_session.specs.private.Steps.{find_ticket}
-use Rattle.iscsi_session.proofs.LeavingParts.{one_leaving, one_missing}
+use Rattle.iscsi_session.proofs.KeptLemmas.{one_leaving, one_missing}
 use Rattle.iscsi_session.proofs.session.leaving.dequeue_one.Goals as goal
 
 -- one that isn't live isn't in its set, which stays as it is

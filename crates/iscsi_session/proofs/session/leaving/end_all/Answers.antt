@@ -6,7 +6,7 @@ use Rattle.iscsi_commands.specs.declared.live.Live.{Live}
 use Rattle.iscsi_session.specs.private.Steps.{find_ticket, without_ticket, is_numbered, finished_by, leave_each, without_tickets}
 use Rattle.iscsi_session.proofs.KeptLemmas.{ascending-kept}
 use Rattle.iscsi_session.proofs.ListLemmas.{are_known-left}
-use Rattle.iscsi_session.proofs.LeavingParts.{without_none, without_more, leave_more, there_yet, finished_none, finished_on, without_shorter}
+use Rattle.iscsi_session.proofs.KeptLemmas.{without_none, without_more, leave_more, there_yet, finished_none, finished_on, without_shorter}
 use Rattle.iscsi_session.proofs.session.leaving.end_all.Goals.{In-loop-k}
 use Rattle.iscsi_session.proofs.session.leaving.end_all.Goals as goal
 

@@ -1,5 +1,5 @@
 use Rattle.std.proofs.Common.{ap, arith, length}
-use Rattle.iscsi_session.proofs.LeavingParts.{without_shorter}
+use Rattle.iscsi_session.proofs.KeptLemmas.{without_shorter}
 use Rattle.iscsi_session.proofs.session.leaving.end_one.Goals as goal
 
 pub returns-then-is_there-clause-spent : goal.returns-then-is_there-clause-spent
