@@ -41,7 +41,7 @@ use Rattle.iscsi_history.proofs.ReceivedItems.{ignored_receives}
 use Rattle.iscsi_history.proofs.DeliveryLemmas.{IsQuiet, quiet-ignored}
 use Rattle.iscsi_session.proofs.WindowParts.{next_expected, WindowAgrees-quiet, with_held, WindowAgrees-admitted}
 
--- ---- which commands were free at some moment, after one item more
+-- ==== which commands were free at some moment, after one item more
 
 -- ---- a set, after a moment
 
@@ -129,13 +129,13 @@ set-entered o t item c now new =
     effect_one : (b : Bool) → enable_effect c.unit (next_in (record { task = task_of o c; enabled = b; given = false } ∷ [])) ≡ enables (cond (b && not false) (c ∷ []) [])
     effect_one b = grind arith
 
--- ---- an item that closes nothing leaves the connections open that were
+-- ==== an item that closes nothing leaves the connections open that were
 
 pub open_of-same : (o : Setting) (item : List Mark) (t : Trace) → ClosesNone item → open_of o (item ∷ t) ≡ open_of o t
 open_of-same o item t c =
     filter-same (is_open o (item ∷ t)) (is_open o t) (map (λ (k : ℕ × ℕ). k.0) o.conns) (λ conn. ap (λ b. is_known conn o.conns && not b) (closed-same conn item t c))
 
--- ---- the live commands that are kept agree with what has happened after one item more
+-- ==== the live commands that are kept agree with what has happened after one item more
 
 pub CommandsAgree-untouched : (o : Setting) (lives : List Live) (n : ℕ) (t : Trace) (item : List Mark) → Untouched item → CommandsAgree o lives n t → CommandsAgree o lives n (item ∷ t)
 CommandsAgree-untouched o lives n t item u a =
@@ -201,7 +201,7 @@ pub find_kept : (ticket : ℕ) (cs : List Command) → find_ticket ticket (map k
 find_kept ticket [] = refl
 find_kept ticket (c ∷ cs) = grind (arith, find_kept ticket cs)
 
--- ---- task sets that agree with what has happened agree after one item more
+-- ==== task sets that agree with what has happened agree after one item more
 
 pub SetsAgree-untouched : (o : Setting) (sets : List Members) (t : Trace) (item : List Mark) → Untouched item → SetsAgree o sets t → SetsAgree o sets (item ∷ t)
 SetsAgree-untouched o sets t item u a = record {
@@ -236,7 +236,7 @@ SetsAgree-entered o lives n sets t item c task commands a e inside is =
       effects = cc (list_is, entry.effects, newly-one o item t c.unit inside elsewhere);
     }
 
--- ---- connections that agree with what has happened agree after one item more
+-- ==== connections that agree with what has happened agree after one item more
 
 stat_sn_on-same : (cid : ℕ) (conns : List (ℕ × ℕ)) → is_known cid conns ≡ true → stat_sn_on cid (count_reply cid conns) ≡ wire (stat_sn_on cid conns + 1)
 stat_sn_on-same cid [] known = absurd (false≢true known)
@@ -263,7 +263,7 @@ RepliesAgree-sent o conns t item conn one known a = record {
   stat_sns = λ cid known_cid. replied o conns t item conn cid a known known_cid one;
 }
 
--- ---- the commands that the effects show as enabled are those that the rule enables, after one item more
+-- ==== the commands that the effects show as enabled are those that the rule enables, after one item more
 
 -- ---- a command enters
 
@@ -290,6 +290,8 @@ exact-entered o lives n item t c a e inside new x k =
 
 pub EnabledSoFar-entered : (o : Setting) (lives : List Live) (n : ℕ) (item : List Mark) (t : Trace) (c : Command) → CommandsAgree o lives n t → EntersOne item t c → c.unit < o.units → was_free c t ≡ false → EnabledSoFar o t → EnabledSoFar o (item ∷ t)
 EnabledSoFar-entered o lives n item t c a e inside new x = EnabledSoFar-more o item t x (exact-entered o lives n item t c a e inside new (exact_now o t x))
+
+-- ==== the whole session
 
 -- ---- numbers
 

@@ -143,7 +143,7 @@ carried_counted s r number event (CloseConn closing) fits numbered = (logged_out
 carried_counted s r number event CloseSession fits numbered = (logged_out_parts s r None).counted
 carried_counted s r number event _ fits numbered = refl
 
--- ---- what a turn leaves as it was, and a function that has waited: the numbers that have turned, and the events. A turn begins one command at the most
+-- ==== what a turn leaves as it was, and a function that has waited: the numbers that have turned, and the events. A turn begins one command at the most
 
 pub same_expected : (w w' : Arrived) → w'.first ≡ w.first → w'.turned ≡ w.turned → number_expected w' ≡ number_expected w
 same_expected w w' first turned = cc

@@ -99,7 +99,7 @@ find-two p q r (c ∷ cs) h = grind (arith, nat_tests, find-two p q r cs h)
 pub tagged_in-is : (s : Core) (t : Trace) (tag unit : ℕ) → s.live ≡ map kept (live t) → tagged_in s tag unit ≡ option_map kept (live_with_tag t tag unit)
 tagged_in-is s t tag unit lives = rw lives (find-two (λ l. l.unit == unit && l.itt == tag) (λ c. c.unit == unit) (λ c. itt c.arrival.request == tag) (live t) (λ c. refl))
 
--- ---- what ABORT TASK comes to, by what a session keeps, and by the definitions
+-- ==== what ABORT TASK comes to, by what a session keeps, and by the definitions
 
 -- ---- what it comes to
 

@@ -46,9 +46,9 @@ use Rattle.iscsi_history.proofs.ClosingItems.{ClosesNone, closes-more}
 use Rattle.iscsi_history.proofs.ReceivedItems.{no_abort_task, may_immediate}
 use Rattle.iscsi_history.proofs.NumberLemmas.{position_eq, position_lt, wire-lift}
 use Rattle.iscsi_history.proofs.EmptyingMarks.{quiet_executes}
-use Rattle.iscsi_session.proofs.LeavingLemmas.{covered_in, leaving-item}
+use Rattle.iscsi_session.proofs.ExecutionLemmas.{covered_in, leaving-item}
 use Rattle.iscsi_session.proofs.WindowParts.{inside_bounds, WindowAgrees-voided, WindowAgrees-emptied, VoidedAt, voided_at, emptied_at}
-use Rattle.iscsi_session.proofs.TurnLemmas.{turned_core, numbered_held, turn-begun, number_next, event_next}
+use Rattle.iscsi_session.proofs.ExecutionLemmas.{turned_core, numbered_held, turn-begun, number_next, event_next}
 use Rattle.iscsi_wire.specs.declared.reply.Reply.TheVariants.{Task as TaskReply}
 use Rattle.iscsi_tasks.specs.declared.cover.Cover.TheVariants.{All as AllOfThem, Below}
 use Rattle.iscsi_history.specs.declared.deed.Answer.{Answer}
@@ -61,7 +61,7 @@ use Rattle.iscsi_history.proofs.CommandItems.{ticket_alone}
 use Rattle.iscsi_session.proofs.DeedLemmas.{fits_deed, fits_function, is_of_number, missing_parts, is_whole, whole_function}
 use Rattle.iscsi_session.proofs.DeedLemmas.{immediate_is}
 
--- ---- a session finds what the definitions find, and so it does what they say
+-- ==== a session finds what the definitions find, and so it does what they say
 
 -- ---- facts that are alike
 
@@ -144,6 +144,8 @@ module _ (o : Setting) (s : Core) (t : Trace) (m : Mark) (e : Effect) (a : Arriv
 
   pub function_is : ((function a.request == 1) ≡ true → Found o s t₁ a) → function_deed (facts_of o t₁ a) a.request ≡ function_deed (facts_by s a.request) a.request
   function_is found = function_alike _ _ a.request alike (λ one. finds (found one))
+
+-- ==== a request executes, whatever it does
 
 -- ---- a command is before a function, by positions
 

@@ -93,7 +93,7 @@ enabled_covered sets k (Some y) l h = by_test (is_enabled_in k (get_or sets y.un
     by_test : (b : Bool) → is_enabled_in k (get_or sets y.unit (opened 0)).list ≡ b → cond b (Some y) None ≡ Some l → has_covered (covers_ticket k) (get_or sets l.unit (opened 0)) ≡ true
     by_test b is here = grind (arith, nat_tests, among)
 
--- ---- covered commands of a unit leave: what is left of its set and of the live commands
+-- ==== covered commands of a unit leave: what is left of its set and of the live commands
 
 -- ---- tickets go up along a set
 

@@ -2,12 +2,9 @@ pub mod ListLemmas
 pub mod RefusalLemmas
 pub mod WaitLemmas
 pub mod AgreeLemmas
-pub mod TurnLemmas
-pub mod StepLemmas
 pub mod OpenLemmas
 pub mod WindowLemmas
 pub mod SoundLemmas
-pub mod FlowLemmas
 pub mod WindowParts
 pub mod CountLemmas
 pub mod ExecutionLemmas
@@ -15,11 +12,9 @@ pub mod KeptLemmas
 pub mod TagLemmas
 pub mod GivingLemmas
 pub mod FindLemmas
-pub mod LeavingLemmas
 pub mod DroppingLemmas
 pub mod TellingLemmas
 pub mod LoggedOutLemmas
-pub mod LogoutUnits
 pub mod EmptyingLemmas
 pub mod LogoutItem
 pub mod FunctionLemmas

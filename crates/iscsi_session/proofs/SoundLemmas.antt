@@ -116,7 +116,7 @@ replied_sound {s} inv cid is =
       are_known-replied (λ (v : Waiting). connection_of v.request) cid s.waiting s.conns inv.functions.known,
     ))
 
--- ---- what holds of every session holds on, where covered commands of a unit left
+-- ==== what holds of every session holds on, where covered commands of a unit left
 
 -- the sets, once the set of the unit was written
 pub sets_written : (unit n : ℕ) (covers : Task → Bool) (old sets : List Members) → n ≡ length old → sets ≡ set old unit (set_staying covers (get_or old unit (opened 0)))

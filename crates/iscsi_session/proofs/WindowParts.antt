@@ -252,7 +252,7 @@ WindowAgrees-passed o w t h place =
 pub WindowAgrees-started : (o : Setting) (w : Arrived) (t : Trace) → Turned o w t → WindowAgrees o (with_unfinished w (w.unfinished + 1)) t
 WindowAgrees-started o w t h = grind (arith, nat_tests)
 
--- ---- a number that is received without a request, and a held request that is taken out, in the window
+-- ==== a number that is received without a request, and a held request that is taken out, in the window
 
 -- ---- the place of a number becomes empty
 
