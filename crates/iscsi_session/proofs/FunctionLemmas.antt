@@ -13,7 +13,7 @@ use Rattle.iscsi_history.specs.rules.Execution.{unit_named, exp_of, max_of, repl
 use Rattle.iscsi_history.specs.rules.Management.{live_with_tag, held_command, may_wait, waiting_on, answer, is_before, refusal}
 use Rattle.iscsi_history.specs.rules.Deeds.{Facts, abort_deed, function_deed, deed_of, of_unit, facts_of, if_found, deed_marks}
 use Rattle.iscsi_session.specs.private.Standing.{Core, kept, CommandsAgree, SetsAgree, task_of, WindowAgrees, arrival_waiting, WaitingAgrees, Agrees, Settled}
-use Rattle.iscsi_session.specs.private.Deeds.{facts_by, refusal_by, live_by, deed_by, waits_by, arrival_by, Fits, position_by, carried, executed, turn_of, next_waiting, without_waiting, next_position, function_taken, immediate_taken}
+use Rattle.iscsi_session.specs.private.Deeds.{facts_by, refusal_by, live_by, deed_by, waits_by, arrival_by, Fits, position_by, carried, executed, turn_of, next_waiting, next_position, function_taken, immediate_taken}
 use Rattle.iscsi_history.proofs.BoolLemmas.{and_true, and_parts}
 use Rattle.iscsi_history.proofs.ListLemmas.{list_any-map, any_filter, any_same, count_by-map, list_all-filter, find-passes, find-found, filter-map}
 use Rattle.iscsi_history.proofs.NewlyLemmas.{Untouched, live_in-untouched, newly-untouched}
@@ -338,7 +338,7 @@ pub waited-item : (o : Setting) (s : Core) (t : Trace) (w : Waiting) → Agrees 
     → Follows o t (function_item o t (arrival_waiting o.first w)) (function_taken s (Some w))
 waited-item o s t w h found =
     let a : Arrival = arrival_waiting o.first w in
-    let s' : Core = without_waiting s w in
+    let s' : Core = record s { waiting = filter (λ v. not (v.event == w.event)) s.waiting } in
     let stays : Waiting → Bool = λ v. not (v.event == w.event) in
     let turns : Waiting → Bool = λ v. v.turn == s.window.turned in
     let may : may_wait w.request ≡ true = find-passes turns (λ v. may_wait v.request) s.waiting w h.waiting.may found in

@@ -273,10 +273,6 @@ completed s (Some l) status = left_answered s l.unit (covers_ticket l.ticket) l.
 
 -- ---- task management
 
--- commands leave, and the function is answered
-abbrev pub aborted : Core → Request → ℕ → (Task → Bool) → Step
-aborted s r unit covers = left_answered s unit covers (connection_of r) (reply_of r (Respond 0))
-
 -- a number is received without a request, if it wasn't received before
 abbrev pub number_voided : Core → ℕ → Step
 number_voided s w = record {
