@@ -82,29 +82,32 @@ pub record Changed (old new : Arrived) (fewer_held more : ℕ) : Type 0 where
   pub counted : count_by is_some new.places ≡ count_by is_some old.places + more
   pub known : (conns : List (ℕ × ℕ)) → list_all (is_place_known conns) old.places ≡ true → list_all (is_place_known conns) new.places ≡ true
 
+same : (w : Arrived) → Changed w w 0 0
+same w = record { long = refl; turned = refl; unfinished = refl; held_is = omega arith; counted = omega arith; known = λ conns all. all }
+
+-- nothing is held at a place any more
+blanked : (w : Arrived) (k : ℕ) (p : Option (Option HeldRequest)) → at_place w k ≡ p → k < length w.places → Changed w (with_place w k (Some None)) (cond (is_held p) 1 0) (cond (is_some p) 0 1)
+blanked w k p is within =
+    let none : Option (Option HeldRequest) = Some None in
+    record {
+      long = length-set w.places k none;
+      turned = refl;
+      unfinished = refl;
+      held_is = omega (arith, count_replaced is_held w.places k none None within, ap {B = ℕ} (λ p. cond (is_held p) 1 0) is);
+      counted = grind (arith, count_replaced is_some w.places k none None within);
+      known = λ conns all. all_set (is_place_known conns) w.places k none all refl;
+    }
+
 pub emptied_changes : (w : Arrived) (sn : ℕ) → Changed w (emptied w sn) (cond (is_some (held_at w (place_in w sn))) 1 0) 0
 emptied_changes w sn = by_place (place_in w sn)
   where
-    same : Changed w w 0 0
-    same = record { long = refl; turned = refl; unfinished = refl; held_is = omega arith; counted = omega arith; known = λ conns all. all }
-
     by_kept : (k : ℕ) (p : Option (Option HeldRequest)) → at_place w k ≡ p → Changed w (emptied_if w (Inside k) (option_flatten p)) (cond (is_some (option_flatten p)) 1 0) 0
-    by_kept k None is = same
-    by_kept k (Some None) is = same
-    by_kept k (Some (Some r)) is =
-        let within : k < length w.places = some_within w.places k (Some r) is in
-        let none : Option (Option HeldRequest) = Some None in
-        record {
-          long = length-set w.places k none;
-          turned = refl;
-          unfinished = refl;
-          held_is = omega (arith, count_replaced is_held w.places k none None within, ap {B = ℕ} (λ p. cond (is_held p) 1 0) is);
-          counted = omega (arith, count_replaced is_some w.places k none None within, ap {B = ℕ} (λ (p : Option (Option HeldRequest)). cond (is_some p) 1 0) is);
-          known = λ conns all. all_set (is_place_known conns) w.places k none all refl;
-        }
+    by_kept k None is = same w
+    by_kept k (Some None) is = same w
+    by_kept k (Some (Some r)) is = blanked w k (Some (Some r)) is (some_within w.places k (Some r) is)
 
     by_place : (p : Place) → Changed w (emptied_if w p (held_at w p)) (cond (is_some (held_at w p)) 1 0) 0
-    by_place NoPlace = same
+    by_place NoPlace = same w
     by_place (Inside k) = by_kept k (at_place w k) refl
 
 -- a number inside the window has a place
@@ -115,17 +118,8 @@ pub voided_changes : (w : Arrived) (sn : ℕ) → IsInside (place_in w sn) → C
 voided_changes w sn inside = by_place (place_in w sn) refl inside
   where
     by_kept : (k : ℕ) → k < length w.places → (p : Option (Option HeldRequest)) → at_place w k ≡ p → Changed w (cond (is_some p) w (with_place w k (Some None))) 0 (cond (is_some p) 0 1)
-    by_kept k within (Some x) is = record { long = refl; turned = refl; unfinished = refl; held_is = omega arith; counted = omega arith; known = λ conns all. all }
-    by_kept k within None is =
-        let none : Option (Option HeldRequest) = Some None in
-        record {
-          long = length-set w.places k none;
-          turned = refl;
-          unfinished = refl;
-          held_is = omega (arith, count_replaced is_held w.places k none None within, ap {B = ℕ} (λ p. cond (is_held p) 1 0) is);
-          counted = omega (arith, count_replaced is_some w.places k none None within, ap {B = ℕ} (λ (p : Option (Option HeldRequest)). cond (is_some p) 1 0) is);
-          known = λ conns all. all_set (is_place_known conns) w.places k none all refl;
-        }
+    by_kept k within (Some x) is = same w
+    by_kept k within None is = blanked w k None is within
 
     by_place : (p : Place) → place_in w sn ≡ p → IsInside p → Changed w (received_at w p None) 0 (cond (is_received_at w p) 0 1)
     by_place NoPlace is out = absurd out
