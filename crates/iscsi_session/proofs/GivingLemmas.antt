@@ -28,7 +28,6 @@ given_one unit ticket (m ∷ ms) h = by_new (is_new m) refl (given_one unit tick
 
     by_new : (b : Bool) → is_new m ≡ b → (next_in ms ≡ Some ticket → Given unit ticket ms) → Given unit ticket (m ∷ ms)
     by_new true is by_rest =
-        let first : Some m.task.ticket ≡ Some ticket = rw is at h in
         let same : m.task.ticket ≡ ticket = cc in
         let given : (m.given || m.enabled) ≡ true = grind arith in
         let now_is : given_in (m ∷ ms) ≡ now ∷ ms = rw is in

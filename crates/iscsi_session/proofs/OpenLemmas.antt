@@ -40,28 +40,10 @@ pub Settled-opened : (o : Setting) (taken : ℕ) → Settled o (record {
 Settled-opened o taken = record {
   agrees = record {
     events = refl;
-    window = record {
-      first = refl;
-      size = length-replicate o.window None;
-      below = λ n low high. absurd (omega arith);
-      inside = λ k lt. nothing_at o.window k;
-      above = λ n high. refl;
-      past = λ n low. refl;
-      undelivered = λ n high. refl;
-      unemptied = λ n gone. refl;
-      requests = λ n a found. absurd cc;
-      numbers = λ n a found. absurd cc;
-      delivered = sym (ap (λ m. filter_map (request_at []) (range_with_len (number_of_first o.first) m)) (let z : number_of_first o.first + 0 - number_of_first o.first ≡ 0 = omega arith in z));
-      few = omega arith;
-      free = λ k big. nothing_at o.window k;
-    };
+    window = grind (arith, nat_tests, length-replicate, nothing_at);
     replies = record { cids = refl; stat_sns = λ cid known. first_number cid o.conns };
     commands = record { commands = refl; regular = refl; apart = refl; count_is = refl; fresh = λ k h. refl; unleft = λ k h. refl };
-    sets = record {
-      units = length-replicate o.units (opened_set o.depth);
-      depths = λ u lt. ap (λ (m : Members). m.depth) (set_opened o.units u o.depth lt);
-      lists = λ u lt. ap (λ (m : Members). m.list) (set_opened o.units u o.depth lt);
-    };
+    sets = grind (arith, nat_tests, length-replicate, set_opened);
     unfinished = refl;
     enabled = EnabledSoFar-none o;
     level = refl;

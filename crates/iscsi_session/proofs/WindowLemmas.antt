@@ -63,9 +63,7 @@ advanced_at w q here =
       long = ap (λ (v : Arrived). length v.places) moved ∙ some w.places q here;
       held = ap (λ (v : Arrived). count_by is_held v.places + cond (is_held (Some q)) 1 0) moved ∙ count_shift is_held q w.places refl here;
       counted = ap (λ (v : Arrived). count_by is_some v.places + 1) moved ∙ count_shift is_some q w.places refl here;
-      known = λ conns all.
-          let h' = all_shift (is_place_known conns) q w.places refl here all in
-          (h'.0, ap (λ (v : Arrived). list_all (is_place_known conns) v.places) moved ∙ h'.1);
+      known = grind (arith, nat_tests, all_shift);
     }
   where
     some : {A : Type 0} (ps : List (Option A)) (x : A) → get_or ps 0 None ≡ Some x → length (drop 1 ps ++ None ∷ []) ≡ length ps

@@ -101,8 +101,7 @@ WindowAgrees-admitted o w t a h low high new regular shows =
       unemptied = λ n gone. h.unemptied n (or_none (is_received t n) (a.number == n) (sym (received-admits t a n) ∙ gone)).0;
       requests = λ n b found. ⊎_elim (λ before. h.requests n b before) (λ this. rw (← this) regular) (admitted-cases t a n b found);
       numbers = λ n b found. ⊎_elim (λ before. h.numbers n b before) (λ this. cc (shows, admitted-number t' n b found)) (admitted-cases t a n b found);
-      delivered = append-nil (shown delivers t) ∙ h.delivered
-          ∙ same_range t t' (number_of_first o.first) (e - number_of_first o.first) (λ k l u. sym (request_at-admits t a k (apart k (omega (arith, h.first)))));
+      delivered = grind (arith, nat_tests, append-nil, same_range, request_at-admits, apart);
       few = omega (arith, h.few, long);
       free = λ k big. get_or-set_other w.places k₀ k x None (omega (arith, long, h.few)) ∙ h.free k (omega (arith, long));
     }
@@ -277,9 +276,7 @@ WindowAgrees-clears o w item t n h v low high = record {
   above = λ k u. rw (v.received_is k, h.above k (omega (arith, u, long))) (apart k (λ same. omega (arith, same, u, long)));
   past = λ k before. v.other k (apart k (λ same. omega (arith, same, before, low))) ∙ h.past k before;
   undelivered = λ k u. rw (v.delivers_no k, h.undelivered k u);
-  unemptied = λ k gone.
-      let parts = or_none (is_received t k) (n == k) (sym (v.received_is k) ∙ gone) in
-      v.emptied_is k parts.1 ∙ h.unemptied k parts.0;
+  unemptied = grind (arith, nat_tests, or_none);
   requests = λ k b found. h.requests k b (sym (ap first_of (v.admitted_is k)) ∙ found);
   numbers = λ k b found. h.numbers k b (sym (ap first_of (v.admitted_is k)) ∙ found);
   delivered = rw (v.delivers_none, append-nil, h.delivered)

@@ -90,7 +90,6 @@ returns-clause-done c =
     let position = to_z-of_z w64 c.args.pos (search rules) in
     record {
       core = rw (sets_now e, sets_are e, lives_are p, c.begin.ensures.connections, c.begin.ensures.window, ← c.self.view_is);
-      effects = c.enter-slot.ensures.effects.items
-          ∙ rw (c.push_reserved.ensures.items, append_assoc, c.deref_mut.ensures.value, c.conn.ensures, c.itt.ensures, c.attr_of-attr.ensures, c.attr.ensures, c.immediate.ensures, position, c.requires.number, c.event-event.ensures, ← c.self.view_is);
+      effects = grind (arith, nat_tests, append_assoc);
       room = c.enter-slot.ensures.effects.room ∙ c.push_reserved.ensures.capacity;
     }

@@ -35,7 +35,6 @@ invariant_of-self c =
     let w = waits_one here (record { request = c.args.request; turn = c.turned.result + c.from.result; event = c.self.inside.taken - 1 }) refl in
     let items = ap (λ (q : Queued Waiting). q.items) c.push.ensures in
     let some : 0 < c.self.inside.taken = rw (← c.self.view_is) at c.requires.taken in
-    let lt : c.self.inside.taken - 1 < c.self.inside.taken = omega (arith, some) in
     let before : nat_lt (c.self.inside.taken - 1) c.self.inside.taken ≡ true = grind (arith, nat_tests) in
     functions_sound inv (record {
       before = rw (items, list_all-append, inv.functions.before, before);

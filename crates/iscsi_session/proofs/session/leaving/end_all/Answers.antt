@@ -9,15 +9,14 @@ use Rattle.iscsi_session.proofs.ListLemmas.{are_known-left}
 use Rattle.iscsi_session.proofs.KeptLemmas.{without_none, without_more, leave_more, there_yet, finished_none, finished_on, without_shorter}
 use Rattle.iscsi_session.proofs.session.leaving.end_all.Goals.{In-loop-k}
 use Rattle.iscsi_session.proofs.session.leaving.end_all.Goals as goal
+use Rattle.std.proofs.lemmas.Bool.Decides.{nat_tests}
 
 pub loop-k-init : goal.loop-k-init
 loop-k-init c = search (rules, arith, sym (without_none c.args.live.now.items), sym (finished_none c.args.window.now c.args.live.now.items), sym (append-nil c.args.out.now.items))
 
 -- the command with the next ticket is still live
 still_live : (c : In-loop-k) → IsSome (find_ticket (get_or c.args.tickets.now c.loop-k.k 0) c.loop-k.live.items)
-still_live c =
-    let inside : c.loop-k.k < length c.args.tickets.now = c.loop-k-test.true in
-    rw c.loop-k.invariant.live (there_yet c.args.tickets.now c.loop-k.k 0 inside c.args.live.now.items c.requires.in_order (c.requires.there c.loop-k.k 0 inside))
+still_live c = grind (arith, nat_tests, there_yet)
 
 pub end-requires-clause-there : goal.end-requires-clause-there
 end-requires-clause-there c = still_live (goal.at.end-requires-clause-there c).In-loop-k
