@@ -1,15 +1,13 @@
 -- A session that was opened, and how many requests one holds.
-use Rattle.std.proofs.Common.{◌≡◌, ℕ, ◌+◌, ◌-◌, ◌*◌, ◌==◌, List, [], ◌∷◌, length, map, filter, replicate, Some, None, is_some, refl, ap, sym, ◌∙◌, arith, count_by}
-use Rattle.std.specs.List.{filter_map, range_with_len}
+use Rattle.std.proofs.Common.{◌≡◌, ℕ, ◌+◌, ◌*◌, ◌==◌, List, [], ◌∷◌, length, map, filter, replicate, Some, None, is_some, refl, ap, sym, ◌∙◌, arith, count_by}
 use Rattle.std.proofs.lemmas.List.{length-map, length-replicate}
-use Rattle.iscsi_wire.specs.Serial.{wire, number_of_first}
+use Rattle.iscsi_wire.specs.Serial.{wire}
 use Rattle.iscsi_window.specs.Windows.{number_expected, opened}
-use Rattle.iscsi_tasks.specs.Sets.{Members, opened as opened_set}
+use Rattle.iscsi_tasks.specs.Sets.{opened as opened_set}
 use Rattle.iscsi_history.specs.declared.event.Event.{Event}
 use Rattle.iscsi_history.specs.rules.Settings.{Setting}
 use Rattle.iscsi_history.specs.rules.Trace.{Trace, first_of, held, live}
 use Rattle.iscsi_history.specs.rules.Run.{trace_of}
-use Rattle.iscsi_history.specs.promises.Executed.{request_at}
 use Rattle.iscsi_session.specs.promises.Bounds.{held_count, effect_bound_of}
 use Rattle.iscsi_session.specs.private.Standing.{Core, Settled, StandsFor, place_of, is_held, stat_sn_on, kept, arrival_waiting}
 use Rattle.iscsi_history.proofs.EnabledItems.{EnabledSoFar-none}

@@ -26,7 +26,7 @@ use Rattle.iscsi_history.specs.declared.effect.Numbers.{Numbers}
 use Rattle.iscsi_history.specs.declared.event.Event.{Event}
 use Rattle.iscsi_history.specs.declared.event.Event.TheVariants.{Arrive, Done}
 use Rattle.iscsi_history.specs.declared.deed.Answer.{Answer}
-use Rattle.iscsi_history.specs.declared.deed.Answer.TheVariants.{Respond, LogOut}
+use Rattle.iscsi_history.specs.declared.deed.Answer.TheVariants.{LogOut}
 use Rattle.iscsi_history.specs.rules.Settings.{Setting, is_known}
 use Rattle.iscsi_history.specs.rules.Trace.{Mark, Trace, after_items, received}
 use Rattle.iscsi_history.specs.rules.Run.{effects_of}

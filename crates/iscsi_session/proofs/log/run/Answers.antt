@@ -1,12 +1,10 @@
-use Rattle.std.proofs.Common.{arith, ◌≡◌, ◌<◌, ◌∙◌, [], List, length, take, drop, ap, sym, subst, inl, inr, ⊎_elim, refl, false}
+use Rattle.std.proofs.Common.{arith, ◌≡◌, ◌<◌, ◌∙◌, [], List, length, take, drop, ap, sym, subst, inl, inr, ⊎_elim, false}
 use Rattle.std.specs.Prelude.{Result, Ok, Err, OnOk, is_err}
 use Rattle.std.proofs.lemmas.Grind.{common_steps}
-use Rattle.iscsi_session.specs.declared.session.Session.{Session}
 use Rattle.std.proofs.lemmas.List.{take_more, take_all}
 use Rattle.std.proofs.lemmas.Result.{err_from_is_err_and}
 use Rattle.iscsi_history.specs.declared.effect.Numbers.{Numbers}
 use Rattle.iscsi_history.specs.declared.event.Event.{Event}
-use Rattle.iscsi_session.specs.declared.fault.SessionFault.TheVariants.{NoMemory}
 use Rattle.iscsi_history.specs.rules.Settings.{Setting}
 use Rattle.iscsi_session.specs.promises.Settings.{setting_of}
 use Rattle.iscsi_history.specs.rules.Run.{run_of}

@@ -1,9 +1,5 @@
-use Rattle.std.proofs.Common.{rules, w64, ap, arith, count_by}
+use Rattle.std.proofs.Common.{rules, w64, arith}
 use Rattle.std.proofs.lemmas.Int.{to_z-of_z}
-use Rattle.iscsi_history.specs.declared.deed.Deed.TheVariants.{Enter}
-use Rattle.iscsi_session.specs.private.Standing.{Core, is_held}
-use Rattle.iscsi_session.specs.private.Steps.{owed}
-use Rattle.iscsi_session.specs.private.Deeds.{FitsEnter}
 use Rattle.iscsi_session.proofs.DeedLemmas.{carried_stays}
 use Rattle.iscsi_session.proofs.ManageLemmas.{owed_entered}
 use Rattle.iscsi_session.proofs.session.Session.carry_out.Goals as goal

@@ -1,4 +1,4 @@
-use Rattle.std.proofs.Common.{◌∙◌, append_assoc}
+use Rattle.std.proofs.Common.{append_assoc}
 use Rattle.iscsi_session.proofs.session.Session.close.Goals.{in-Some, in_default}
 use Rattle.iscsi_session.proofs.session.Session.close.Goals as goal
 use Rattle.std.proofs.Common.{arith}

@@ -1,12 +1,11 @@
-use Rattle.std.proofs.Common.{rules, ◌≡◌, ◌==◌, ◌||◌, ◌∙◌, ◌<◌, cond, Bool, true, false, Option, Some, None, option_map, nat_lt, ℕ, List, [], ◌∷◌, length, filter, is_some, get_or, refl, ap, sym, arith}
+use Rattle.std.proofs.Common.{◌≡◌, ◌==◌, ◌<◌, Bool, false, nat_lt, ℕ, List, [], ◌∷◌, length, filter, get_or, refl, ap, arith}
 use Rattle.std.specs.List.{list_any}
 use Rattle.std.proofs.lemmas.Bool.{lt-ltb}
 use Rattle.std.proofs.lemmas.List.{get_or_default, length-map}
-use Rattle.iscsi_wire.specs.Fields.{function, rtt}
-use Rattle.iscsi_tasks.specs.Sets.{Members, opened}
+use Rattle.iscsi_tasks.specs.Sets.{Members}
 use Rattle.iscsi_commands.specs.declared.live.Live.{Live}
 use Rattle.iscsi_session.specs.private.Standing.{Match}
-use Rattle.iscsi_session.specs.private.Deeds.{tagged_in, live_by, facts_by}
+use Rattle.iscsi_session.specs.private.Deeds.{facts_by}
 use Rattle.iscsi_history.specs.rules.Deeds.{of_unit}
 use Rattle.iscsi_session.proofs.session.Session.decide_to.Goals as goal
 use Rattle.iscsi_session.proofs.session.Session.decide_to.Goals.{In-QueryTask, In-QueryTaskSet}

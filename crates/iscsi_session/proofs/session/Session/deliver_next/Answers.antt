@@ -1,7 +1,6 @@
-use Rattle.std.proofs.Common.{◌≡◌, ◌∙◌, not, false, Some, ap, sym, subst, arith, is_some, count_by}
-use Rattle.iscsi_wire.specs.Fields.{connection_of, is_immediate}
+use Rattle.std.proofs.Common.{◌≡◌, ◌∙◌, false, Some, ap, sym, subst, arith, is_some, count_by}
+use Rattle.iscsi_wire.specs.Fields.{is_immediate}
 use Rattle.iscsi_window.specs.Windows.{Arrived}
-use Rattle.iscsi_history.specs.rules.Settings.{is_known}
 use Rattle.iscsi_session.specs.contracts.session.Session.{the_view}
 use Rattle.iscsi_session.specs.private.Standing.{Core, is_held}
 use Rattle.iscsi_session.specs.private.Steps.{Takes}

@@ -1,4 +1,4 @@
-use Rattle.std.proofs.Common.{◌≡◌, arith, length}
+use Rattle.std.proofs.Common.{arith}
 use Rattle.std.proofs.lemmas.List.{append-nil}
 use Rattle.iscsi_window.specs.Windows.{number_expected}
 use Rattle.iscsi_session.proofs.DroppingLemmas.{DroppedAll, dropped_all}

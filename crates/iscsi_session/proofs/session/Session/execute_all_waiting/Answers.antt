@@ -1,9 +1,8 @@
-use Rattle.std.proofs.Common.{◌≡◌, ◌∙◌, ◌++◌, ap, sym, subst, refl, arith, None}
+use Rattle.std.proofs.Common.{◌≡◌, ◌∙◌, ◌++◌, ap, sym, arith, None}
 use Rattle.std.proofs.lemmas.List.{append-nil}
 use Rattle.iscsi_window.specs.Windows.{number_expected}
 use Rattle.iscsi_history.specs.rules.Items.{functions_at}
 use Rattle.iscsi_session.specs.private.Standing.{Core}
-use Rattle.iscsi_session.specs.private.Steps.{KeepsPace}
 use Rattle.iscsi_session.specs.private.Deeds.{next_waiting, function_taken}
 use Rattle.iscsi_session.proofs.AgendaLemmas.{functions-on, functions-done}
 use Rattle.iscsi_session.proofs.DeedLemmas.{function_stays, pace-function}

@@ -1,6 +1,5 @@
-use Rattle.std.proofs.Common.{rules, w64, ◌∙◌, ap, append_assoc, arith}
+use Rattle.std.proofs.Common.{rules, w64, ◌∙◌, append_assoc, arith}
 use Rattle.std.proofs.lemmas.Int.{to_z-of_z}
-use Rattle.iscsi_session.specs.private.Standing.{Core}
 use Rattle.iscsi_session.proofs.session.Session.execute_at_once.Goals as goal
 use Rattle.std.proofs.lemmas.Bool.Decides.{nat_tests}
 

@@ -1,4 +1,4 @@
-use Rattle.std.proofs.Common.{w64, to_z, ◌≡◌, ◌==◌, ◌≤◌, ◌+◌, ◌∙◌, not, true, find, filter, Some, length, count_by, pos, ◌-ℤ◌, ℤ, List, refl, ap, sym, arith, append_assoc, eq-eqb}
+use Rattle.std.proofs.Common.{w64, to_z, ◌≡◌, ◌==◌, ◌≤◌, ◌+◌, ◌∙◌, not, true, find, filter, Some, length, count_by, pos, ◌-ℤ◌, ℤ, List, refl, ap, arith, append_assoc, eq-eqb}
 use Rattle.std.proofs.lemmas.Bool.{false≢true}
 use Rattle.std.proofs.lemmas.Int.{ints, to_z_pos}
 use Rattle.iscsi_wire.specs.Serial.{number_of_first}
@@ -16,7 +16,7 @@ use Rattle.iscsi_session.specs.declared.session.waiting.Waiting.{Waiting}
 use Rattle.iscsi_session.specs.contracts.session.Session.{the_view}
 use Rattle.iscsi_history.proofs.ListLemmas.{find-passes}
 use Rattle.iscsi_history.proofs.CountLemmas.{fewer_left}
-use Rattle.iscsi_session.proofs.DeedLemmas.{Whole, whole, is_whole, whole_function, fits_function, carried_stays}
+use Rattle.iscsi_session.proofs.DeedLemmas.{Whole, whole, whole_function, fits_function, carried_stays}
 use Rattle.iscsi_session.proofs.SoundLemmas.{fewer_sound}
 use Rattle.iscsi_session.proofs.session.Session.execute_next_waiting.Goals as goal
 use Rattle.iscsi_session.proofs.session.Session.execute_next_waiting.Goals.{In-Some, After-carry_out, After-decide_function-deed}

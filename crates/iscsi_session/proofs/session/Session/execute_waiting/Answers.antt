@@ -1,6 +1,4 @@
-use Rattle.std.proofs.Common.{◌≡◌, ◌∙◌, ◌==◌, None, find, is_some, sym, ap}
-use Rattle.iscsi_session.specs.declared.session.waiting.Waiting.{Waiting}
-use Rattle.iscsi_session.specs.contracts.session.Session.{the_view}
+use Rattle.std.proofs.Common.{◌≡◌, None}
 use Rattle.iscsi_session.specs.private.Deeds.{next_waiting}
 use Rattle.iscsi_history.proofs.ListLemmas.{is_none}
 use Rattle.iscsi_session.proofs.AgendaLemmas.{none_wait}

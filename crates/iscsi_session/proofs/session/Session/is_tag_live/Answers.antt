@@ -1,6 +1,3 @@
-use Rattle.std.proofs.Common.{◌==◌, ◌∙◌, is_some, find, ap, sym}
-use Rattle.iscsi_commands.specs.declared.live.Live.{Live}
-use Rattle.iscsi_session.specs.private.Standing.{Core}
 use Rattle.iscsi_session.proofs.TagLemmas.{any_found}
 use Rattle.iscsi_session.proofs.session.Session.is_tag_live.Goals as goal
 use Rattle.std.proofs.Common.{arith}

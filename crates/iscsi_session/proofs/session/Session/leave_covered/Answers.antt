@@ -1,7 +1,6 @@
 use Rattle.std.proofs.Common.{◌≡◌, ◌∙◌, ◌<◌, ◌++◌, length, take, drop, get_or, set, ap, sym, arith}
 use Rattle.iscsi_tasks.specs.Sets.{opened, is_covered}
-use Rattle.iscsi_session.specs.private.Standing.{Core}
-use Rattle.iscsi_session.specs.private.Steps.{set_staying, covered_tickets, staying, finished_by, ungiven_in, owed}
+use Rattle.iscsi_session.specs.private.Steps.{set_staying, covered_tickets, staying, finished_by}
 use Rattle.iscsi_session.proofs.CountLemmas.{few_live}
 use Rattle.iscsi_session.proofs.KeptLemmas.{ungiven_in-staying, rises, few_in, covered_live, covered_up, without_covered}
 use Rattle.iscsi_session.proofs.SoundLemmas.{sets_written, left_sound}

@@ -1,7 +1,3 @@
-use Rattle.std.proofs.Common.{◌≡◌, ◌∙◌, rules}
-use Rattle.iscsi_history.specs.declared.effect.Numbers.{Numbers}
-use Rattle.iscsi_history.specs.rules.Run.{trace_of}
-use Rattle.iscsi_session.specs.private.Steps.{numbers_by}
 use Rattle.iscsi_session.proofs.AgreeLemmas.{settled_numbers}
 use Rattle.iscsi_session.proofs.session.Session.numbers.Goals as goal
 use Rattle.std.proofs.Common.{arith}

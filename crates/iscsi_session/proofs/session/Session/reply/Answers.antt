@@ -1,7 +1,5 @@
-use Rattle.std.proofs.Common.{◌∙◌, refl, ap, sym, subst, vec_capacity}
+use Rattle.std.proofs.Common.{refl, sym, subst, vec_capacity}
 use Rattle.iscsi_connections.specs.Connected.{Connected}
-use Rattle.iscsi_session.specs.private.Standing.{Core}
-use Rattle.iscsi_session.specs.private.Steps.{count_reply}
 use Rattle.iscsi_session.specs.private.Invariant.{Inner, IsSessionSound}
 use Rattle.iscsi_session.proofs.SoundLemmas.{replied_sound}
 use Rattle.iscsi_session.proofs.session.Session.reply.Goals as goal

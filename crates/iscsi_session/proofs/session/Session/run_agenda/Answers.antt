@@ -1,7 +1,6 @@
-use Rattle.std.proofs.Common.{◌∙◌, ap, sym, subst, refl, arith, count_by}
+use Rattle.std.proofs.Common.{◌∙◌, ap, sym, refl, arith, count_by}
 use Rattle.iscsi_window.specs.Windows.{at_place}
 use Rattle.iscsi_session.specs.private.Standing.{Core, is_held}
-use Rattle.iscsi_session.specs.private.Steps.{KeepsPace}
 use Rattle.iscsi_session.proofs.AgendaLemmas.{Due, whole_of, Due-start, Due-functions, turned-one}
 use Rattle.iscsi_session.proofs.AgendaLemmas.{turns_done}
 use Rattle.iscsi_session.proofs.DeedLemmas.{same_expected, pace-turned, turned_taken}

@@ -1,9 +1,6 @@
-use Rattle.std.proofs.Common.{◌≡◌, ◌<◌, ◌+◌, ◌-◌, ◌∙◌, nat_lt, true, refl, ap, arith, ℕ}
+use Rattle.std.proofs.Common.{◌≡◌, ◌<◌, ◌+◌, ◌-◌, nat_lt, true, refl, ap, arith}
 use Rattle.std.proofs.lemmas.Bool.Decides.{nat_tests}
 use Rattle.std.proofs.lemmas.List.Folds.{list_all-append}
-use Rattle.iscsi_wire.specs.Serial.{lift, number_of_first}
-use Rattle.iscsi_wire.specs.Fields.{cmd_sn}
-use Rattle.iscsi_window.specs.Windows.{number_expected}
 use Rattle.iscsi_slots.specs.Queued.{Queued}
 use Rattle.iscsi_session.specs.declared.session.waiting.Waiting.{Waiting}
 use Rattle.iscsi_session.specs.private.Deeds.{FitsWait}
@@ -12,7 +9,6 @@ use Rattle.iscsi_session.proofs.SoundLemmas.{functions_sound}
 use Rattle.iscsi_session.specs.contracts.session.Session.{the_view}
 use Rattle.iscsi_session.proofs.session.Session.wait.Goals as goal
 use Rattle.iscsi_session.proofs.session.Session.wait.Goals.{After-exp}
-use Rattle.iscsi_history.proofs.NumberLemmas.{ahead_by}
 
 waits_later : (c : After-exp) → FitsWait (the_view c.self.inside) c.args.request
 waits_later c = rw (← c.self.view_is) at c.requires.later

@@ -1,19 +1,13 @@
-use Rattle.std.proofs.Common.{◌≡◌, ◌∙◌, ◌<◌, ◌==◌, true, Some, length, nat_lt, get_or, ap, sym, arith}
+use Rattle.std.proofs.Common.{◌≡◌, ◌∙◌, ◌<◌, length, get_or, ap, arith}
 use Rattle.std.proofs.lemmas.Bool.{ltb-true}
 use Rattle.std.proofs.lemmas.List.{get_or_default}
-use Rattle.iscsi_tasks.specs.Sets.{Members, opened, is_enabled_in}
-use Rattle.iscsi_commands.specs.declared.live.Live.{Live}
-use Rattle.iscsi_session.specs.private.Steps.{find_ticket}
+use Rattle.iscsi_tasks.specs.Sets.{Members, opened}
 use Rattle.iscsi_history.proofs.ListLemmas.{find-passes}
 use Rattle.iscsi_session.proofs.KeptLemmas.{one_leaving}
 use Rattle.iscsi_session.proofs.FoundLemmas.{found_ticket}
 use Rattle.iscsi_session.proofs.session.completion.take_enabled.Goals as goal
 use Rattle.iscsi_session.proofs.session.completion.take_enabled.Goals.{After-from}
 use Rattle.std.proofs.lemmas.Bool.Decides.{nat_tests}
-
--- the command is the one with the ticket
-found : (c : After-from) → find_ticket c.args.ticket c.args.live.now.items ≡ Some c.in_ok-command.field-0.command
-found c = sym c.in_ok-command.ensures.command
 
 -- its unit has a set
 within : (c : After-from) → c.in_ok-command.field-0.command.unit < length c.args.sets.now

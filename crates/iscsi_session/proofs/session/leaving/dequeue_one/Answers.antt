@@ -1,8 +1,6 @@
-use Rattle.std.proofs.Common.{◌≡◌, ◌∙◌, List, None, option_map, get_or, ap, sym, arith}
+use Rattle.std.proofs.Common.{◌≡◌, ◌∙◌, List, get_or, arith}
 use Rattle.std.proofs.lemmas.List.{get_or_default, set-get_or}
 use Rattle.iscsi_tasks.specs.Sets.{Members, opened}
-use Rattle.iscsi_commands.specs.declared.live.Placed.{Placed}
-use Rattle.iscsi_session.specs.private.Steps.{find_ticket}
 use Rattle.iscsi_session.proofs.KeptLemmas.{one_leaving, one_missing}
 use Rattle.iscsi_session.proofs.session.leaving.dequeue_one.Goals as goal
 use Rattle.std.proofs.lemmas.Bool.Decides.{nat_tests}

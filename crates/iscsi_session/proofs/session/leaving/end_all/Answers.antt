@@ -1,9 +1,9 @@
-use Rattle.std.proofs.Common.{◌++◌, ◌∙◌, ◌<◌, ◌≤◌, ◌==◌, ℕ, not, List, length, count_by, get_or, append_assoc, ap, sym, arith, rules}
+use Rattle.std.proofs.Common.{◌∙◌, ◌<◌, ◌≤◌, ◌==◌, ℕ, not, List, length, count_by, get_or, append_assoc, ap, sym, arith, rules}
 use Rattle.std.specs.Prelude.{IsSome}
-use Rattle.std.proofs.lemmas.List.{append-nil, take_all}
+use Rattle.std.proofs.lemmas.List.{append-nil}
 use Rattle.iscsi_history.proofs.ListLemmas.{fewer_counted}
 use Rattle.iscsi_commands.specs.declared.live.Live.{Live}
-use Rattle.iscsi_session.specs.private.Steps.{find_ticket, without_ticket, is_numbered, finished_by, leave_each, without_tickets}
+use Rattle.iscsi_session.specs.private.Steps.{find_ticket, without_ticket, is_numbered}
 use Rattle.iscsi_session.proofs.KeptLemmas.{ascending-kept}
 use Rattle.iscsi_session.proofs.ListLemmas.{are_known-left}
 use Rattle.iscsi_session.proofs.KeptLemmas.{without_none, without_more, leave_more, there_yet, finished_none, finished_on, without_shorter}

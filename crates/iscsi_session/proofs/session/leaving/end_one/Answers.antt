@@ -1,4 +1,4 @@
-use Rattle.std.proofs.Common.{ap, arith, length}
+use Rattle.std.proofs.Common.{arith}
 use Rattle.iscsi_session.proofs.KeptLemmas.{without_shorter}
 use Rattle.iscsi_session.proofs.session.leaving.end_one.Goals as goal
 use Rattle.std.proofs.lemmas.Bool.Decides.{nat_tests}

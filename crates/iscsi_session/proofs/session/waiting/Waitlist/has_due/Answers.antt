@@ -1,4 +1,4 @@
-use Rattle.std.proofs.Common.{◌≡◌, ◌==◌, ◌∙◌, find, is_some, ap, arith, None}
+use Rattle.std.proofs.Common.{◌≡◌, ◌==◌, find, arith, None}
 use Rattle.std.proofs.lemmas.Bool.Decides.{nat_tests}
 use Rattle.iscsi_session.specs.declared.session.waiting.Waiting.{Waiting}
 use Rattle.iscsi_session.proofs.WaitLemmas.{none_due, found_where}
