@@ -95,7 +95,6 @@ pub record Whole (s : Core) (r : Request) (number : ℤ) (event : ℕ) (d : Deed
   pub ready : IsReady s r d
   pub none_emptied : most_emptied s d ≡ 0
   pub places : (carried s r number event d).core.window.places ≡ s.window.places
-  pub of_no_number : is_of_number d ≡ false
 
 pub whole : (s : Core) (r : Request) (number : ℤ) (event : ℕ) (d : Deed) → is_whole d ≡ true → Whole s r number event d
 whole s r number event d is = grind (arith, nat_tests, ready, false≢true)

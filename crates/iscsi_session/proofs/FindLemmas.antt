@@ -122,9 +122,6 @@ numbered_deed s r x2 d later next shows fits = grind (arith, nat_tests, false≢
 none_of : (i b c d : Bool) → (b && c) ≡ false → (i && b && c && d) ≡ false
 none_of i b c d out = grind arith
 
-all_of : (i b c d : Bool) → (b && c) ≡ true → (i && b && c && d) ≡ (i && d)
-all_of i b c d is = grind arith
-
 -- a number is voided where it is in the window and below the function's own
 missing_is : (o : Setting) (s : Core) (t : Trace) (a : Arrival) → WindowAgrees o s.window t → exp_of o t ≡ number_expected s.window → max_of o t ≡ number_expected s.window + length s.window.places - 1 - s.window.unfinished → a.number ≡ lift (number_expected s.window) (cmd_sn a.request)
     → (facts_of o t a).is_missing ≡ missing_by s a.request
