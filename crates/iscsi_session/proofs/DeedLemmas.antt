@@ -59,7 +59,7 @@ fits_arrival s r = cond_both (opcode r == 0x02 && may_wait r) _ _ (Fits s r) (λ
     waiting may = grind (arith, nat_tests, cond_both, fits_function)
 
     unless_refused : (x : Option Answer) → Fits s r (waits_by s r) → Fits s r (elim x [ Some y ↦ Reply y | None ↦ waits_by s r ])
-    unless_refused x x1 = grind (arith, nat_tests)
+    unless_refused x rest = grind (arith, nat_tests)
 
 -- ---- a number is voided, or a held request is taken out
 
@@ -75,7 +75,7 @@ missing_parts s r missing = grind (arith, nat_tests, false≢true, and_first)
 -- there is room for it
 pub ready : (s : Core) (r : Request) (d : Deed) → Fits s r d → (is_immediate r ≡ false → HasRoom s.window) → (is_immediate r ≡ true → s.window.turned + count_by is_some s.window.places < s.taken)
     → s.entered + count_by is_some s.window.places < s.taken → is_known (connection_of r) s.conns ≡ true → IsReady s r d
-ready s r d x3 space turned entered known = grind (arith, nat_tests, missing_parts)
+ready s r d befits space turned entered known = grind (arith, nat_tests, missing_parts)
 
 -- ---- a function over a whole set
 

@@ -117,7 +117,7 @@ none_held_below w r unit n next shows = grind (arith, nat_tests, last_number)
 
 -- so it neither empties nor voids a number
 pub numbered_deed : (s : Core) (r : Request) (n : ℕ) (d : Deed) → is_immediate r ≡ false → n + 1 ≡ number_expected s.window → wire (cmd_sn r) ≡ wire n → Fits s r d → is_of_number d ≡ false
-numbered_deed s r x2 d later next shows fits = grind (arith, nat_tests, false≢true, missing_parts, none_held_below)
+numbered_deed s r number d later next shows fits = grind (arith, nat_tests, false≢true, missing_parts, none_held_below)
 
 none_of : (i b c d : Bool) → (b && c) ≡ false → (i && b && c && d) ≡ false
 none_of i b c d out = grind arith

@@ -284,7 +284,7 @@ module _ (o : Setting) (s : Core) (t : Trace) (m : Mark) (e : Effect) (a : Arriv
 -- what is known of a request that begins to execute meets what it does
 meets : (o : Setting) (s : Core) (t : Trace) (m : Mark) (e : Effect) (a : Arrival) (b : Begun o s t m e a) → number_by s a.request ≡ a.number → event_by s a.request ≡ cond (is_immediate a.request) a.event 0 → Found o s ((m ∷ []) ∷ t) a → (d : Deed)
     → (is_of_number d ≡ true → Windowed o s t m) → Meets o s t m e a b d
-meets o s t m x4 a b number_is event_is x d w = grind (arith, nat_tests)
+meets o s t m e a b number_is event_is x d w = grind (arith, nat_tests)
 
 position_of : (o : Setting) (s : Core) (a : Arrival) → s.window.first ≡ o.first → number_by s a.request ≡ a.number → position_by s a.request ≡ pos a.number -ℤ pos (number_of_first o.first)
 position_of o s a first number = rw (number, first)
