@@ -1,34 +1,225 @@
 -- The agenda: what is left of it, function by function and number by number.
-use Rattle.std.proofs.Common.{◌≡◌, ℕ, ◌+◌, ◌-◌, ◌<◌, ◌==◌, true, List, [], ◌∷◌, ◌++◌, filter, Option, Some, None, is_some, refl, ap, sym, subst, ◌∙◌, arith, append_assoc}
-use Rattle.std.specs.List.{list_all, filter_map}
+use Rattle.std.proofs.Common.{eq-eqb, inl, ◌≡◌, ℕ, ◌+◌, ◌-◌, ◌<◌, ◌≤◌, ◌==◌, ◌&&◌, ◌||◌, not, cond, Bool, true, false, List, [], ◌∷◌, ◌++◌, filter, Option, Some, None, option_map, refl, ap, sym, ◌∙◌, arith, nat_lt, nat_le, is_some, subst, append_assoc, inr, ⊎_elim, find}
+use Rattle.std.specs.List.{list_any, filter_map, list_all}
+use Rattle.std.proofs.lemmas.Bool.Decides.{nat_tests}
 use Rattle.std.proofs.lemmas.List.{append-nil}
+use Rattle.iscsi_wire.specs.declared.request.Request.{Request}
+use Rattle.iscsi_wire.specs.Serial.{lift, number_of_first}
+use Rattle.iscsi_wire.specs.Fields.{connection_of, is_immediate, itt, cmd_sn, header_of}
+use Rattle.iscsi_window.specs.declared.answer.Offer.{Offer}
+use Rattle.iscsi_window.specs.declared.answer.Offer.TheVariants.{Held, Outside as OutsideWindow, Duplicate as Known}
+use Rattle.iscsi_tasks.specs.declared.member.Member.{Member}
+use Rattle.iscsi_tasks.specs.Sets.{is_enabled_in}
+use Rattle.iscsi_window.specs.Windows.{number_expected, room_of, at_place, offer_to}
+use Rattle.iscsi_history.specs.declared.effect.Why.TheVariants.{Outside, Duplicate, Stale, Closed, Data}
+use Rattle.iscsi_history.specs.declared.event.Event.{Event}
+use Rattle.iscsi_history.specs.declared.event.Event.TheVariants.{Done}
+use Rattle.iscsi_history.specs.rules.Settings.{Setting, is_known}
+use Rattle.iscsi_history.specs.rules.Trace.{Arrival, Command, Mark, Admits, Trace, first_of, is_received, live, live_in, was_free, is_among, received, after_items, number_received, is_closed}
+use Rattle.iscsi_history.specs.rules.Execution.{exp_of, max_of, unfinished, ignored, completion, sense_of_status, rejected}
+use Rattle.iscsi_history.specs.rules.Agenda.{with_turns, numbered, arrival_of, command_of, items_of, belongs, kind_of, arrival_as, arrival_open, arrival}
+use Rattle.iscsi_history.specs.rules.Items.{agenda, item_of, function_item, functions_at, turn_at, immediate_item}
+use Rattle.iscsi_history.specs.rules.Run.{newly_enabled, effects_of, trace_of, effects_of_item, stat_sn_of}
+use Rattle.iscsi_session.specs.promises.Refusals.{refusal_of}
+use Rattle.iscsi_session.specs.private.Standing.{Core, place_of, kept, is_regular, member_of, Agrees, Settled, StandsFor, arrival_waiting}
+use Rattle.iscsi_session.specs.private.Steps.{find_ticket, comes_on, refusal_by, set_at, with_offered, enabled_of, enabled_in, covers_ticket, left_answered, completed, Step, Runs, Handles, HasNoMore, count_reply, is_among_open, Takes, replied, request_answered}
+use Rattle.iscsi_history.proofs.BoolLemmas.{and_both, not_flip}
+use Rattle.iscsi_history.proofs.ListLemmas.{list_any-map, is_known-cids, filter-swap, list_all-filter, find-passes, filtered_among, is_none}
+use Rattle.iscsi_session.proofs.WindowParts.{WindowAgrees-quiet, with_held, Next, next_request, Passed, passed_at, WindowAgrees-passed}
+use Rattle.iscsi_history.proofs.MomentLemmas.{enables}
+use Rattle.iscsi_session.proofs.AgreeLemmas.{find_kept, lasting, Regular, regular_parts, regular_live, settled_expected, settled_max, Stepped, Stepped-ignored, step_ignored, Agrees-admitted, known_of, Agrees-untouched, RepliesAgree-sent}
+use Rattle.iscsi_history.proofs.NewlyLemmas.{newly-untouched, Untouched}
+use Rattle.iscsi_history.proofs.NumberLemmas.{wire-lift}
+use Rattle.iscsi_history.proofs.CommandItems.{first_passing, none_passing, ticket_alone, untouched-admits, completion_item, first_passes, quiet-completion}
+use Rattle.iscsi_session.proofs.ExecutionLemmas.{covered_in, gone_tickets, Leaving, leaving-agrees, leaving-effects}
+use Rattle.iscsi_tasks.specs.declared.task.Task.{Task}
+use Rattle.iscsi_wire.specs.declared.reply.Reply.{Reply}
+use Rattle.iscsi_wire.specs.declared.reply.Reply.TheVariants.{Scsi, Reject}
 use Rattle.std.proofs.lemmas.List.Folds.{list_all-map}
 use Rattle.iscsi_window.specs.declared.held_request.HeldRequest.{HeldRequest}
-use Rattle.iscsi_wire.specs.Serial.{number_of_first}
-use Rattle.iscsi_window.specs.Windows.{number_expected, at_place}
 use Rattle.iscsi_history.specs.declared.effect.Effect.{Effect}
 use Rattle.iscsi_session.specs.declared.session.waiting.Waiting.{Waiting}
-use Rattle.iscsi_history.specs.rules.Settings.{Setting}
-use Rattle.iscsi_history.specs.rules.Trace.{Arrival, Mark, Trace, after_items, waiting, received, number_received}
-use Rattle.iscsi_history.specs.rules.Execution.{exp_of}
 use Rattle.iscsi_history.specs.rules.Management.{may_wait}
-use Rattle.iscsi_history.specs.rules.Items.{item_of, function_item, functions_at, turn_at, agenda}
-use Rattle.iscsi_history.specs.rules.Run.{effects_of_item, effects_of}
-use Rattle.iscsi_session.specs.private.Standing.{Core, arrival_waiting, Agrees, Settled}
-use Rattle.iscsi_session.specs.private.Steps.{Step, Runs, Handles, HasNoMore}
-use Rattle.iscsi_session.specs.private.Deeds.{turn_of, turn_taken, next_waiting, function_taken}
+use Rattle.iscsi_session.specs.private.Deeds.{turn_of, turn_taken, next_waiting, function_taken, arrival_by, comes_next, immediate_taken}
 use Rattle.iscsi_history.proofs.TraceLemmas.{after_items-append}
 use Rattle.iscsi_history.proofs.Missing.{expected_past}
-use Rattle.iscsi_session.proofs.WindowParts.{Next, next_request, Passed, passed_at, WindowAgrees-passed}
-use Rattle.iscsi_history.proofs.ListLemmas.{list_all-filter, find-passes}
-use Rattle.iscsi_history.proofs.ReceivedItems.{turn_receives_none, function_receives_none, functions_receive_none}
+use Rattle.iscsi_history.proofs.ReceivedItems.{turn_receives_none, function_receives_none, functions_receive_none, immediate_receives_one}
 use Rattle.iscsi_history.proofs.FlowItems.{agenda-halves, effects_of-append, same_exp, turns, turns-more}
 use Rattle.iscsi_session.proofs.WaitLemmas.{next_function, no_function}
 use Rattle.iscsi_session.proofs.ExecutionLemmas.{Follows}
-use Rattle.iscsi_session.proofs.TurnLemmas.{turned_core, turned_is, numbered_held}
-use Rattle.iscsi_session.proofs.FunctionLemmas.{turned-item, waited-item}
-use Rattle.iscsi_session.proofs.PaceLemmas.{stays_expected, executed_stays, function_stays}
-use Rattle.iscsi_session.proofs.AgreeLemmas.{settled_expected}
+use Rattle.iscsi_session.proofs.ExecutionLemmas.{turned_core, turned_is, numbered_held}
+use Rattle.iscsi_session.proofs.FunctionLemmas.{turned-item, waited-item, immediate-item}
+use Rattle.iscsi_session.proofs.DeedLemmas.{stays_expected, executed_stays, function_stays, immediate_same}
+use Rattle.iscsi_history.specs.declared.effect.Effect.TheVariants.{Send}
+use Rattle.iscsi_history.specs.declared.kind.Kind.TheVariants.{PassedOver, Unknown, Executes as ExecutesKind}
+use Rattle.iscsi_history.specs.promises.Flow.{HasOneMore}
+use Rattle.iscsi_history.proofs.DeliveryLemmas.{IsQuiet}
+use Rattle.iscsi_session.proofs.WindowLemmas.{held_now, comes_alone, Delivered, delivered}
+use Rattle.std.specs.Prelude.{Vec}
+use Rattle.std.specs.declared.alloc.Global.{Global}
+use Rattle.iscsi_history.specs.declared.deed.Answer.TheVariants.{Reject as RejectAnswer}
+
+-- ==== an arrival, a completion, and an event as a whole
+
+-- ---- a completion
+
+Stepped-completed : (o : Setting) (s : Core) (t : Trace) (c : Command) (ticket status : ℕ) → Settled o s t → first_of (filter (λ d. d.ticket == ticket) (live t)) ≡ Some c
+    → Stepped o (left_answered s c.unit (covers_ticket c.ticket) (connection_of c.arrival.request) (Scsi (itt c.arrival.request) status (sense_of_status status))) t (completion_item c status ∷ [])
+Stepped-completed o s t c ticket status h found =
+    let a = h.agrees in
+    let r : Regular o c = regular_parts o c (first_passes (λ d. d.ticket == ticket) (is_regular o) (live t) c (regular_live o s.live s.entered t a.commands) found) in
+    let item : List Mark = completion_item c status in
+    let covers : Task → Bool = covers_ticket c.ticket in
+    let conn : ℕ = connection_of c.arrival.request in
+    let reply : Reply = Scsi (itt c.arrival.request) status (sense_of_status status) in
+    let one = (ticket_alone (λ d. d.ticket == ticket) (live t) c a.commands.apart found).0 in
+    let gone : covered_in o t c.unit covers ≡ c ∷ [] = filter-swap (λ (d : Command). d.ticket == c.ticket) (λ (d : Command). d.unit == c.unit) (live t) ∙ rw (one, eq-eqb c.unit c.unit refl) in
+    let leaving : Leaving o s t item c.unit covers conn = record {
+      lasts = lasting o s t a;
+      window = WindowAgrees-quiet o s.window t item (quiet-completion c status) a.window;
+      replies = a.replies;
+      waits = record { list = a.waiting.list; may = a.waiting.may; known = a.waiting.known };
+      closes = record { session = refl; conns = λ k. refl };
+      inside = r.unit;
+      known = r.known;
+      leaves = record { enters_none = refl; some = λ k. sym (gone_tickets o t (set_at s c.unit) c.unit (a.sets.lists c.unit r.unit) covers k ∙ ap (is_among k) gone) };
+      sends = refl;
+    } in
+    record {
+      settled = record { agrees = leaving-agrees o s t item c.unit covers conn reply leaving; none_due = h.none_due };
+      effects_are = rw (leaving-effects o s t item c.unit covers conn reply leaving, gone, append-nil (enables (newly_enabled o t item)));
+      receives = inl (append-nil (received t));
+    }
+
+-- what a session finds by the ticket
+enabled_in_set : (o : Setting) (s : Core) (t : Trace) (ticket : ℕ) (c : Command) → Agrees o s t → c.unit < o.units → is_enabled_in ticket (set_at s c.unit).list ≡ list_any (λ d. d.ticket == ticket && was_free d t) (live_in c.unit t)
+enabled_in_set o s t ticket c a inside = ap (is_enabled_in ticket) (a.sets.lists c.unit inside) ∙ list_any-map (λ (m : Member). m.task.ticket == ticket && m.enabled) (member_of o t) (live_in c.unit t)
+
+pub Stepped-completion : (o : Setting) (s : Core) (t : Trace) (event ticket status : ℕ) → Settled o s t
+    → Stepped o (completed s (enabled_in s.sets s.live ticket) status) t (items_of o event t (Done ticket status))
+Stepped-completion o s t event ticket status h = by_ticket (first_of (filter (λ d. d.ticket == ticket) (live t))) refl
+  where
+    kept_is : enabled_in s.sets s.live ticket ≡ enabled_of s.sets ticket (option_map kept (first_of (filter (λ d. d.ticket == ticket) (live t))))
+    kept_is = ap (enabled_of s.sets ticket) (ap (find_ticket ticket) h.agrees.commands.commands ∙ find_kept ticket (live t))
+
+    by_ticket : (x : Option Command) → first_of (filter (λ d. d.ticket == ticket) (live t)) ≡ x → Stepped o (completed s (enabled_in s.sets s.live ticket) status) t (completion status (command_of t ticket))
+    by_ticket None none = rw (kept_is, none, none_passing (λ d. was_free d t) ticket (live t) none) (Stepped-ignored o s t Stale h)
+    by_ticket (Some c) found = by_test (was_free c t) refl
+      where
+        by_test : (b : Bool) → was_free c t ≡ b → Stepped o (completed s (enabled_in s.sets s.live ticket) status) t (completion status (command_of t ticket))
+        by_test b is =
+            let r : Regular o c = regular_parts o c (first_passes (λ d. d.ticket == ticket) (is_regular o) (live t) c (regular_live o s.live s.entered t h.agrees.commands) found) in
+            let one = first_passing (λ d. was_free d t) ticket (live t) c h.agrees.commands.apart found in
+            rw (kept_is, found, enabled_in_set o s t ticket c h.agrees r.unit, one.1, one.0, is) (by_free b)
+          where
+            by_free : (b : Bool) → Stepped o (completed s (cond b (Some (kept c)) None) status) t (completion status (cond b (Some c) None))
+            by_free true = Stepped-completed o s t c ticket status h found
+            by_free false = Stepped-ignored o s t Stale h
+
+-- ---- an arrival
+
+-- the number is outside the window of the definitions just where the window says so
+outside_by : (e long unfinished n : ℕ) → 0 < e → unfinished ≤ long → (nat_lt n e || nat_lt (e + long - 1 - unfinished) n) ≡ not (nat_le e n && nat_lt n (e + (long - unfinished)))
+outside_by e long unfinished n some few = grind (arith, nat_tests)
+
+outside_test : (o : Setting) (s : Core) (t : Trace) (n : ℕ) → Settled o s t
+    → (nat_lt n (exp_of o t) || nat_lt (max_of o t) n) ≡ not (nat_le (number_expected s.window) n && nat_lt n (number_expected s.window + room_of s.window))
+outside_test o s t n h = grind (arith, nat_tests, settled_max, settled_expected, outside_by)
+
+-- what is taken: the request is held at its place, which was empty, and its turn may have come
+record Taken (o : Setting) (s : Core) (t : Trace) (a : Arrival) (core : Core) : Type 0 where
+  core_is : core ≡ record s { window = with_held s.window a }
+  items_are : numbered o t a ≡ with_turns o t (Admits a ∷ [])
+  new : is_received t a.number ≡ false
+  low : number_expected s.window ≤ a.number
+  high : a.number < number_expected s.window + room_of s.window
+
+-- what the window says of a number, by the trace
+record Answered (o : Setting) (s : Core) (t : Trace) (a : Arrival) (answer : Offer) (core : Core) : Type 0 where
+  outside : answer ≡ OutsideWindow → (core ≡ s) × (numbered o t a ≡ ignored Outside)
+  known : answer ≡ Known → (core ≡ s) × (numbered o t a ≡ ignored Duplicate)
+  taken : answer ≡ Held → Taken o s t a core
+
+answered : (o : Setting) (s : Core) (t : Trace) (a : Arrival) → Settled o s t → a.number ≡ lift (number_expected s.window) (cmd_sn a.request) → a.event ≡ s.taken - 1
+    → Answered o s t a (offer_to s.window a.request) (with_offered s a.request)
+answered o s t a h number event = by_tests (nat_le (number_expected s.window) a.number && nat_lt a.number (number_expected s.window + room_of s.window)) (is_received t a.number) refl refl
+  where
+    within : (nat_le (number_expected s.window) a.number && nat_lt a.number (number_expected s.window + room_of s.window)) ≡ true → (number_expected s.window ≤ a.number) × (a.number < number_expected s.window + room_of s.window)
+    within is = grind (arith, nat_tests)
+
+    read : number_expected s.window ≤ a.number → a.number < number_expected s.window + room_of s.window → at_place s.window (a.number - number_expected s.window) ≡ place_of t a.number
+    read low high =
+        let at : number_expected s.window + (a.number - number_expected s.window) ≡ a.number = omega arith in
+        rw at at (h.agrees.window.inside (a.number - number_expected s.window) (omega (arith, h.agrees.window.few)))
+
+    by_tests : (b v : Bool) → (nat_le (number_expected s.window) a.number && nat_lt a.number (number_expected s.window + room_of s.window)) ≡ b → is_received t a.number ≡ v
+        → Answered o s t a (offer_to s.window a.request) (with_offered s a.request)
+    by_tests false v is there = rw (← number, is) (record {
+      outside = λ said. (refl, rw (outside_test o s t a.number h, is));
+      known = λ said. absurd cc;
+      taken = λ said. absurd cc;
+    })
+    by_tests true true is there = let at = within is in rw (← number, is, read at.0 at.1, there) (record {
+      outside = λ said. absurd cc;
+      known = λ said. (refl, rw (outside_test o s t a.number h, is, there));
+      taken = λ said. absurd cc;
+    })
+    by_tests true false is gone = let at = within is in rw (← number, is, read at.0 at.1, gone, ← event) (record {
+      outside = λ said. absurd cc;
+      known = λ said. absurd cc;
+      taken = λ said. record { core_is = refl; items_are = rw (outside_test o s t a.number h, is, gone); new = gone; low = at.0; high = at.1 };
+    })
+
+pub record Offered (o : Setting) (s : Core) (event : ℕ) (t : Trace) (r : Request) : Type 0 where
+  pub outside : offer_to s.window r ≡ OutsideWindow → Stepped o (step_ignored (with_offered s r) Outside) t (numbered o t (arrival_of o event t r))
+  pub known : offer_to s.window r ≡ Known → Stepped o (step_ignored (with_offered s r) Duplicate) t (numbered o t (arrival_of o event t r))
+  pub taken : offer_to s.window r ≡ Held → Agrees o (with_offered s r) ((Admits (arrival_of o event t r) ∷ []) ∷ t)
+      × ((numbered o t (arrival_of o event t r) ≡ (Admits (arrival_of o event t r) ∷ []) ∷ agenda o (number_expected (with_offered s r).window) (exp_of o ((Admits (arrival_of o event t r) ∷ []) ∷ t) - number_expected (with_offered s r).window) ((Admits (arrival_of o event t r) ∷ []) ∷ t))
+      × ((rest : List (List Mark)) → effects_of o t ((Admits (arrival_of o event t r) ∷ []) ∷ rest) ≡ effects_of o ((Admits (arrival_of o event t r) ∷ []) ∷ t) rest))
+
+-- a numbered request that comes on one of the connections
+pub offered : (o : Setting) (s : Core) (event : ℕ) (t : Trace) (r : Request) → Settled o s t → is_immediate r ≡ false → is_known (connection_of r) o.conns ≡ true → s.taken ≡ event + 1 → Offered o s event t r
+offered o s event t r h not_immediate known taken =
+    let a : Arrival = arrival_of o event t r in
+    let t₁ : Trace = (Admits a ∷ []) ∷ t in
+    let same_exp : exp_of o t ≡ number_expected s.window = settled_expected o s t h in
+    let x = answered o s t a h (ap (λ e. lift e (cmd_sn r)) same_exp) (omega (arith, taken)) in
+    let regular = and_both _ _ (ap not not_immediate) known in
+    record {
+      outside = λ said. let f = x.outside said in rw (f.0, f.1) (Stepped-ignored o s t Outside h);
+      known = λ said. let f = x.known said in rw (f.0, f.1) (Stepped-ignored o s t Duplicate h);
+      taken = λ said.
+          let f = x.taken said in
+          let start : exp_of o t ≡ number_expected (with_offered s r).window = same_exp ∙ ap (λ (c : Core). number_expected c.window) (sym f.core_is) in (
+            rw f.core_is (Agrees-admitted o s t a h.agrees f.low f.high f.new regular (sym (wire-lift (exp_of o t) (cmd_sn r)))),
+            (
+              f.items_are ∙ ap (λ e. (Admits a ∷ []) ∷ agenda o e (exp_of o t₁ - e) t₁) start,
+              λ rest. ap (λ cs. enables cs ++ effects_of o t₁ rest) (newly-untouched o t (Admits a ∷ []) (untouched-admits a)),
+            ),
+          );
+    }
+
+-- ---- an event
+
+pub Settled-counted : (o : Setting) (s : Core) (t : Trace) → Settled o s t → Settled o (record s { taken = s.taken + 1 }) t
+Settled-counted o s t h = assumption
+
+pub comes_on-same : (o : Setting) (s : Core) (t : Trace) (e : Event) → Agrees o s t → comes_on s.conns e ≡ comes_on o.conns e
+comes_on-same o s t e a = grind (arith, nat_tests, is_known-cids)
+
+-- ---- refusals
+
+belongs-comes_on : (o : Setting) (e : Event) → belongs o e ≡ comes_on o.conns e
+belongs-comes_on o e = grind (arith, nat_tests)
+
+pub refusal_is : (o : Setting) (s : Core) (h : List Event) (e : Event) → StandsFor o s h → refusal_by s e ≡ refusal_of o h e
+refusal_is o s h e stands = cc (comes_on-same o s (trace_of o h) e stands.settled.agrees, belongs-comes_on o e)
+
+-- an event that isn't refused
+pub taken_by : (s : Core) (e : Event) → refusal_by s e ≡ None → (comes_on s.conns e ≡ true) × (s.taken < s.events)
+taken_by s e h = grind (arith, nat_tests)
+
+-- ==== the agenda
 
 -- ---- what is left
 
@@ -44,18 +235,7 @@ pub record Leads (o : Setting) (t₀ : Trace) (out₀ : List Effect) (whole : Li
 pub Leads-on : (o : Setting) (t₀ : Trace) (out₀ : List Effect) (whole : List (List Mark)) (s s' : Core) (out out' : List Effect) (rest rest' : Trace → List (List Mark)) (d : Leads o t₀ out₀ whole s out rest) (items : List (List Mark))
     → Agrees o s' (after_items items d.trace) → received (after_items items d.trace) ≡ received d.trace → rest d.trace ≡ items ++ rest' (after_items items d.trace) → out' ≡ out ++ effects_of o d.trace items → Leads o t₀ out₀ whole s' out' rest'
 Leads-on o t₀ out₀ whole s s' out out' rest rest' d items agrees same splits given =
-    let t : Trace = d.trace in
-    let t' : Trace = after_items items t in
-    record {
-      trace = t';
-      agrees = agrees;
-      same = same ∙ d.same;
-      effects = ap (λ es. es ++ effects_of o t' (rest' t')) given
-          ∙ append_assoc out (effects_of o t items) (effects_of o t' (rest' t'))
-          ∙ ap (λ es. out ++ es) (sym (effects_of-append o items (rest' t') t))
-          ∙ ap (λ is. out ++ effects_of o t is) (sym splits) ∙ d.effects;
-      after = sym (after_items-append items (rest' t') t) ∙ ap (λ is. after_items is t) (sym splits) ∙ d.after;
-    }
+    grind (arith, nat_tests, append_assoc, effects_of-append, after_items-append)
 
 -- one item more
 Leads-item : (o : Setting) (t₀ : Trace) (out₀ : List Effect) (whole : List (List Mark)) (s : Core) (out : List Effect) (rest rest' : Trace → List (List Mark)) (d : Leads o t₀ out₀ whole s out rest) (item : List Mark) (x : Step)
@@ -90,9 +270,7 @@ abbrev pub left_functions : Setting → Core → Trace → List (List Mark)
 left_functions o s t = functions_at o (number_expected s.window) t
 
 functions_at_receive_none : (o : Setting) (s : Core) (t : Trace) (n : ℕ) → Agrees o s t → received (after_items (functions_at o n t) t) ≡ received t
-functions_at_receive_none o s t n a =
-    functions_receive_none o (filter (λ b. b.number == n) (waiting t)) t
-    (list_all-filter (λ (b : Arrival). b.number == n) (λ b. may_wait b.request) (waiting t) (ap (list_all (λ (b : Arrival). may_wait b.request)) a.waiting.list ∙ list_all-map (λ (b : Arrival). may_wait b.request) (arrival_waiting o.first) s.waiting ∙ a.waiting.may))
+functions_at_receive_none o s t n a = grind (arith, nat_tests, functions_receive_none, list_all-filter, list_all-map)
 
 -- the next one executes
 pub functions-on : (o : Setting) (t₀ : Trace) (out₀ : List Effect) (whole : List (List Mark)) (s : Core) (out : List Effect) (x : Option Waiting) → next_waiting s ≡ x → is_some x ≡ true → Leads o t₀ out₀ whole s out (left_functions o s)
@@ -112,14 +290,7 @@ functions-on o t₀ out₀ whole s out (Some w) is some d =
 
 -- there is none any more
 pub functions-done : (o : Setting) (t₀ : Trace) (out₀ : List Effect) (whole : List (List Mark)) (s : Core) (out : List Effect) → next_waiting s ≡ None → Leads o t₀ out₀ whole s out (left_functions o s) → Runs o t₀ whole s out₀ out
-functions-done o t₀ out₀ whole s out none d =
-    let t : Trace = d.trace in
-    let at : number_of_first o.first + s.window.turned ≡ number_expected s.window = omega (arith, d.agrees.window.first) in
-    let nothing : functions_at o (number_expected s.window) t ≡ [] = subst (λ k. functions_at o k t ≡ []) at (no_function o t s.waiting s.window.turned d.agrees.waiting.list none) in
-    record {
-      agrees = subst (Agrees o s) (ap (λ items. after_items items t) (sym nothing) ∙ d.after) d.agrees;
-      effects = sym (append-nil out) ∙ ap (λ items. out ++ effects_of o t items) (sym nothing) ∙ d.effects;
-    }
+functions-done o t₀ out₀ whole s out none d = grind (arith, nat_tests, no_function, append-nil)
 
 -- once they are taken
 pub Due-functions : (o : Setting) (t₀ : Trace) (out₀ : List Effect) (whole : List (List Mark)) (s s' : Core) (out out' : List Effect) → Due o t₀ out₀ whole s out → number_expected s'.window ≡ number_expected s.window
@@ -167,23 +338,11 @@ turned-number o t₀ out₀ whole s out None d place =
 
 pub turned-one : (o : Setting) (t₀ : Trace) (out₀ : List Effect) (whole : List (List Mark)) (s : Core) (out : List Effect) (p : Option (Option HeldRequest)) → at_place s.window 0 ≡ p → is_some p ≡ true → DueTurn o t₀ out₀ whole s out
     → let x = turn_taken s p in Due o t₀ out₀ whole x.core (out ++ x.effects)
-turned-one o t₀ out₀ whole s out None here some d = absurd cc
-turned-one o t₀ out₀ whole s out (Some q) here some d = subst (λ (x : Step). Due o t₀ out₀ whole x.core (out ++ x.effects)) (sym (turned_is s q here)) (turned-number o t₀ out₀ whole s out q d here)
+turned-one o t₀ out₀ whole s out p here some d = grind (arith, nat_tests, turned_is, turned-number)
 
 -- where nothing is due any more, the agenda is done
 pub turned-all : (o : Setting) (t₀ : Trace) (out₀ : List Effect) (whole : List (List Mark)) (s : Core) (out : List Effect) → DueTurn o t₀ out₀ whole s out → at_place s.window 0 ≡ None → Handles o t₀ whole HasNoMore s out₀ out
-turned-all o t₀ out₀ whole s out d none =
-    let t : Trace = d.trace in
-    let e : ℕ = number_expected s.window in
-    let settled : Settled o s t = record { agrees = d.agrees; none_due = none } in
-    let done : exp_of o t₀ ≡ e = sym (same_exp o t t₀ d.same) ∙ settled_expected o s t settled in
-    let nothing : turns o e (exp_of o t₀ - e) t ≡ [] = ap (λ n. turns o e n t) (let z : exp_of o t₀ - e ≡ 0 = omega (arith, done) in z) in
-    let ends : t ≡ after_items whole t₀ = ap (λ items. after_items items t) (sym nothing) ∙ d.after in
-    record {
-      settled = subst (Settled o s) ends settled;
-      effects = sym (append-nil out) ∙ ap (λ items. out ++ effects_of o t items) (sym nothing) ∙ d.effects;
-      receives = ap received (sym ends) ∙ d.same;
-    }
+turned-all o t₀ out₀ whole s out d none = grind (arith, nat_tests, same_exp, settled_expected, append-nil)
 
 -- what an agenda comes to, from a state on, where no function waits for its first number, which turns
 pub Handles-turned : (o : Setting) (s f : Core) (t : Trace) (out out' : List Effect) (p : Option (Option HeldRequest)) → next_waiting s ≡ None → at_place s.window 0 ≡ p → is_some p ≡ true → Agrees o s t
@@ -201,3 +360,99 @@ Handles-turned o s f t out out' p none here some a rest =
       effects = c.effects ∙ ap (λ items. (out ++ (turn_taken s p).effects) ++ effects_of o d.trace items) left ∙ d.effects;
       receives = ap received (sym ends) ∙ c.receives ∙ d.same;
     }
+
+-- ==== the turns that are taken, and an arrival as a whole
+
+-- ---- turns
+
+-- no turn any more
+pub turns_done : (o : Setting) (t₀ : Trace) (out₀ : List Effect) (whole : List (List Mark)) (s new : Core) (out out' : Vec Effect Global) → is_some (at_place s.window 0) ≡ false → Takes (turn_taken s (at_place s.window 0)) new out out' → DueTurn o t₀ out₀ whole s out.items
+    → Handles o t₀ whole HasNoMore new out₀ out'.items
+turns_done o t₀ out₀ whole s new out out' last x d =
+    let none : at_place s.window 0 ≡ None = is_none (at_place s.window 0) last in
+    let same : s ≡ new = sym (x.core ∙ ap (λ p. (turn_taken s p).core) none) in
+    let same_out : out.items ≡ out'.items = sym (x.effects ∙ ap (λ p. out.items ++ (turn_taken s p).effects) none ∙ append-nil out.items) in
+    subst (λ (v : Core). Handles o t₀ whole HasNoMore v out₀ out'.items) same (subst (λ es. Handles o t₀ whole HasNoMore s out₀ es) same_out (turned-all o t₀ out₀ whole s out.items d none))
+
+-- ---- a numbered request
+
+pub offered_known : (o : Setting) (s : Core) (index : ℕ) (t : Trace) (r : Request) → Settled o s t → is_immediate r ≡ false → is_known (connection_of r) s.conns ≡ true → s.taken ≡ index + 1 → Offered o s index t r
+offered_known o s index t r h regular known now = offered o s index t r h regular (known_of o s t _ h.agrees known) now
+
+-- what an agenda comes to, from each history with which a session agrees
+abbrev pub RunsAgenda : Core → Core → List Effect → List Effect → Type 0
+RunsAgenda s f out out' = (o : Setting) (t : Trace) → Agrees o s t → Handles o t (whole_of o s t) HasNoMore f out out'
+
+-- it is delivered as it comes: what the agenda comes to from there is what it comes to with the request held
+pub carried_at_once : (s s' f : Core) (r : Request) (out out' : Vec Effect Global) (out'' : List Effect) → comes_next s r ≡ true → Takes (turn_taken (with_offered s r) (Some (Some (held_now s r)))) s' out out' → RunsAgenda s' f out'.items out'' → RunsAgenda (with_offered s r) f out.items out''
+carried_at_once s s' f r out out' out'' next x rest = λ o t a.
+    let parts = comes_alone s r next in
+    let d : Delivered s.window (held_now s r) = delivered s.window (held_now s r) parts.1 in
+    let none : next_waiting (with_offered s r) ≡ None = ap (λ n. find (λ (w : Waiting). w.turn == n) s.waiting) d.grown_is.turned ∙ parts.0 in
+    Handles-turned o (with_offered s r) f t out.items out'' (Some (Some (held_now s r))) none d.first.there refl a (subst (λ es. RunsAgenda (turn_taken (with_offered s r) (Some (Some (held_now s r)))).core f es out'') x.effects (subst (λ (v : Core). RunsAgenda v f out'.items out'') x.core rest) o)
+
+-- a request that is held
+pub held_handled : (o : Setting) (s s' f : Core) (index : ℕ) (t : Trace) (r : Request) (out out' : List Effect) → Offered o s index t r → offer_to s.window r ≡ Held → s' ≡ with_offered s r → RunsAgenda s' f out out' → Handles o t (numbered o t (arrival_of o index t r)) HasOneMore f out out'
+held_handled o s s' f index t r out out' x said is runs = grind (arith, nat_tests)
+
+-- ---- an arrival that isn't numbered
+
+-- it is passed over
+pub passed_over : (o : Setting) (s : Core) (index : ℕ) (t : Trace) (r : Request) → Settled o s t → kind_of r ≡ PassedOver → Stepped o (step_ignored s Data) t (arrival_open o t (arrival_of o index t r))
+passed_over o s index t r h kind = subst (λ k. Stepped o (step_ignored s Data) t (arrival_as o t (arrival_of o index t r) k)) (sym kind) (Stepped-ignored o s t Data h)
+
+-- it is rejected
+pub rejected_opcode : (o : Setting) (s : Core) (index : ℕ) (t : Trace) (r : Request) → Settled o s t → kind_of r ≡ Unknown → is_known (connection_of r) o.conns ≡ true
+    → Stepped o (request_answered s r (RejectAnswer 5)) t (arrival_open o t (arrival_of o index t r))
+rejected_opcode o s index t r h kind known =
+    let a = h.agrees in
+    let conn : ℕ = connection_of r in
+    let reply : Reply = Reject 5 (header_of r) in
+    let item : List Mark = rejected (arrival_of o index t r) in
+    let u : Untouched item = record { enters_none = refl; leaves_no = λ k. refl } in
+    let q : IsQuiet item = record { receives = refl; admits = λ n. refl; delivers_none = refl; delivers_no = λ n. refl; empties_no = λ n. refl } in
+    subst (λ k. Stepped o (replied s conn reply) t (arrival_as o t (arrival_of o index t r) k)) (sym kind) (record {
+      settled = record {
+        agrees = Agrees-untouched o s t item s.window (count_reply conn s.conns) s.waiting u (record { session = refl; conns = λ c. refl }) (lasting o s t a) refl (WindowAgrees-quiet o s.window t item q a.window) (RepliesAgree-sent o s.conns t item conn refl known a.replies)
+            (record { list = a.waiting.list; may = a.waiting.may; known = a.waiting.known });
+        none_due = h.none_due;
+      };
+      effects_are = ap (λ n. Send conn n reply ∷ []) (a.replies.stat_sns conn known) ∙ sym (ap (λ cs. ((Send conn (stat_sn_of o t conn) reply ∷ []) ++ enables cs) ++ []) (newly-untouched o t item u));
+      receives = inl (append-nil (received t));
+    })
+
+-- an immediate request executes, waits or is refused, and the agenda follows
+pub at_once : (o : Setting) (s s' f : Core) (index : ℕ) (t : Trace) (r : Request) (out out' : Vec Effect Global) (out'' : List Effect) → Settled o s t → kind_of r ≡ ExecutesKind → is_immediate r ≡ true → is_known (connection_of r) o.conns ≡ true → s.taken ≡ index + 1 → list_all (λ w. nat_lt (w.event + 1) s.taken) s.waiting ≡ true
+    → Takes (immediate_taken s r (arrival_by s r)) s' out out' → RunsAgenda s' f out'.items out'' → Handles o t (arrival_open o t (arrival_of o index t r)) HasOneMore f out.items out''
+at_once o s s' f index t r out out' out'' h kind immediate known taken waited x runs =
+    let a : Arrival = arrival_of o index t r in
+    let item : List Mark = immediate_item o t a in
+    let t₁ : Trace = item ∷ t in
+    let first = immediate-item o s index t r h immediate known taken waited in
+    let same : number_expected s'.window ≡ number_expected s.window = ap (λ (v : Core). number_expected v.window) x.core ∙ (immediate_same s r).expected in
+    let start : exp_of o t ≡ number_expected s'.window = settled_expected o s t h ∙ sym same in
+    let rest : List (List Mark) = whole_of o s' t₁ in
+    let items_are : arrival_open o t a ≡ item ∷ rest = ap (arrival_as o t a) kind ∙ ap (λ b. cond b (with_turns o t item) (numbered o t a)) immediate ∙ ap (λ e. item ∷ agenda o e (exp_of o t₁ - e) t₁) start in
+    let done = runs o t₁ (subst (λ (v : Core). Agrees o v t₁) (sym x.core) first.0) in
+    subst (λ (items : List (List Mark)). Handles o t items HasOneMore f out.items out'') (sym items_are) (record {
+      settled = done.settled;
+      effects = done.effects ∙ ap (λ (es : List Effect). es ++ effects_of o t₁ rest) (x.effects ∙ ap (λ (es : List Effect). out.items ++ es) first.1) ∙ append_assoc out.items (effects_of_item o t item) (effects_of o t₁ rest);
+      receives = ⊎_elim (λ nothing. inl (done.receives ∙ ap (λ ns. received t ++ ns) nothing ∙ append-nil (received t))) (λ one. inr (one.0, done.receives ∙ ap (λ ns. received t ++ ns) one.1)) (immediate_receives_one o t a);
+    })
+
+-- ---- an arrival on a connection that is closed
+
+-- the session knows which connections are open
+open_is : (o : Setting) (s : Core) (t : Trace) (conn : ℕ) → Agrees o s t → is_known conn o.conns ≡ true → is_among_open conn s.open_conns ≡ not (is_closed conn t)
+open_is o s t conn h known = grind (arith, nat_tests, filtered_among, list_any-map)
+
+pub opened_arrival : (o : Setting) (s : Core) (index : ℕ) (t : Trace) (r : Request) → Agrees o s t → is_known (connection_of r) o.conns ≡ true → is_among_open (connection_of r) s.open_conns ≡ true
+    → arrival o t (arrival_of o index t r) ≡ arrival_open o t (arrival_of o index t r)
+opened_arrival o s index t r h known there = grind (arith, nat_tests, not_flip, open_is)
+
+closed_is : (o : Setting) (s : Core) (index : ℕ) (t : Trace) (r : Request) → Agrees o s t → is_known (connection_of r) o.conns ≡ true → is_among_open (connection_of r) s.open_conns ≡ false → arrival o t (arrival_of o index t r) ≡ ignored Closed
+closed_is o s index t r h known gone = grind (arith, nat_tests, not_flip, open_is)
+
+pub closed_arrival : (o : Setting) (s : Core) (index : ℕ) (t : Trace) (r : Request) → Settled o s t → is_known (connection_of r) o.conns ≡ true → is_among_open (connection_of r) s.open_conns ≡ false
+    → Stepped o (step_ignored s Closed) t (arrival o t (arrival_of o index t r))
+closed_arrival o s index t r h known gone = subst (λ items. Stepped o (step_ignored s Closed) t items) (sym (closed_is o s index t r h.agrees known gone)) (Stepped-ignored o s t Closed h)

@@ -1,37 +1,297 @@
 -- A session that agrees with what has happened agrees after one item more.
-use Rattle.std.proofs.Common.{◌≡◌, ℕ, ◌+◌, ◌-◌, ◌<◌, ◌≤◌, not, true, false, List, [], ◌∷◌, ◌++◌, length, nat_lt, refl, ap, sym, ◌∙◌, arith}
-use Rattle.std.specs.List.{filter_map, list_all}
-use Rattle.std.proofs.lemmas.Bool.{ltb-true}
+use Rattle.std.proofs.Common.{◌≡◌, ℕ, ◌==◌, ◌&&◌, ◌||◌, not, cond, Bool, true, false, List, [], ◌∷◌, ◌++◌, map, filter, refl, ap, sym, ◌∙◌, arith, ◌+◌, ◌<◌, length, option_map, eq-eqb, get_or, set, length-set, ◌-◌, ◌≤◌, nat_lt}
+use Rattle.std.proofs.lemmas.Bool.{eqb-true, ne_eqb, false≢true, ltb-true}
+use Rattle.std.proofs.lemmas.List.{append-nil, map-append, length_push, get_or-set_same, get_or-set_other}
+use Rattle.iscsi_tasks.specs.declared.member.Member.{Member}
+use Rattle.iscsi_tasks.specs.Sets.{is_free_among, looked_at, after_moment, is_new, next_in, given_in, Members, opened, entered_to, given_by}
+use Rattle.iscsi_history.specs.declared.effect.Effect.TheVariants.{Enable, Ignore}
+use Rattle.iscsi_history.specs.rules.Settings.{Setting, is_known}
+use Rattle.iscsi_history.specs.rules.Trace.{Command, Mark, Trace, live, live_in, was_free, has, entered, leaves_ticket, is_among, first_of, are_apart, sent_on, Arrival, Admits, Ignores, after_items, waiting, is_received, received}
+use Rattle.iscsi_session.specs.private.Standing.{task_of, member_of, set_of, open_of, kept, is_regular, CommandsAgree, SetsAgree, stat_sn_on, RepliesAgree, Core, WaitingAgrees, WindowAgrees, is_regular_request, Agrees, Settled}
+use Rattle.iscsi_session.specs.private.Steps.{as_given, enable_effects, enable_effect, find_ticket, count_reply, Step, Handles, numbers_by}
+use Rattle.iscsi_history.proofs.BoolLemmas.{and_parts, or_comm}
+use Rattle.iscsi_history.proofs.ListLemmas.{list_all-filter, all_of_filter, filter-map, map-map, map_all, is_known-cids, count_by-push}
+use Rattle.iscsi_history.proofs.MomentLemmas.{enables}
+use Rattle.iscsi_history.proofs.NewlyLemmas.{all_here, filter-twice, is_here, new_in, new_in-more, was_free-stays, Untouched, live-untouched, never_free, live_in-untouched, newly-untouched}
+use Rattle.iscsi_history.proofs.EnabledItems.{was_before, newly-one, EnabledSoFar-more, Exact, enabled_once, exact_now, same_enabled, shown-before, shown-item, EnabledSoFar-untouched}
+use Rattle.std.proofs.lemmas.Bool.Decides.{nat_tests}
+use Rattle.iscsi_history.specs.rules.Logout.{is_open}
+use Rattle.iscsi_history.proofs.TraceLemmas.{filter-same, live-enters, weaker}
+use Rattle.iscsi_history.proofs.ClosingItems.{ClosesNone, closed-same}
+use Rattle.std.specs.List.{list_all, filter_map, list_any}
+use Rattle.std.proofs.lemmas.List.Elements.{filter-append}
+use Rattle.std.proofs.lemmas.List.Folds.{list_any-append}
+use Rattle.iscsi_commands.specs.declared.live.Live.{Live}
+use Rattle.iscsi_history.proofs.ApartLemmas.{eq_sym, unamong-filter, apart-push, apart-filter}
+use Rattle.iscsi_session.proofs.ListLemmas.{list_all-push, cids-count_reply}
+use Rattle.iscsi_history.proofs.CommandItems.{EntersOne, LeavesSome, entered-untouched, live-left, unfinished-untouched, untouched-admits}
+use Rattle.iscsi_tasks.specs.declared.task.Task.{Task}
+use Rattle.iscsi_history.specs.rules.Run.{newly_enabled, stat_sn_of, effects_of, numbers_of}
 use Rattle.iscsi_wire.specs.Serial.{wire}
+use Rattle.iscsi_history.proofs.NumberLemmas.{wire-next}
+use Rattle.iscsi_history.specs.promises.Enabling.{EnabledSoFar}
 use Rattle.iscsi_wire.specs.Fields.{connection_of, cmd_sn}
 use Rattle.iscsi_window.specs.Windows.{Arrived, number_expected, room_of}
 use Rattle.iscsi_history.specs.declared.effect.Effect.{Effect}
-use Rattle.iscsi_history.specs.declared.effect.Effect.TheVariants.{Ignore}
 use Rattle.iscsi_history.specs.declared.effect.Why.{Why}
-use Rattle.iscsi_commands.specs.declared.live.Live.{Live}
-use Rattle.iscsi_history.specs.rules.Settings.{Setting, is_known}
-use Rattle.iscsi_history.specs.rules.Trace.{Arrival, Command, Mark, Admits, Ignores, Trace, after_items, has, entered, sent_on, waiting, leaves_ticket, live, is_received, received}
 use Rattle.iscsi_history.specs.rules.Execution.{exp_of, max_of, ignored, unfinished}
-use Rattle.iscsi_history.specs.rules.Run.{effects_of, numbers_of}
-use Rattle.iscsi_session.specs.private.Standing.{Core, CommandsAgree, SetsAgree, RepliesAgree, WaitingAgrees, WindowAgrees, open_of, is_regular, is_regular_request, Agrees, Settled}
-use Rattle.iscsi_session.specs.private.Steps.{Step, Handles, numbers_by}
 use Rattle.iscsi_history.specs.promises.Flow.{HasOneMore}
-use Rattle.iscsi_history.specs.promises.Enabling.{EnabledSoFar}
 use Rattle.iscsi_session.specs.declared.session.waiting.Waiting.{Waiting}
-use Rattle.iscsi_history.proofs.BoolLemmas.{and_parts}
-use Rattle.iscsi_history.proofs.ListLemmas.{list_all-filter, is_known-cids}
-use Rattle.iscsi_session.proofs.OpenConns.{open_of-same}
-use Rattle.iscsi_history.proofs.TraceLemmas.{weaker}
 use Rattle.iscsi_history.proofs.ReceivedItems.{ignored_receives}
 use Rattle.iscsi_history.proofs.DeliveryLemmas.{IsQuiet, quiet-ignored}
 use Rattle.iscsi_session.proofs.WindowParts.{next_expected, WindowAgrees-quiet, with_held, WindowAgrees-admitted}
-use Rattle.iscsi_history.proofs.ClosingItems.{ClosesNone}
-use Rattle.iscsi_session.proofs.ReplyParts.{RepliesAgree-quiet}
-use Rattle.iscsi_history.proofs.NewlyLemmas.{Untouched, newly-untouched}
-use Rattle.iscsi_session.proofs.CommandParts.{CommandsAgree-untouched}
-use Rattle.iscsi_history.proofs.EnabledItems.{EnabledSoFar-untouched}
-use Rattle.iscsi_history.proofs.CommandItems.{unfinished-untouched, untouched-admits}
-use Rattle.iscsi_session.proofs.SetParts.{SetsAgree-untouched}
+
+-- ==== which commands were free at some moment, after one item more
+
+-- ---- a set, after a moment
+
+-- a command's member, before the moment is noted, and after
+noted_one : (o : Setting) (t : Trace) (item : List Mark) (unit : ℕ) (c : Command) → is_here unit (live_in unit (item ∷ t)) c ≡ true
+    → (was_free c t || is_free_among (task_of o c) (map (member_of o t) (live_in unit (item ∷ t)))) ≡ was_free c (item ∷ t)
+noted_one o t item unit c here = grind (arith, nat_tests, and_parts, map-map, or_comm, eqb-true)
+
+-- a member, before the commands that became enabled are given
+abbrev noted_member : Setting → Trace → List Mark → Command → Member
+noted_member o t item c = record { task = task_of o c; enabled = was_free c (item ∷ t); given = was_free c t }
+
+-- the set, as it is then
+noted : (o : Setting) (t : Trace) (item : List Mark) (unit : ℕ) → after_moment (map (member_of o t) (live_in unit (item ∷ t))) ≡ map (noted_member o t item) (live_in unit (item ∷ t))
+noted o t item unit =
+    let cs : List Command = live_in unit (item ∷ t) in
+    map-map (looked_at (map (member_of o t) cs)) (member_of o t) cs
+    ∙ map_all (λ c. looked_at (map (member_of o t) cs) (member_of o t c)) (noted_member o t item) (is_here unit cs) cs (all_here unit (item ∷ t)) (λ c here. cc (noted_one o t item unit c here))
+
+-- once they are given, it is the set after the item
+pub noted_given : (o : Setting) (t : Trace) (item : List Mark) (unit : ℕ) → map as_given (after_moment (map (member_of o t) (live_in unit (item ∷ t)))) ≡ set_of o (item ∷ t) unit
+noted_given o t item unit =
+    let cs : List Command = live_in unit (item ∷ t) in
+    ap (map as_given) (noted o t item unit) ∙ map-map as_given (noted_member o t item) cs
+    ∙ map_all (λ c. as_given (noted_member o t item c)) (member_of o (item ∷ t)) (is_here unit cs) cs (all_here unit (item ∷ t)) (λ c here. cc (was_before c item t))
+
+-- the effects of the set are those of the definitions
+pub noted_effects : (o : Setting) (t : Trace) (item : List Mark) (unit : ℕ) → enable_effects unit (after_moment (map (member_of o t) (live_in unit (item ∷ t)))) ≡ enables (new_in t item unit)
+noted_effects o t item unit =
+    let cs : List Command = live_in unit (item ∷ t) in
+    let new : Command → Bool = λ c. was_free c (item ∷ t) && not (was_free c t) in
+    ap (enable_effects unit) (noted o t item unit)
+    ∙ ap (map (λ (m : Member). Enable m.task.ticket unit)) (filter-map is_new (noted_member o t item) cs)
+    ∙ map-map (λ (m : Member). Enable m.task.ticket unit) (noted_member o t item) (filter new cs)
+    ∙ map_all (λ (c : Command). Enable c.ticket unit) (λ (c : Command). Enable c.ticket c.unit) (λ c. c.unit == unit) (filter new cs)
+    (list_all-filter new (λ c. c.unit == unit) cs (all_of_filter (λ (c : Command). c.unit == unit) (live (item ∷ t))))
+    (λ c here. cc (eqb-true c.unit unit here))
+    ∙ ap enables (sym (filter-twice (λ c. not (was_free c t)) (λ c. was_free c (item ∷ t)) cs))
+
+-- ---- a unit that nothing leaves
+
+-- its commands of before are as they were
+pub set_of-stays : (o : Setting) (item : List Mark) (t : Trace) (unit : ℕ) (more : List Command) → live_in unit (item ∷ t) ≡ live_in unit t ++ more → map (member_of o (item ∷ t)) (live_in unit t) ≡ set_of o t unit
+set_of-stays o item t unit more now =
+    map_all (member_of o (item ∷ t)) (member_of o t) (is_here unit (live_in unit t)) (live_in unit t) (all_here unit t) (λ c here. cc (was_free-stays item t unit more c now here))
+
+pub set_of-same : (o : Setting) (item : List Mark) (t : Trace) (unit : ℕ) → live_in unit (item ∷ t) ≡ live_in unit t → set_of o (item ∷ t) unit ≡ set_of o t unit
+set_of-same o item t unit now = ap (map (member_of o (item ∷ t))) now ∙ set_of-stays o item t unit [] (now ∙ sym (append-nil (live_in unit t)))
+
+-- ---- a set that a command enters: only that one can be new
+
+never : (b : Bool) → (b && not b) ≡ false
+never b = grind arith
+
+given-past : (o : Setting) (t : Trace) (cs : List Command) (ms : List Member) → given_in (map (member_of o t) cs ++ ms) ≡ map (member_of o t) cs ++ given_in ms
+given-past o t [] ms = refl
+given-past o t (c ∷ cs) ms = cc (never (was_free c t), given-past o t cs ms)
+
+next-past : (o : Setting) (t : Trace) (cs : List Command) (ms : List Member) → next_in (map (member_of o t) cs ++ ms) ≡ next_in ms
+next-past o t [] ms = refl
+next-past o t (c ∷ cs) ms = cc (never (was_free c t), next-past o t cs ms)
+
+pub record EnteredSet (o : Setting) (t : Trace) (item : List Mark) (c : Command) (list : List Member) : Type 0 where
+  pub given : given_in (after_moment list) ≡ set_of o (item ∷ t) c.unit
+  pub effects : enable_effect c.unit (next_in (after_moment list)) ≡ enables (new_in t item c.unit)
+
+pub set-entered : (o : Setting) (t : Trace) (item : List Mark) (c : Command) → live_in c.unit (item ∷ t) ≡ live_in c.unit t ++ c ∷ [] → was_free c t ≡ false
+    → EnteredSet o t item c (set_of o t c.unit ++ record { task = task_of o c; enabled = false; given = false } ∷ [])
+set-entered o t item c now new =
+    let before : List Command = live_in c.unit t in
+    let free : Bool = was_free c (item ∷ t) in
+    let newcomer : Member = record { task = task_of o c; enabled = free; given = false } in
+    let old : map (noted_member o t item) before ≡ set_of o t c.unit =
+    map_all (noted_member o t item) (member_of o t) (is_here c.unit before) before (all_here c.unit t) (λ d here. cc (was_free-stays item t c.unit (c ∷ []) d now here)) in
+    let moment : after_moment (set_of o t c.unit ++ record { task = task_of o c; enabled = false; given = false } ∷ []) ≡ set_of o t c.unit ++ newcomer ∷ [] =
+    cc (map-append (member_of o t) before (c ∷ []), noted o t item c.unit, map-append (noted_member o t item) before (c ∷ [])) in
+    record {
+      given = cc (given-past o t before (newcomer ∷ []), given_one free, set_of-stays o item t c.unit (c ∷ []) now, map-append (member_of o (item ∷ t)) before (c ∷ []));
+      effects = cc (next-past o t before (newcomer ∷ []), effect_one free, new_in-more item t c.unit (c ∷ []) now);
+    }
+  where
+    given_one : (b : Bool) → given_in (record { task = task_of o c; enabled = b; given = false } ∷ []) ≡ record { task = task_of o c; enabled = b; given = b } ∷ []
+    given_one b = grind arith
+
+    effect_one : (b : Bool) → enable_effect c.unit (next_in (record { task = task_of o c; enabled = b; given = false } ∷ [])) ≡ enables (cond (b && not false) (c ∷ []) [])
+    effect_one b = grind arith
+
+-- ==== an item that closes nothing leaves the connections open that were
+
+pub open_of-same : (o : Setting) (item : List Mark) (t : Trace) → ClosesNone item → open_of o (item ∷ t) ≡ open_of o t
+open_of-same o item t c =
+    filter-same (is_open o (item ∷ t)) (is_open o t) (map (λ (k : ℕ × ℕ). k.0) o.conns) (λ conn. ap (λ b. is_known conn o.conns && not b) (closed-same conn item t c))
+
+-- ==== the live commands that are kept agree with what has happened after one item more
+
+pub CommandsAgree-untouched : (o : Setting) (lives : List Live) (n : ℕ) (t : Trace) (item : List Mark) → Untouched item → CommandsAgree o lives n t → CommandsAgree o lives n (item ∷ t)
+CommandsAgree-untouched o lives n t item u a =
+    let same : live (item ∷ t) ≡ live t = live-untouched item t u in
+    let entries : entered (item ∷ t) ≡ entered t = entered-untouched item t u in
+    record {
+      commands = a.commands ∙ ap (map kept) (sym same);
+      regular = ap (list_all (is_regular o)) entries ∙ a.regular;
+      apart = ap are_apart same ∙ a.apart;
+      count_is = a.count_is ∙ ap length (sym entries);
+      fresh = λ k lt. ap (is_among k) entries ∙ a.fresh k (rw entries at lt);
+      unleft = λ k lt. cc (u.leaves_no k, a.unleft k (rw entries at lt));
+    }
+
+-- ---- a command enters
+
+module _ (o : Setting) (lives : List Live) (n : ℕ) (item : List Mark) (t : Trace) (c : Command) (a : CommandsAgree o lives n t) (e : EntersOne item t c) where
+  pub live-entered : live (item ∷ t) ≡ live t ++ c ∷ []
+  live-entered = live-enters item t c e.one e.leaves_no (a.unleft c.ticket (omega (arith, e.ticket)))
+
+  pub live_in-entered : live_in c.unit (item ∷ t) ≡ live_in c.unit t ++ c ∷ []
+  live_in-entered = cc (live-entered, filter-append (λ (d : Command). d.unit == c.unit) (live t) (c ∷ []), eq-eqb c.unit c.unit refl)
+
+  pub live_in-elsewhere : (other : ℕ) → (other == c.unit) ≡ false → live_in other (item ∷ t) ≡ live_in other t
+  live_in-elsewhere other apart = cc (live-entered, filter-append (λ (d : Command). d.unit == other) (live t) (c ∷ []), eq_sym c.unit other, append-nil (live_in other t))
+
+pub CommandsAgree-entered : (o : Setting) (lives : List Live) (n : ℕ) (t : Trace) (item : List Mark) (c : Command) → CommandsAgree o lives n t → EntersOne item t c → is_regular o c ≡ true
+    → CommandsAgree o (lives ++ kept c ∷ []) (n + 1) (item ∷ t)
+CommandsAgree-entered o lives n t item c a e regular =
+    let more : live (item ∷ t) ≡ live t ++ c ∷ [] = live-entered o lives n item t c a e in
+    let entries : entered (item ∷ t) ≡ entered t ++ c ∷ [] = ap (λ cs. entered t ++ cs) e.one in
+    let one : length (entered (item ∷ t)) ≡ length (entered t) + 1 = ap length entries ∙ length_push (entered t) c in
+    let new : is_among c.ticket (entered t) ≡ false = a.fresh c.ticket (omega (arith, e.ticket)) in
+    record {
+      commands = cc (a.commands, map-append kept (live t) (c ∷ []));
+      regular = rw entries (list_all-push (is_regular o) (entered t) c a.regular regular);
+      apart = rw more (apart-push (live t) c a.apart (unamong-filter (λ (d : Command). not (has (leaves_ticket d.ticket) t)) c.ticket (entered t) new));
+      count_is = omega (arith, a.count_is, one);
+      fresh = λ k u. cc (list_any-append (λ (d : Command). d.ticket == k) (entered t) (c ∷ []), a.fresh k (omega (arith, one)), ne_eqb c.ticket k (omega (arith, one, e.ticket)));
+      unleft = λ k u. cc (e.leaves_no k, a.unleft k (omega (arith, one)));
+    }
+
+-- ---- commands leave
+
+-- no ticket that is yet to come leaves
+pub CommandsAgree-left : (o : Setting) (lives : List Live) (n : ℕ) (t : Trace) (item : List Mark) (out : ℕ → Bool) → CommandsAgree o lives n t → LeavesSome item out → ((k : ℕ) → length (entered t) < k → out k ≡ false)
+    → CommandsAgree o (filter (λ l. not (out l.ticket)) lives) n (item ∷ t)
+CommandsAgree-left o lives n t item out a l early =
+    let fewer : live (item ∷ t) ≡ filter (λ c. not (out c.ticket)) (live t) = live-left item t out l in
+    let entries : entered (item ∷ t) ≡ entered t = ap (λ cs. entered t ++ cs) l.enters_none ∙ append-nil (entered t) in
+    record {
+      commands = cc (a.commands, filter-map (λ (x : Live). not (out x.ticket)) kept (live t));
+      regular = rw entries a.regular;
+      apart = rw fewer (apart-filter (λ c. not (out c.ticket)) (live t) a.apart);
+      count_is = rw entries a.count_is;
+      fresh = λ k lt. cc (a.fresh k (rw entries at lt));
+      unleft = λ k lt. let late = rw entries at lt in cc (l.some k, early k late, a.unleft k late);
+    }
+
+-- ---- the command with a ticket
+
+pub find_kept : (ticket : ℕ) (cs : List Command) → find_ticket ticket (map kept cs) ≡ option_map kept (first_of (filter (λ c. c.ticket == ticket) cs))
+find_kept ticket [] = refl
+find_kept ticket (c ∷ cs) = grind (arith, find_kept ticket cs)
+
+-- ==== task sets that agree with what has happened agree after one item more
+
+pub SetsAgree-untouched : (o : Setting) (sets : List Members) (t : Trace) (item : List Mark) → Untouched item → SetsAgree o sets t → SetsAgree o sets (item ∷ t)
+SetsAgree-untouched o sets t item u a = record {
+  units = a.units;
+  depths = a.depths;
+  lists = λ unit lt. a.lists unit lt ∙ sym (set_of-same o item t unit (live_in-untouched item t u unit));
+}
+
+-- one set is another now, and the other units are as they were
+pub set-changed : (o : Setting) (sets : List Members) (t : Trace) (item : List Mark) (unit : ℕ) (new : Members) → SetsAgree o sets t → unit < o.units → new.depth ≡ o.depth → new.list ≡ set_of o (item ∷ t) unit
+    → ((other : ℕ) → (other == unit) ≡ false → live_in other (item ∷ t) ≡ live_in other t) → SetsAgree o (set sets unit new) (item ∷ t)
+set-changed o sets t item unit new a inside depth list same = grind (arith, nat_tests, get_or-set_same, get_or-set_other, length-set, set_of-same, ne_eqb)
+
+-- ---- a command enters
+
+pub record SetEntry (o : Setting) (sets : List Members) (t : Trace) (item : List Mark) (c : Command) (task : Task) : Type 0 where
+  pub agrees : SetsAgree o (set sets c.unit (given_by (entered_to (get_or sets c.unit (opened 0)) task))) (item ∷ t)
+  pub effects : enable_effect c.unit (next_in (entered_to (get_or sets c.unit (opened 0)) task).list) ≡ enables (newly_enabled o t item)
+
+pub SetsAgree-entered : (o : Setting) (lives : List Live) (n : ℕ) (sets : List Members) (t : Trace) (item : List Mark) (c : Command) (task : Task) → CommandsAgree o lives n t → SetsAgree o sets t → EntersOne item t c → c.unit < o.units → task ≡ task_of o c
+    → SetEntry o sets t item c task
+SetsAgree-entered o lives n sets t item c task commands a e inside is =
+    let old : Members = get_or sets c.unit (opened 0) in
+    let now : live_in c.unit (item ∷ t) ≡ live_in c.unit t ++ c ∷ [] = live_in-entered o lives n item t c commands e in
+    let new = never_free c t (commands.fresh c.ticket (omega (arith, e.ticket))) in
+    let newcomer : Task → Member = λ x. record { task = x; enabled = false; given = false } in
+    let entry = set-entered o t item c now new in
+    let list_is : old.list ++ newcomer task ∷ [] ≡ set_of o t c.unit ++ newcomer (task_of o c) ∷ [] = cc (a.lists c.unit inside) in
+    let elsewhere = live_in-elsewhere o lives n item t c commands e in
+    record {
+      agrees = set-changed o sets t item c.unit (given_by (entered_to old task)) a inside (a.depths c.unit inside) (cc (list_is, entry.given)) elsewhere;
+      effects = cc (list_is, entry.effects, newly-one o item t c.unit inside elsewhere);
+    }
+
+-- ==== connections that agree with what has happened agree after one item more
+
+stat_sn_on-same : (cid : ℕ) (conns : List (ℕ × ℕ)) → is_known cid conns ≡ true → stat_sn_on cid (count_reply cid conns) ≡ wire (stat_sn_on cid conns + 1)
+stat_sn_on-same cid [] known = absurd (false≢true known)
+stat_sn_on-same cid (c ∷ conns) known = grind (arith, nat_tests, stat_sn_on-same cid conns)
+
+stat_sn_on-other : (cid other : ℕ) (conns : List (ℕ × ℕ)) → (other == cid) ≡ false → stat_sn_on cid (count_reply other conns) ≡ stat_sn_on cid conns
+stat_sn_on-other cid other [] apart = refl
+stat_sn_on-other cid other (c ∷ conns) apart = grind (arith, nat_tests, stat_sn_on-other cid other conns apart)
+
+-- the next StatSN of a connection, after a reply on one
+replied : (o : Setting) (conns : List (ℕ × ℕ)) (t : Trace) (item : List Mark) (conn cid : ℕ) → RepliesAgree o conns t → is_known conn o.conns ≡ true → is_known cid o.conns ≡ true → filter_map sent_on item ≡ conn ∷ []
+    → stat_sn_on cid (count_reply conn conns) ≡ stat_sn_of o (item ∷ t) cid
+replied o conns t item conn cid a known_conn known sends =
+    grind (arith, nat_tests, count_by-push, eqb-true, stat_sn_on-same, is_known-cids, wire-next, stat_sn_on-other)
+
+-- an item that sends nothing
+pub RepliesAgree-quiet : (o : Setting) (conns : List (ℕ × ℕ)) (t : Trace) (item : List Mark) → filter_map sent_on item ≡ [] → RepliesAgree o conns t → RepliesAgree o conns (item ∷ t)
+RepliesAgree-quiet o conns t item none a = grind (arith, nat_tests, append-nil)
+
+-- an item that sends one reply
+pub RepliesAgree-sent : (o : Setting) (conns : List (ℕ × ℕ)) (t : Trace) (item : List Mark) (conn : ℕ) → filter_map sent_on item ≡ conn ∷ [] → is_known conn o.conns ≡ true → RepliesAgree o conns t → RepliesAgree o (count_reply conn conns) (item ∷ t)
+RepliesAgree-sent o conns t item conn one known a = record {
+  cids = cids-count_reply conn conns ∙ a.cids;
+  stat_sns = λ cid known_cid. replied o conns t item conn cid a known known_cid one;
+}
+
+-- ==== the commands that the effects show as enabled are those that the rule enables, after one item more
+
+-- ---- a command enters
+
+exact-entered : (o : Setting) (lives : List Live) (n : ℕ) (item : List Mark) (t : Trace) (c : Command) → CommandsAgree o lives n t → EntersOne item t c → c.unit < o.units → was_free c t ≡ false → Exact o t → Exact o (item ∷ t)
+exact-entered o lives n item t c a e inside new x k =
+    let newly : newly_enabled o t item ≡ filter (λ d. was_free d (item ∷ t) && not (was_free d t)) (c ∷ []) =
+    newly-one o item t c.unit inside (live_in-elsewhere o lives n item t c a e) ∙ new_in-more item t c.unit (c ∷ []) (live_in-entered o lives n item t c a e) in
+    let free : Command → Bool = λ d. d.ticket == k && was_free d (item ∷ t) in
+    let old : list_any free (live t) ≡ (enabled_once o t k && not (has (leaves_ticket k) t)) = same_enabled item t k more now ∙ sym (x k) ∙ shown-before o t k in
+    rw (shown-item o t item k, newly, e.leaves_no k)
+    (by_ticket (c.ticket == k) (was_free c (item ∷ t)) (was_free c t) (enabled_once o t k) refl new ∙ sym (ap (list_any free) (live-entered o lives n item t c a e) ∙ list_any-append free (live t) (c ∷ []) ∙ rw old))
+  where
+    more : ℕ → List Command
+    more unit = cond (unit == c.unit) (c ∷ []) []
+
+    now : (unit : ℕ) → live_in unit (item ∷ t) ≡ live_in unit t ++ more unit
+    now unit = grind (arith, nat_tests, eqb-true, live_in-entered, live_in-elsewhere, append-nil)
+
+    by_ticket : (b free before was : Bool) → (c.ticket == k) ≡ b → before ≡ false
+        → ((was || is_among k (cond (free && not before) (c ∷ []) [])) && not (has (leaves_ticket k) t)) ≡ ((was && not (has (leaves_ticket k) t)) || (((c.ticket == k) && free) || false))
+    by_ticket b free before was is none = grind (arith, nat_tests, eqb-true)
+
+-- ---- each moment
+
+pub EnabledSoFar-entered : (o : Setting) (lives : List Live) (n : ℕ) (item : List Mark) (t : Trace) (c : Command) → CommandsAgree o lives n t → EntersOne item t c → c.unit < o.units → was_free c t ≡ false → EnabledSoFar o t → EnabledSoFar o (item ∷ t)
+EnabledSoFar-entered o lives n item t c a e inside new x = EnabledSoFar-more o item t x (exact-entered o lives n item t c a e inside new (exact_now o t x))
+
+-- ==== the whole session
 
 -- ---- numbers
 
@@ -48,9 +308,7 @@ pub record Regular (o : Setting) (c : Command) : Type 0 where
   pub known : is_known (connection_of c.arrival.request) o.conns ≡ true
 
 pub regular_parts : (o : Setting) (c : Command) → is_regular o c ≡ true → Regular o c
-regular_parts o c h =
-    let parts = and_parts _ _ h in
-    record { unit = ltb-true c.unit o.units parts.0; known = parts.1 }
+regular_parts o c h = grind (arith, nat_tests, and_parts, ltb-true)
 
 -- the live commands are regular
 pub regular_live : (o : Setting) (lives : List Live) (n : ℕ) (t : Trace) → CommandsAgree o lives n t → list_all (is_regular o) (live t) ≡ true

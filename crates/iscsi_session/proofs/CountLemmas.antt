@@ -109,15 +109,7 @@ kept_later k lives h = filter_all (λ l. not (l.ticket == k)) (λ l. true) (λ l
 -- how many pass, without the command of a ticket
 pub count-left : (p : Live → Bool) (k : ℕ) (lives : List Live) (l : Live) → are_ascending lives ≡ true → find_ticket k lives ≡ Some l → count_by p (without_ticket k lives) + cond (p l) 1 0 ≡ count_by p lives
 count-left p k [] l up found = absurd cc
-count-left p k (x ∷ lives) l up found =
-    let parts = and_parts (list_all (λ m. nat_lt x.ticket m.ticket) lives) (are_ascending lives) up in
-    elim (x.ticket == k) as (λ b. (x.ticket == k) ≡ b → cond b (Some x) (find_ticket k lives) ≡ Some l → count_by p (cond (not b) (x ∷ without_ticket k lives) (without_ticket k lives)) + cond (p l) 1 0 ≡ count_by p (x ∷ lives)) [
-      | true ↦ λ is here.
-          let same : x ≡ l = cc in
-          let kept = kept_later k lives (rw (eqb-true x.ticket k is) at parts.0) in
-          omega (arith, count-cons p x lives, ap (count_by p) kept, ap {B = ℕ} (λ (m : Live). cond (p m) 1 0) same)
-      | false ↦ λ is there. omega (arith, count-cons p x lives, count-cons p x (without_ticket k lives), count-left p k lives l parts.1 there)
-    ] refl found
+count-left p k (x ∷ lives) l up found = grind (arith, nat_tests, count-left p k lives l, and_parts, kept_later, eqb-true, count-cons)
 
 -- a command leaves
 pub AreCounted-left : (counts counts' : List ℕ) (conns : List (ℕ × ℕ)) (lives : List Live) (l : Live) → AreCounted counts conns lives → length counts' ≡ length counts

@@ -1,15 +1,14 @@
 -- What a request does that executes, by what a session keeps: when it does that, and what stays as it was.
-use Rattle.std.proofs.Common.{◌≡◌, ℕ, ℤ, ◌+◌, ◌<◌, ◌≤◌, ◌==◌, ◌&&◌, not, cond, Bool, true, false, nat_lt, nat_le, length, count_by, is_some, Option, Some, None, refl, ap, sym, ◌∙◌, arith}
+use Rattle.std.proofs.Common.{◌≡◌, ℕ, ℤ, ◌+◌, ◌<◌, ◌≤◌, ◌==◌, ◌&&◌, not, cond, Bool, true, false, length, count_by, is_some, Option, Some, None, refl, ap, sym, ◌∙◌, arith, ◌-◌, subst, filter}
+use Rattle.iscsi_history.specs.declared.effect.Effect.TheVariants.{Immediate}
+use Rattle.iscsi_history.specs.declared.deed.Answer.TheVariants.{Respond}
 use Rattle.std.proofs.lemmas.Bool.Decides.{nat_tests}
 use Rattle.std.proofs.lemmas.Bool.{false≢true, cond_both}
-use Rattle.std.proofs.lemmas.Bool.Decides.{nat_tests}
 use Rattle.iscsi_window.specs.declared.held_request.HeldRequest.{HeldRequest}
 use Rattle.iscsi_wire.specs.declared.request.Request.{Request}
-use Rattle.iscsi_wire.specs.Serial.{lift}
-use Rattle.iscsi_wire.specs.Fields.{connection_of, is_immediate, opcode, cmd_sn, ref_cmd_sn}
+use Rattle.iscsi_wire.specs.Fields.{connection_of, is_immediate, opcode, ref_cmd_sn}
 use Rattle.iscsi_window.specs.declared.answer.Place.{Place}
-use Rattle.iscsi_window.specs.declared.answer.Place.TheVariants.{Inside, Outside}
-use Rattle.iscsi_window.specs.Windows.{HasRoom, IsInside, number_expected, room_of, place_in, held_at, received_at, emptied_if}
+use Rattle.iscsi_window.specs.Windows.{HasRoom, IsInside, place_in, held_at, received_at, emptied_if, Arrived, number_expected, at_place, advanced, advanced_if}
 use Rattle.iscsi_tasks.specs.declared.task.Task.{Task}
 use Rattle.iscsi_tasks.specs.declared.cover.Cover.TheVariants.{All as AllOfThem, Below}
 use Rattle.iscsi_tasks.specs.Sets.{is_covered}
@@ -17,17 +16,19 @@ use Rattle.iscsi_history.specs.declared.deed.Answer.{Answer}
 use Rattle.iscsi_history.specs.declared.deed.Deed.{Deed}
 use Rattle.iscsi_history.specs.declared.deed.Deed.TheVariants.{Nothing, Wait, Reply, Enter, Void, Empty, Abort, AbortEarlier, AbortAll, CloseConn, CloseSession}
 use Rattle.iscsi_history.specs.rules.Settings.{is_known}
-use Rattle.iscsi_history.specs.rules.Execution.{unit_named}
-use Rattle.iscsi_history.specs.rules.Management.{may_wait, MOST_WAITING}
+use Rattle.iscsi_history.specs.rules.Execution.{unit_named, reply_of}
+use Rattle.iscsi_history.specs.rules.Management.{may_wait}
 use Rattle.iscsi_history.specs.rules.Deeds.{Facts, of_unit, function_deed}
 use Rattle.iscsi_session.specs.private.Standing.{Core}
-use Rattle.iscsi_session.specs.private.Steps.{set_at, is_set_full, waiting_in, is_numbered, is_gone, covers_ticket, aborted}
-use Rattle.iscsi_session.specs.private.Deeds.{refusal_by, live_by, held_by, missing_at, missing_by, facts_by, deed_by, waits_by, arrival_by, Fits, IsReady, most_emptied, carried}
+use Rattle.iscsi_session.specs.private.Steps.{set_at, is_numbered, is_gone, covers_ticket, left_answered, after_effect, KeepsPace, completed}
+use Rattle.iscsi_session.specs.private.Deeds.{refusal_by, live_by, held_by, missing_by, facts_by, deed_by, waits_by, arrival_by, Fits, IsReady, most_emptied, carried, position_by, executed, turn_taken, next_position, function_taken, immediate_taken}
 use Rattle.iscsi_history.proofs.BoolLemmas.{and_first, and_second}
-use Rattle.iscsi_history.proofs.ListLemmas.{fewer_counted}
-use Rattle.iscsi_history.proofs.DeedTable.{named_below, Befits, befits_function, befits_deed}
+use Rattle.iscsi_history.proofs.ListLemmas.{fewer_counted, filter-shorter}
+use Rattle.iscsi_history.proofs.DeedTable.{named_below, Befits, befits_function, befits_deed, through_function}
 use Rattle.iscsi_session.proofs.LoggedOutLemmas.{Stays, logged_out_parts}
 use Rattle.iscsi_session.proofs.WindowLemmas.{emptied_changes, voided_changes}
+use Rattle.iscsi_session.specs.declared.session.waiting.Waiting.{Waiting}
+use Rattle.iscsi_commands.specs.declared.live.Live.{Live}
 
 -- ---- what it does fits
 
@@ -37,12 +38,7 @@ of_named units r unit none some named = sym (ap (λ x. of_unit x none some) name
 
 fits : (s : Core) (r : Request) (d : Deed) → Befits (facts_by s r) r d → Fits s r d
 fits s r Wait b = absurd b
-fits s r (Enter unit) b = record {
-  inside = named_below (length s.sets) r unit b.named;
-  not_full = of_named (length s.sets) r unit false (λ u. is_set_full (set_at s u)) b.named ∙ b.not_full;
-  unused = b.unused;
-  uncrowded = b.uncrowded;
-}
+fits s r (Enter unit) b = grind (arith, nat_tests, named_below, of_named)
 fits s r Void b = b.1
 fits s r (Empty unit sn) b = (named_below (length s.sets) r unit b.1, of_named (length s.sets) r unit None (held_by s r) b.1 ∙ b.2)
 fits s r (Abort unit ticket) b = (named_below (length s.sets) r unit b.1, of_named (length s.sets) r unit None (live_by s r) b.1 ∙ b.2)
@@ -60,14 +56,10 @@ pub fits_arrival : (s : Core) (r : Request) → Fits s r (arrival_by s r)
 fits_arrival s r = cond_both (opcode r == 0x02 && may_wait r) _ _ (Fits s r) (λ is. unless_refused (refusal_by s r) (waiting (and_second (opcode r == 0x02) (may_wait r) is))) (λ is. fits_deed s r)
   where
     waiting : may_wait r ≡ true → Fits s r (waits_by s r)
-    waiting may =
-        cond_both (nat_lt (number_expected s.window + room_of s.window) (lift (number_expected s.window) (cmd_sn r))) _ _ (Fits s r) (λ is. tt) (λ is.
-        cond_both (not (nat_lt (number_expected s.window) (lift (number_expected s.window) (cmd_sn r)))) _ _ (Fits s r) (λ is. fits_function s r) (λ ahead.
-        cond_both (nat_le MOST_WAITING (waiting_in s.waiting (connection_of r))) _ _ (Fits s r) (λ is. tt) (λ few. record { may = may; ahead = grind (arith, nat_tests, ahead); few = grind (arith, nat_tests, few) })))
+    waiting may = grind (arith, nat_tests, cond_both, fits_function)
 
     unless_refused : (x : Option Answer) → Fits s r (waits_by s r) → Fits s r (elim x [ Some y ↦ Reply y | None ↦ waits_by s r ])
-    unless_refused (Some y) fits = tt
-    unless_refused None fits = fits
+    unless_refused x rest = grind (arith, nat_tests)
 
 -- ---- a number is voided, or a held request is taken out
 
@@ -78,18 +70,12 @@ is_of_number _ = false
 
 -- only an immediate function voids a number, which is in the window
 pub missing_parts : (s : Core) (r : Request) → missing_by s r ≡ true → (is_immediate r ≡ true) × IsInside (place_in s.window (ref_cmd_sn r))
-missing_parts s r missing = by_place (place_in s.window (ref_cmd_sn r)) missing
-  where
-    by_place : (p : Place) → missing_at s r p ≡ true → (is_immediate r ≡ true) × IsInside p
-    by_place Outside is = absurd (false≢true is)
-    by_place (Inside k) is = (and_first (is_immediate r) (nat_lt (number_expected s.window + k) (lift (number_expected s.window) (cmd_sn r))) is, tt)
+missing_parts s r missing = grind (arith, nat_tests, false≢true, and_first)
 
 -- there is room for it
 pub ready : (s : Core) (r : Request) (d : Deed) → Fits s r d → (is_immediate r ≡ false → HasRoom s.window) → (is_immediate r ≡ true → s.window.turned + count_by is_some s.window.places < s.taken)
     → s.entered + count_by is_some s.window.places < s.taken → is_known (connection_of r) s.conns ≡ true → IsReady s r d
-ready s r (Enter unit) fits space turned entered known = record { space = space; entered = entered; known = known }
-ready s r Void fits space turned entered known = (turned (missing_parts s r fits).0, entered)
-ready s r _ fits space turned entered known = tt
+ready s r d befits space turned entered known = grind (arith, nat_tests, missing_parts)
 
 -- ---- a function over a whole set
 
@@ -109,14 +95,9 @@ pub record Whole (s : Core) (r : Request) (number : ℤ) (event : ℕ) (d : Deed
   pub ready : IsReady s r d
   pub none_emptied : most_emptied s d ≡ 0
   pub places : (carried s r number event d).core.window.places ≡ s.window.places
-  pub of_no_number : is_of_number d ≡ false
 
 pub whole : (s : Core) (r : Request) (number : ℤ) (event : ℕ) (d : Deed) → is_whole d ≡ true → Whole s r number event d
-whole s r number event Nothing is = record { ready = tt; none_emptied = refl; places = refl; of_no_number = refl }
-whole s r number event (Reply x) is = record { ready = tt; none_emptied = refl; places = refl; of_no_number = refl }
-whole s r number event (AbortEarlier unit) is = record { ready = tt; none_emptied = refl; places = refl; of_no_number = refl }
-whole s r number event (AbortAll unit) is = record { ready = tt; none_emptied = refl; places = refl; of_no_number = refl }
-whole s r number event _ is = absurd (false≢true is)
+whole s r number event d is = grind (arith, nat_tests, ready, false≢true)
 
 -- ---- what stays
 
@@ -128,7 +109,7 @@ begins r _ = 0
 pub begins_one : (r : Request) (d : Deed) → begins r d ≤ 1
 begins_one r d = grind arith
 
-aborted_stays : (s : Core) (r : Request) (unit : ℕ) (covers : Task → Bool) → Stays 0 s (aborted s r unit covers).core
+aborted_stays : (s : Core) (r : Request) (unit : ℕ) (covers : Task → Bool) → Stays 0 s (left_answered s unit covers (connection_of r) (reply_of r (Respond 0))).core
 aborted_stays s r unit covers = omega (arith, fewer_counted is_numbered (λ l. not (is_gone covers (set_at s unit) l.ticket)) s.live)
 
 pub carried_stays : (s : Core) (r : Request) (number : ℤ) (event : ℕ) (d : Deed) → Fits s r d → Stays (begins r d) s (carried s r number event d).core
@@ -162,3 +143,87 @@ carried_counted s r number event (Empty unit sn) fits numbered = let g = emptied
 carried_counted s r number event (CloseConn closing) fits numbered = (logged_out_parts s r (Some closing)).counted
 carried_counted s r number event CloseSession fits numbered = (logged_out_parts s r None).counted
 carried_counted s r number event _ fits numbered = refl
+
+-- ==== what a turn leaves as it was, and a function that has waited: the numbers that have turned, and the events. A turn begins one command at the most
+
+pub same_expected : (w w' : Arrived) → w'.first ≡ w.first → w'.turned ≡ w.turned → number_expected w' ≡ number_expected w
+same_expected w w' first turned = cc
+
+pub stays_expected : (more : ℕ) (s s' : Core) → Stays more s s' → number_expected s'.window ≡ number_expected s.window
+stays_expected more s s' h = same_expected s.window s'.window h.first h.turned
+
+one_more : (s s' : Core) (r : Request) (d : Deed) → Stays (begins r d) s s' → Stays 1 s s'
+one_more s s' r d h = omega (arith, h, begins_one r d)
+
+-- ---- a function that has waited
+
+begins_none : (r : Request) (d : Deed) → is_immediate r ≡ true → begins r d ≡ 0
+begins_none r d immediate = grind (arith, nat_tests)
+
+-- a function begins none
+begins_function : (f : Facts) (r : Request) → begins r (function_deed f r) ≡ 0
+begins_function f r = through_function (λ d. begins r d ≡ 0) f r refl (λ x. refl) refl (λ u n. refl) (λ u n. refl) (λ u. refl) (λ u. refl)
+
+pub function_stays : (s : Core) (x : Option Waiting) → Stays 0 s (function_taken s x).core
+function_stays s None = omega arith
+function_stays s (Some w) =
+    let s' : Core = record s { waiting = filter (λ v. not (v.event == w.event)) s.waiting } in
+    let h = carried_stays s' w.request (next_position s) w.event (function_deed (facts_by s' w.request) w.request) (fits_function s' w.request) in
+    omega (arith, h, begins_function (facts_by s' w.request) w.request, fewer_left w)
+  where
+    fewer_left : (w : Waiting) → length (filter (λ v. not (v.event == w.event)) s.waiting) ≤ length s.waiting
+    fewer_left w = filter-shorter (λ v. not (v.event == w.event)) s.waiting
+
+pub pace-function : (s : Core) (x : Option Waiting) → KeepsPace s.window (function_taken s x).core.window
+pace-function s x = omega (arith, function_stays s x)
+
+-- ---- a request
+
+pub executed_stays : (s : Core) (r : Request) (event : ℕ) → Stays 1 s (executed s r event).core
+executed_stays s r event = one_more s (executed s r event).core r (deed_by s r) (carried_stays s r (position_by s r) event (deed_by s r) (fits_deed s r))
+
+pub executed_counted : (s : Core) (r : Request) (event : ℕ) → is_immediate r ≡ false → count_by is_some (executed s r event).core.window.places ≡ count_by is_some s.window.places
+executed_counted s r event numbered = carried_counted s r (position_by s r) event (deed_by s r) (fits_deed s r) numbered
+
+-- an immediate one that doesn't wait begins none of the numbered commands
+pub at_once_stays : (s : Core) (r : Request) (d : Deed) → Fits s r d → is_immediate r ≡ true → Stays 0 s (after_effect (Immediate r) (carried s r (position_by s r) (s.taken - 1) d)).core
+at_once_stays s r d fits immediate = let h = carried_stays s r (position_by s r) (s.taken - 1) d fits in omega (arith, h, begins_none r d immediate)
+
+pub immediate_is : (s : Core) (r : Request) (d : Deed) → (d ≡ Wait → ⊥) → immediate_taken s r d ≡ after_effect (Immediate r) (carried s r (position_by s r) (s.taken - 1) d)
+immediate_is s r d other = grind (arith, nat_tests)
+
+-- the numbers and the events are the same after it
+pub record Same (s s' : Core) : Type 0 where
+  pub expected : number_expected s'.window ≡ number_expected s.window
+  pub taken : s'.taken ≡ s.taken
+
+pub immediate_same : (s : Core) (r : Request) → Same s (immediate_taken s r (arrival_by s r)).core
+immediate_same s r =
+    let d : Deed = arrival_by s r in
+    by_deed d (one_more s (after_effect (Immediate r) (carried s r (position_by s r) (s.taken - 1) d)).core r d (carried_stays s r (position_by s r) (s.taken - 1) d (fits_arrival s r)))
+  where
+    by_deed : (d : Deed) → Stays 1 s (after_effect (Immediate r) (carried s r (position_by s r) (s.taken - 1) d)).core → Same s (immediate_taken s r d).core
+    by_deed d h = grind (arith, nat_tests, stays_expected)
+
+-- ---- a completion
+
+pub pace-completed : (s : Core) (x : Option Live) (status : ℕ) → KeepsPace s.window (completed s x status).core.window
+pace-completed s x status = grind (arith, nat_tests, fewer_counted)
+
+-- ---- a turn
+
+pub pace-turned : (s : Core) → KeepsPace s.window (turn_taken s (at_place s.window 0)).core.window
+pace-turned s = by_place (at_place s.window 0) refl
+  where
+    by_place : (p : Option (Option HeldRequest)) → at_place s.window 0 ≡ p → KeepsPace s.window (turn_taken s p).core.window
+    by_place None is = omega arith
+    by_place (Some None) is = subst (λ q. KeepsPace s.window (advanced_if s.window q)) (sym is) (omega arith)
+    by_place (Some (Some h)) is =
+        let turned = ap (λ q. (advanced_if s.window q).turned) is in
+        let same = ap (λ q. (advanced_if s.window q).unfinished) is in
+        omega (arith, executed_stays (record s { window = advanced s.window }) h.request h.event, turned, same)
+
+pub turned_taken : (s : Core) (p : Option (Option HeldRequest)) → (turn_taken s p).core.taken ≡ s.taken
+turned_taken s None = refl
+turned_taken s (Some None) = refl
+turned_taken s (Some (Some h)) = (executed_stays (record s { window = advanced s.window }) h.request h.event).taken

@@ -1,33 +1,42 @@
 -- A request executes: it is answered, a command enters, or nothing more happens.
-use Rattle.std.proofs.Common.{◌≡◌, ℕ, ◌+◌, ◌<◌, not, cond, Bool, true, false, List, [], ◌∷◌, length, map, count_by, get_or, None, refl, ap, sym, ◌∙◌, arith}
-use Rattle.std.proofs.lemmas.Bool.{cond_both, lt-ltb}
-use Rattle.std.proofs.lemmas.List.{append-nil, length-map}
+use Rattle.std.proofs.Common.{◌≡◌, ℕ, ◌+◌, ◌<◌, not, cond, Bool, true, false, List, [], ◌∷◌, length, map, count_by, get_or, None, refl, ap, sym, ◌∙◌, arith, Option, Some, ◌-◌, ◌≤◌, ◌==◌, ◌&&◌, ◌++◌, filter, set, append_assoc}
+use Rattle.iscsi_history.specs.declared.deed.Answer.TheVariants.{Respond}
+use Rattle.std.proofs.lemmas.Bool.{cond_both, lt-ltb, eqb-true}
+use Rattle.std.proofs.lemmas.List.{append-nil, length-map, get_or-set_same, set-set}
 use Rattle.iscsi_wire.specs.declared.request.Request.{Request}
 use Rattle.iscsi_wire.specs.declared.reply.Reply.{Reply}
-use Rattle.iscsi_wire.specs.Fields.{connection_of, is_immediate}
-use Rattle.iscsi_window.specs.Windows.{Arrived}
-use Rattle.iscsi_tasks.specs.Sets.{opened}
+use Rattle.iscsi_wire.specs.Fields.{connection_of, is_immediate, itt}
+use Rattle.iscsi_window.specs.Windows.{Arrived, number_expected, at_place, advanced_if, with_unfinished}
+use Rattle.iscsi_tasks.specs.Sets.{opened, Members}
 use Rattle.iscsi_history.specs.declared.effect.Effect.{Effect}
 use Rattle.iscsi_history.specs.rules.Settings.{Setting, is_known}
-use Rattle.iscsi_history.specs.rules.Trace.{Arrival, Command, Mark, Enters, Sends, Trace, waiting, waiting_by, enters, leaves_ticket, sent_on, entered, live, live_in}
-use Rattle.iscsi_history.specs.rules.Execution.{unfinished, is_crowded, is_full, reply_on, next_command}
-use Rattle.iscsi_history.specs.rules.Run.{effects_of_mark, effects_of_item}
-use Rattle.iscsi_session.specs.private.Standing.{Core, kept, is_regular, task_of, member_of, WindowAgrees, RepliesAgree, SetsAgree, WaitingAgrees, Agrees}
-use Rattle.iscsi_session.specs.private.Steps.{count_reply, Step, unchanged, after_effect, is_set_full, is_immediate_on, is_crowded_by, replied, new_live, number_by, event_by, new_task, started, command_entered}
-use Rattle.iscsi_history.proofs.BoolLemmas.{and_both}
-use Rattle.iscsi_session.proofs.OpenConns.{open_of-same}
-use Rattle.iscsi_history.proofs.ListLemmas.{count_by-map, count_by-push}
+use Rattle.iscsi_history.specs.rules.Trace.{Arrival, Command, Mark, Enters, Sends, Trace, waiting, waiting_by, enters, leaves_ticket, sent_on, entered, live, live_in, Delivers, Leaves, is_among, are_apart}
+use Rattle.iscsi_history.specs.rules.Execution.{unfinished, is_crowded, is_full, reply_on, next_command, reply_of}
+use Rattle.iscsi_history.specs.rules.Run.{effects_of_mark, effects_of_item, newly_enabled, stat_sn_of}
+use Rattle.iscsi_session.specs.private.Standing.{Core, kept, is_regular, task_of, member_of, WindowAgrees, RepliesAgree, SetsAgree, WaitingAgrees, Agrees, set_of, CommandsAgree}
+use Rattle.iscsi_session.specs.private.Steps.{count_reply, Step, unchanged, after_effect, is_set_full, is_immediate_on, is_crowded_by, replied, new_live, number_by, event_by, new_task, started, command_entered, set_staying, covered_tickets, set_at, as_given, all_given, enable_effects, is_numbered, is_gone, staying, leave_each, has_covered, left_answered}
+use Rattle.iscsi_history.proofs.BoolLemmas.{and_both, and_parts, not_true, and_comm, alike, alike_same}
+use Rattle.iscsi_session.proofs.AgreeLemmas.{open_of-same, RepliesAgree-quiet, RepliesAgree-sent, EnabledSoFar-entered, live-entered, CommandsAgree-entered, Lasting, Agrees-untouched, SetEntry, SetsAgree-entered, set_of-same, noted_given, noted_effects, CommandsAgree-left, set-changed, units_live}
+use Rattle.iscsi_history.proofs.ListLemmas.{count_by-map, count_by-push, list_any-map, list_all-filter, any_filter, any_same, fewer_counted, map_all, filter-map, map-map, none_out}
 use Rattle.iscsi_history.proofs.DeliveryLemmas.{IsQuiet}
-use Rattle.iscsi_session.proofs.WindowParts.{Turned, WindowAgrees-started}
-use Rattle.iscsi_session.proofs.ReplyParts.{RepliesAgree-quiet, RepliesAgree-sent}
-use Rattle.iscsi_history.proofs.NewlyLemmas.{never_free, Untouched, newly-untouched}
-use Rattle.iscsi_session.proofs.EnablingLemmas.{EnabledSoFar-entered}
-use Rattle.iscsi_session.proofs.CommandParts.{live-entered, CommandsAgree-entered}
-use Rattle.iscsi_session.proofs.AgreeLemmas.{Lasting, Agrees-untouched}
-use Rattle.iscsi_session.proofs.SetParts.{SetEntry, SetsAgree-entered}
+use Rattle.iscsi_session.proofs.WindowParts.{Turned, WindowAgrees-started, Next, turned_window, WindowAgrees-turned}
+use Rattle.iscsi_history.proofs.NewlyLemmas.{never_free, Untouched, newly-untouched, filter_all, filter-twice, is_here, all_here, new_in, new_in-none}
 use Rattle.iscsi_history.proofs.ClosingItems.{ClosesNone, closes-more}
-use Rattle.iscsi_history.proofs.CommandItems.{EntersOne}
+use Rattle.iscsi_history.proofs.CommandItems.{EntersOne, LeavesSome, live_in-left, live_in-left_elsewhere, are_all_in, among_passing, leaving-calm, leaving-closes, leaving-enters, leaving-sends, leaving-shown, leaving-tickets, quiet-leaving}
 use Rattle.iscsi_history.proofs.EmptyingMarks.{quiet_none, quiet_sends, quiet_enters}
+use Rattle.iscsi_window.specs.declared.held_request.HeldRequest.{HeldRequest}
+use Rattle.iscsi_history.specs.declared.effect.Effect.TheVariants.{Deliver, Leave, Send}
+use Rattle.iscsi_session.specs.private.Deeds.{turn_of, turn_taken}
+use Rattle.iscsi_history.proofs.HeldLemmas.{held-number, admitted_of_held}
+use Rattle.std.specs.List.{filter_map}
+use Rattle.iscsi_wire.specs.declared.reply.Reply.TheVariants.{Task as TaskReply}
+use Rattle.iscsi_tasks.specs.declared.task.Task.{Task}
+use Rattle.iscsi_commands.specs.declared.live.Live.{Live}
+use Rattle.iscsi_history.proofs.TraceLemmas.{weaker}
+use Rattle.iscsi_history.proofs.ApartLemmas.{unamong-filter, apart-filter}
+use Rattle.iscsi_history.proofs.MomentLemmas.{enables}
+use Rattle.iscsi_history.proofs.EnabledItems.{EnabledSoFar-left, newly-one}
+use Rattle.std.proofs.lemmas.Bool.Decides.{nat_tests}
 
 -- what the session says is what the definitions say
 pub full_is : (o : Setting) (s : Core) (t : Trace) (u : ℕ) → SetsAgree o s.sets t → u < o.units → is_set_full (get_or s.sets u (opened 0)) ≡ is_full o t u
@@ -119,3 +128,230 @@ module _ (o : Setting) (s : Core) (t : Trace) (m : Mark) (e : Effect) (a : Arriv
         },
         cc (entry.effects, count, b.shows),
       )
+
+-- ==== a turn: the request of the next number begins to execute
+
+-- ---- the state after a turn
+
+abbrev pub turned_core : Core → Core
+turned_core s = record s { window = turned_window s.window }
+
+pub turned_is : (s : Core) (q : Option HeldRequest) → at_place s.window 0 ≡ Some q → turn_taken s (Some q) ≡ turn_of (turned_core s) q
+turned_is s q h = ap (λ p. turn_of (record s { window = advanced_if s.window p }) q) h
+
+-- a request that is held is numbered
+pub numbered_held : (o : Setting) (s : Core) (t : Trace) (r : HeldRequest) (h : Agrees o s t) → (x : Next s.window t r) → is_immediate x.arrival.request ≡ false
+numbered_held o s t r h x =
+    let a : Arrival = x.arrival in
+    let regular = and_parts _ _ (h.window.requests (number_expected s.window) a (admitted_of_held t (number_expected s.window) a x.held_is)) in
+    not_true (is_immediate a.request) regular.0
+
+-- the request of the turn, as it begins to execute
+pub turn-begun : (o : Setting) (s : Core) (t : Trace) (r : HeldRequest) (h : Agrees o s t) → at_place s.window 0 ≡ Some (Some r) → (x : Next s.window t r) → Begun o (turned_core s) t (Delivers x.arrival) (Deliver x.arrival.request) x.arrival
+turn-begun o s t r h place x =
+    let a : Arrival = x.arrival in
+    let e : ℕ = number_expected s.window in
+    let regular = and_parts _ _ (h.window.requests e a (admitted_of_held t e a x.held_is)) in
+    let number : a.number ≡ e = held-number t e a x.held_is in
+    record {
+      lasts = record { events = h.events; commands = h.commands; sets = h.sets; unfinished_is = h.unfinished; enabled = h.enabled; level = h.level; open_is = h.open_conns };
+      window = λ ms q. (WindowAgrees-turned o s.window t r ms h.window place x q).agrees;
+      room = λ is ms q. WindowAgrees-turned o s.window t r ms h.window place x q;
+      replies = h.replies;
+      known = regular.1;
+      first = h.window.first;
+      waits = record { list = h.waiting.list; may = h.waiting.may; known = h.waiting.known };
+      enters_no = refl;
+      leaves_no = λ k. refl;
+      sends_no = refl;
+      closes_no = record { session = refl; conns = λ c. refl };
+      shows = refl;
+    }
+
+-- its number
+pub number_next : (o : Setting) (s : Core) (t : Trace) (r : HeldRequest) (h : Agrees o s t) → (x : Next s.window t r) → number_by (turned_core s) x.arrival.request ≡ x.arrival.number
+number_next o s t r h x =
+    let number = held-number t (number_expected s.window) x.arrival x.held_is in
+    rw (numbered_held o s t r h x) (omega (arith, number))
+
+pub event_next : (o : Setting) (s : Core) (t : Trace) (r : HeldRequest) (h : Agrees o s t) → (x : Next s.window t r) → event_by (turned_core s) x.arrival.request ≡ cond (is_immediate x.arrival.request) x.arrival.event 0
+event_next o s t r h x = rw (numbered_held o s t r h x)
+
+-- ==== commands of a unit leave together, and the function that took them out is answered
+
+-- ---- the window
+
+-- fewer are unfinished
+pub WindowAgrees-fewer : (o : Setting) (w : Arrived) (t : Trace) (n : ℕ) → n ≤ w.unfinished → WindowAgrees o w t → WindowAgrees o (with_unfinished w n) t
+WindowAgrees-fewer o w t n less a = grind (arith, nat_tests)
+
+-- the numbered live commands are the unfinished ones
+pub numbered_live : (o : Setting) (lives : List Live) (n : ℕ) (t : Trace) → CommandsAgree o lives n t → count_by is_numbered lives ≡ unfinished t
+numbered_live o lives n t a = rw a.commands (count_by-map is_numbered kept (live t))
+
+-- ---- the set of a unit, after the covered ones left
+
+-- a set that nothing leaves, once every enabled command is given
+given_already : (o : Setting) (t : Trace) (cs : List Command) → map as_given (map (member_of o t) cs) ≡ map (member_of o t) cs
+given_already o t [] = refl
+given_already o t (c ∷ cs) = grind (arith, given_already o t cs)
+
+none_given : (o : Setting) (t : Trace) (unit : ℕ) (cs : List Command) → enable_effects unit (map (member_of o t) cs) ≡ []
+none_given o t unit [] = refl
+none_given o t unit (c ∷ cs) = grind (arith, none_given o t unit cs)
+
+-- what it is then, and what its unit is told
+pub record SetLeft (o : Setting) (t : Trace) (item : List Mark) (unit : ℕ) (old set : Members) : Type 0 where
+  pub depth : set.depth ≡ old.depth
+  pub given : map as_given set.list ≡ set_of o (item ∷ t) unit
+  pub effects : enable_effects unit set.list ≡ enables (new_in t item unit)
+
+pub set_left : (o : Setting) (t : Trace) (item : List Mark) (unit : ℕ) (old : Members) (covers : Task → Bool) → old.list ≡ set_of o t unit → live_in unit (item ∷ t) ≡ filter (λ c. not (covers (task_of o c))) (live_in unit t)
+    → SetLeft o t item unit old (set_staying covers old)
+set_left o t item unit old covers list_is stay = by_test (has_covered covers old) refl
+  where
+    stays : filter (λ m. not (covers m.task)) old.list ≡ map (member_of o t) (live_in unit (item ∷ t))
+    stays = rw (list_is, filter-map, stay)
+
+    by_test : (b : Bool) → has_covered covers old ≡ b → SetLeft o t item unit old (set_staying covers old)
+    by_test true some = rw some (record { depth = refl; given = rw stays (noted_given o t item unit); effects = rw stays (noted_effects o t item unit) })
+    by_test false none =
+        let same : live_in unit (item ∷ t) ≡ live_in unit t = rw stay (none_out _ (live_in unit t) (rw (list_is, list_any-map) at none)) in
+        rw none (record {
+          depth = refl;
+          given = rw (list_is, set_of-same o item t unit same) (given_already o t (live_in unit t));
+          effects = rw (list_is, new_in-none item t unit same) (none_given o t unit (live_in unit t));
+        })
+
+-- ---- commands of a unit leave
+
+-- those of the unit that are covered
+abbrev pub covered_in : Setting → Trace → ℕ → (Task → Bool) → List Command
+covered_in o t unit covers = filter (λ c. covers (task_of o c)) (live_in unit t)
+
+-- the mark of the function, those that leave, and the reply
+abbrev pub leaving_item : Setting → Trace → Mark → Arrival → ℕ → (Task → Bool) → List Mark
+leaving_item o t m a unit covers = m ∷ (map Leaves (covered_in o t unit covers) ++ reply_on a (TaskReply (itt a.request) 0))
+
+module _ (o : Setting) (t : Trace) (old : Members) (unit : ℕ) (list_is : old.list ≡ set_of o t unit) (covers : Task → Bool) where
+  -- the tickets that leave are those of the covered commands
+  pub gone_tickets : (k : ℕ) → is_gone covers old k ≡ is_among k (covered_in o t unit covers)
+  gone_tickets k = grind (arith, nat_tests, list_is, list_any-map, any_filter, any_same, and_comm)
+
+  -- they are all of the unit
+  gone_in_unit : are_apart (live t) ≡ true → are_all_in unit (is_gone covers old) (live t) ≡ true
+  gone_in_unit apart =
+      let q : Command → Bool = λ c. (c.unit == unit) && covers (task_of o c) in
+      weaker _ _ (live t)
+      (λ c h. rw (gone_tickets c.ticket, filter-twice (λ c. covers (task_of o c)) (λ (c : Command). c.unit == unit) (live t), alike_same (is_among c.ticket (filter q (live t))) (q c) h) (grind arith))
+      (among_passing q (live t) apart)
+
+  -- the commands of the unit that stay
+  stay_in : (item : List Mark) → LeavesSome item (is_gone covers old) → are_apart (live t) ≡ true → live_in unit (item ∷ t) ≡ filter (λ c. not (covers (task_of o c))) (live_in unit t)
+  stay_in item l apart =
+      let q : Command → Bool = λ c. covers (task_of o c) in
+      live_in-left item t (is_gone covers old) unit l
+      ∙ filter_all _ _ (λ c. alike (is_among c.ticket (filter q (live_in unit t))) (q c)) (live_in unit t) (among_passing q (live_in unit t) (apart-filter _ (live t) apart))
+      (λ c h. rw (gone_tickets c.ticket, alike_same _ (q c) h))
+
+  -- the effects of leaving
+  pub leaving_shown : leave_each unit (covered_tickets covers old.list) ≡ map (λ (c : Command). Leave c.ticket c.unit) (covered_in o t unit covers)
+  leaving_shown =
+      let here : List Command = live_in unit t in
+      let q : Command → Bool = λ c. covers (task_of o c) in
+      simp (list_is, filter-map, map-map) (map_all _ _ (is_here unit here) (filter q here) (list_all-filter q (is_here unit here) here (all_here unit t))
+      (λ c h. rw (eqb-true c.unit unit (and_parts (c.unit == unit) (is_among c.ticket here) h).0)))
+
+-- covered commands of a unit leave by an item, and a reply goes out. All else is as it was
+pub record Leaving (o : Setting) (s : Core) (t : Trace) (item : List Mark) (unit : ℕ) (covers : Task → Bool) (conn : ℕ) : Type 0 where
+  pub lasts : Lasting o s t
+  pub window : WindowAgrees o s.window (item ∷ t)
+  pub replies : RepliesAgree o s.conns t
+  pub waits : WaitingAgrees o s.waiting (item ∷ t)
+  pub closes : ClosesNone item
+  pub inside : unit < o.units
+  pub known : is_known conn o.conns ≡ true
+  pub leaves : LeavesSome item (is_gone covers (set_at s unit))
+  pub sends : filter_map sent_on item ≡ conn ∷ []
+
+module _ (o : Setting) (s : Core) (t : Trace) (item : List Mark) (unit : ℕ) (covers : Task → Bool) (conn : ℕ) (reply : Reply) (b : Leaving o s t item unit covers conn) where
+  abbrev old : Members
+  old = set_at s unit
+
+  abbrev gone : List Command
+  gone = covered_in o t unit covers
+
+  abbrev out : ℕ → Bool
+  out = is_gone covers old
+
+  abbrev rest : List Live
+  rest = staying covers old s.live
+
+  list_is : old.list ≡ set_of o t unit
+  list_is = b.lasts.sets.lists unit b.inside
+
+  early : (k : ℕ) → length (entered t) < k → out k ≡ false
+  early k late = rw (gone_tickets o t old unit list_is covers k) (unamong-filter _ k _ (unamong-filter _ k _ (unamong-filter _ k (entered t) (b.lasts.commands.fresh k late))))
+
+  commands : CommandsAgree o rest s.entered (item ∷ t)
+  commands = CommandsAgree-left o s.live s.entered t item out b.lasts.commands b.leaves early
+
+  -- the set of the unit without those that leave
+  left : SetLeft o t item unit old (set_staying covers old)
+  left = set_left o t item unit old covers list_is (stay_in o t old unit list_is covers item b.leaves b.lasts.commands.apart)
+
+  elsewhere : (other : ℕ) → (other == unit) ≡ false → live_in other (item ∷ t) ≡ live_in other t
+  elsewhere = live_in-left_elsewhere item t out unit b.leaves (gone_in_unit o t old unit list_is covers b.lasts.commands.apart)
+
+  left_is : get_or (set s.sets unit (set_staying covers old)) unit (opened 0) ≡ set_staying covers old
+  left_is = get_or-set_same s.sets unit (set_staying covers old) (opened 0) (omega (arith, b.inside, b.lasts.sets.units))
+
+  pub leaving-agrees : Agrees o (left_answered s unit covers conn reply).core (item ∷ t)
+  leaving-agrees =
+      let fewer = fewer_counted is_numbered (λ l. not (out l.ticket)) s.live in record {
+        events = b.lasts.events;
+        window = WindowAgrees-fewer o s.window (item ∷ t) (s.window.unfinished + count_by is_numbered rest - count_by is_numbered s.live) (omega (arith, fewer)) b.window;
+        replies = RepliesAgree-sent o s.conns t item conn b.sends b.known b.replies;
+        commands = commands;
+        sets = rw (left_is, set-set) (set-changed o s.sets t item unit (all_given (set_staying covers old)) b.lasts.sets b.inside (left.depth ∙ b.lasts.sets.depths unit b.inside) left.given elsewhere);
+        unfinished = omega (arith, numbered_live o s.live s.entered t b.lasts.commands, numbered_live o rest s.entered (item ∷ t) commands, b.lasts.unfinished_is);
+        enabled = EnabledSoFar-left o item t out b.leaves (units_live o rest s.entered (item ∷ t) commands) b.lasts.enabled;
+        level = b.lasts.level;
+        waiting = b.waits;
+        open_conns = b.lasts.open_is ∙ sym (open_of-same o item t b.closes);
+      }
+
+  pub leaving-effects : (left_answered s unit covers conn reply).effects ≡ map (λ (c : Command). Leave c.ticket c.unit) gone ++ (Send conn (stat_sn_of o t conn) reply ∷ enables (newly_enabled o t item))
+  leaving-effects = rw (leaving_shown o t old unit list_is covers, b.replies.stat_sns conn b.known, left_is, left.effects, ← newly-one o item t unit b.inside elsewhere)
+
+-- a function takes them out
+pub leaving-item : (o : Setting) (s : Core) (t : Trace) (m : Mark) (e : Effect) (a : Arrival) → Begun o s t m e a → (unit : ℕ) → unit < o.units → (covers : Task → Bool) → Follows o t (leaving_item o t m a unit covers) (after_effect e (left_answered s unit covers (connection_of a.request) (reply_of a.request (Respond 0))))
+leaving-item o s t m e a b unit inside covers = (leaving-agrees o s t item unit covers conn reply leaving, rw (leaving-effects o s t item unit covers conn reply leaving, b.shows, leaving-shown o t gone a reply, append_assoc))
+  where
+    item : List Mark
+    item = leaving_item o t m a unit covers
+
+    conn : ℕ
+    conn = connection_of a.request
+
+    reply : Reply
+    reply = TaskReply (itt a.request) 0
+
+    gone : List Command
+    gone = covered_in o t unit covers
+
+    leaving : Leaving o s t item unit covers conn
+    leaving = record {
+      lasts = b.lasts;
+      window = b.window (map Leaves gone ++ reply_on a reply) (quiet-leaving gone a reply);
+      replies = b.replies;
+      waits = record { list = leaving-calm gone a reply (waiting_by m (waiting t)) ∙ b.waits.list; may = b.waits.may; known = b.waits.known };
+      closes = closes-more m (map Leaves gone ++ reply_on a reply) b.closes_no (leaving-closes gone a reply);
+      inside = inside;
+      known = b.known;
+      leaves = record {
+        enters_none = rw b.enters_no (leaving-enters gone a reply);
+        some = λ k. rw (b.leaves_no k, leaving-tickets gone a reply k) (sym (gone_tickets o t (set_at s unit) unit (b.lasts.sets.lists unit inside) covers k));
+      };
+      sends = rw b.sends_no (leaving-sends gone a reply);
+    }

@@ -1,64 +1,151 @@
 -- A request executes, whatever it does: at its turn, at its arrival, or once it has waited.
-use Rattle.std.proofs.Common.{◌≡◌, ℕ, ℤ, pos, ◌-ℤ◌, ◌+◌, ◌-◌, ◌<◌, ◌≤◌, ◌==◌, ◌&&◌, not, cond, Bool, true, false, nat_lt, nat_le, List, [], ◌∷◌, ◌++◌, length, map, set, filter, Option, Some, None, option_map, refl, ap, sym, subst, ◌∙◌, arith, length-set}
-use Rattle.std.specs.List.{list_all, filter_map, flat_map}
-use Rattle.std.proofs.lemmas.Bool.{false≢true, eqb-true}
+use Rattle.std.proofs.Common.{◌≡◌, ℕ, ◌+◌, ◌==◌, ◌&&◌, Bool, true, false, [], ◌∷◌, Option, Some, None, option_map, refl, ap, sym, ◌∙◌, arith, ℤ, pos, ◌-ℤ◌, ◌-◌, ◌<◌, ◌≤◌, not, cond, nat_lt, nat_le, List, ◌++◌, length, map, set, filter, subst, length-set}
+use Rattle.std.specs.List.{list_any, list_all, filter_map, flat_map}
+use Rattle.iscsi_wire.specs.declared.request.Request.{Request}
+use Rattle.iscsi_wire.specs.Serial.{wire, lift, number_of_first}
+use Rattle.iscsi_wire.specs.Fields.{function, itt, rtt, cid, cmd_sn, connection_of, is_immediate, opcode, ref_cmd_sn}
+use Rattle.iscsi_window.specs.Windows.{number_expected, find_held, number_shown, room_of, at_place, with_place}
+use Rattle.iscsi_commands.specs.declared.live.Live.{Live}
+use Rattle.iscsi_history.specs.declared.effect.Effect.{Effect}
+use Rattle.iscsi_history.specs.rules.Settings.{Setting, is_known}
+use Rattle.iscsi_history.specs.rules.Trace.{Arrival, Command, Mark, Trace, live, live_in, Executes, Delivers, Voids, Empties, Waits, Leaves, admits_at, contains, is_received, held, waiting, waiting_by, waiting_through, sent_on}
+use Rattle.iscsi_history.specs.rules.Execution.{unit_named, exp_of, max_of, reply_of}
+use Rattle.iscsi_history.specs.rules.Management.{live_with_tag, held_command, may_wait, waiting_on, answer, is_before, refusal}
+use Rattle.iscsi_history.specs.rules.Deeds.{Facts, abort_deed, function_deed, deed_of, of_unit, facts_of, if_found, deed_marks}
+use Rattle.iscsi_session.specs.private.Standing.{Core, kept, CommandsAgree, SetsAgree, task_of, WindowAgrees, arrival_waiting, WaitingAgrees, Agrees, Settled}
+use Rattle.iscsi_session.specs.private.Deeds.{facts_by, refusal_by, live_by, deed_by, waits_by, arrival_by, Fits, position_by, carried, executed, turn_of, next_waiting, next_position, function_taken, immediate_taken}
+use Rattle.iscsi_history.proofs.BoolLemmas.{and_true, and_parts}
+use Rattle.iscsi_history.proofs.ListLemmas.{list_any-map, any_filter, any_same, count_by-map, list_all-filter, find-passes, find-found, filter-map}
+use Rattle.iscsi_history.proofs.NewlyLemmas.{Untouched, live_in-untouched, newly-untouched}
+use Rattle.iscsi_history.proofs.DeedTable.{named_below, never_waits}
+use Rattle.iscsi_session.proofs.AgreeLemmas.{CommandsAgree-untouched}
+use Rattle.iscsi_session.proofs.AgreeLemmas.{SetsAgree-untouched}
+use Rattle.iscsi_session.proofs.FindLemmas.{tagged_in-is}
+use Rattle.iscsi_session.proofs.ExecutionLemmas.{Begun, full_is, crowded_is, untouched-begun, Follows, nothing_more, answered, enters_unit}
+use Rattle.iscsi_session.proofs.LogoutItem.{open_same, session_ends, conn_closes}
+use Rattle.iscsi_session.proofs.FindLemmas.{Found, numbered_deed, Found-arrived, Found-turned}
 use Rattle.std.proofs.lemmas.Bool.Decides.{nat_tests}
+use Rattle.std.proofs.lemmas.Bool.{false≢true, eqb-true}
 use Rattle.std.proofs.lemmas.List.{append-nil, map-append}
 use Rattle.std.proofs.lemmas.List.Folds.{list_all-append}
 use Rattle.std.proofs.lemmas.List.Elements.{filter_map-append}
 use Rattle.iscsi_window.specs.declared.held_request.HeldRequest.{HeldRequest}
-use Rattle.iscsi_wire.specs.declared.request.Request.{Request}
-use Rattle.iscsi_wire.specs.Serial.{wire, lift, number_of_first}
-use Rattle.iscsi_wire.specs.Fields.{connection_of, is_immediate, opcode, itt, rtt, cmd_sn, ref_cmd_sn}
-use Rattle.iscsi_window.specs.Windows.{number_expected, number_shown, room_of, at_place, find_held, with_place}
 use Rattle.iscsi_tasks.specs.Sets.{is_covered}
-use Rattle.iscsi_history.specs.declared.effect.Effect.{Effect}
 use Rattle.iscsi_history.specs.declared.effect.Effect.TheVariants.{Deliver, Immediate}
-use Rattle.iscsi_commands.specs.declared.live.Live.{Live}
 use Rattle.iscsi_session.specs.declared.session.waiting.Waiting.{Waiting}
-use Rattle.iscsi_history.specs.rules.Settings.{Setting, is_known}
-use Rattle.iscsi_history.specs.rules.Trace.{Arrival, Command, Mark, Executes, Delivers, Voids, Empties, Waits, Leaves, Trace, admits_at, contains, is_received, held, waiting, waiting_by, waiting_through, live, live_in, sent_on}
 use Rattle.iscsi_history.specs.rules.Agenda.{arrival_of}
 use Rattle.iscsi_history.specs.rules.Items.{execution, waiting_item, immediate_item, item_of, function_item}
 use Rattle.iscsi_history.specs.rules.Run.{effects_of_mark}
-use Rattle.iscsi_session.specs.private.Standing.{Core, kept, task_of, WindowAgrees, CommandsAgree, arrival_waiting, WaitingAgrees, Agrees, Settled}
-use Rattle.iscsi_history.proofs.BoolLemmas.{and_parts}
-use Rattle.iscsi_history.proofs.ListLemmas.{count_by-map, list_all-filter, find-passes, find-found, filter-map}
 use Rattle.iscsi_history.proofs.TraceLemmas.{filter-same}
 use Rattle.iscsi_history.proofs.DeliveryLemmas.{IsQuiet, received-quiet, held-quiet}
 use Rattle.iscsi_history.proofs.HeldLemmas.{held-number, admitted_of_held}
 use Rattle.iscsi_session.proofs.WindowParts.{Next, turned_window, WindowAgrees-quiet}
-use Rattle.iscsi_history.proofs.NewlyLemmas.{Untouched, live_in-untouched, newly-untouched}
-use Rattle.iscsi_session.proofs.ReplyParts.{RepliesAgree-sent}
+use Rattle.iscsi_session.proofs.AgreeLemmas.{RepliesAgree-sent}
 use Rattle.iscsi_session.proofs.AgreeLemmas.{settled_expected, settled_max, Agrees-untouched, Agrees-waits}
 use Rattle.iscsi_history.proofs.ClosingItems.{ClosesNone, closes-more}
 use Rattle.iscsi_history.proofs.ReceivedItems.{no_abort_task, may_immediate}
 use Rattle.iscsi_history.proofs.NumberLemmas.{position_eq, position_lt, wire-lift}
 use Rattle.iscsi_history.proofs.EmptyingMarks.{quiet_executes}
-use Rattle.iscsi_session.proofs.LeavingLemmas.{covered_in, leaving-item}
-use Rattle.iscsi_session.proofs.MissingLemmas.{inside_bounds, WindowAgrees-voided, WindowAgrees-emptied, VoidedAt, voided_at, emptied_at}
-use Rattle.iscsi_session.proofs.TurnLemmas.{turned_core, numbered_held, turn-begun, number_next, event_next}
+use Rattle.iscsi_session.proofs.ExecutionLemmas.{covered_in, leaving-item}
+use Rattle.iscsi_session.proofs.WindowParts.{inside_bounds, WindowAgrees-voided, WindowAgrees-emptied, VoidedAt, voided_at, emptied_at}
+use Rattle.iscsi_session.proofs.ExecutionLemmas.{turned_core, numbered_held, turn-begun, number_next, event_next}
 use Rattle.iscsi_wire.specs.declared.reply.Reply.TheVariants.{Task as TaskReply}
 use Rattle.iscsi_tasks.specs.declared.cover.Cover.TheVariants.{All as AllOfThem, Below}
 use Rattle.iscsi_history.specs.declared.deed.Answer.{Answer}
-use Rattle.iscsi_history.specs.declared.deed.Answer.TheVariants.{Reject, Respond}
+use Rattle.iscsi_history.specs.declared.deed.Answer.TheVariants.{Respond}
 use Rattle.iscsi_history.specs.declared.deed.Deed.{Deed}
 use Rattle.iscsi_history.specs.declared.deed.Deed.TheVariants.{Nothing, Wait, Reply, Enter, Void, Empty, Abort, AbortEarlier, AbortAll, CloseConn, CloseSession}
-use Rattle.iscsi_history.specs.rules.Execution.{exp_of, max_of, reply_of, unit_named}
-use Rattle.iscsi_history.specs.rules.Management.{may_wait, waiting_on, answer, is_before, live_with_tag, held_command, refusal}
-use Rattle.iscsi_history.specs.rules.Deeds.{function_deed, if_found, deed_marks}
 use Rattle.iscsi_session.specs.private.Steps.{count_reply, and_then, after_effect, waiting_in, request_answered, number_by, event_by, covers_ticket}
-use Rattle.iscsi_session.specs.private.Deeds.{refusal_by, live_by, facts_by, deed_by, waits_by, arrival_by, Fits, position_by, carried, executed, turn_of, next_waiting, without_waiting, next_position, function_taken, immediate_taken}
 use Rattle.iscsi_history.proofs.ApartLemmas.{apart-filter}
 use Rattle.iscsi_history.proofs.CommandItems.{ticket_alone}
-use Rattle.iscsi_history.proofs.DeedTable.{never_waits}
-use Rattle.iscsi_session.proofs.FindLemmas.{tagged_in-is}
-use Rattle.iscsi_session.proofs.LogoutItem.{session_ends, conn_closes}
-use Rattle.iscsi_session.proofs.ExecutionLemmas.{Begun, Follows, nothing_more, answered, enters_unit, untouched-begun}
-use Rattle.iscsi_session.proofs.AbortParts.{Found, numbered_deed, Found-arrived, Found-turned}
-use Rattle.iscsi_session.proofs.AlikeLemmas.{commands, deed_is, function_is}
 use Rattle.iscsi_session.proofs.DeedLemmas.{fits_deed, fits_function, is_of_number, missing_parts, is_whole, whole_function}
-use Rattle.iscsi_session.proofs.PaceLemmas.{immediate_is}
+use Rattle.iscsi_session.proofs.DeedLemmas.{immediate_is}
+
+-- ==== a session finds what the definitions find, and so it does what they say
+
+-- ---- facts that are alike
+
+-- but for what ABORT TASK alone asks, and a function that may wait
+pub record Alike (f g : Facts) : Type 0 where
+  pub level : f.level ≡ g.level
+  pub unit : f.unit ≡ g.unit
+  pub is_used : f.is_used ≡ g.is_used
+  pub is_crowded : f.is_crowded ≡ g.is_crowded
+  pub is_full : f.is_full ≡ g.is_full
+  pub has_commands : f.has_commands ≡ g.has_commands
+  pub live : f.live ≡ g.live
+  pub is_open : f.is_open ≡ g.is_open
+
+pub record Finds (f g : Facts) : Type 0 where
+  pub held : f.held ≡ g.held
+  pub is_missing : f.is_missing ≡ g.is_missing
+
+abort_alike : (f g : Facts) (unit : ℕ) → f.live ≡ g.live → Finds f g → abort_deed f unit ≡ abort_deed g unit
+abort_alike f g unit live x = grind (arith, nat_tests)
+
+pub function_alike : (f g : Facts) (r : Request) → Alike f g → ((function r == 1) ≡ true → Finds f g) → function_deed f r ≡ function_deed g r
+function_alike f g r a finds = grind (arith, nat_tests, abort_alike, finds)
+
+pub deed_alike : (f g : Facts) (r : Request) → Alike f g → ((function r == 1) ≡ true → Finds f g) → deed_of f r ≡ deed_of g r
+deed_alike f g r a finds = grind (arith, nat_tests, function_alike, finds)
+
+-- ---- those of a unit
+
+of_unit-same : {A : Type 0} (x : Option ℕ) (none : A) (p q : ℕ → A) → ((unit : ℕ) → x ≡ Some unit → p unit ≡ q unit) → of_unit x none p ≡ of_unit x none q
+of_unit-same x none p q same = grind (arith, nat_tests)
+
+ticket_kept : (x : Option Command) → option_map (λ (c : Command). c.ticket) x ≡ option_map (λ (l : Live). l.ticket) (option_map kept x)
+ticket_kept x = grind (arith, nat_tests)
+
+number_shown-is : (e : ℕ) (x : Option Arrival) (y : Option ℕ) → option_map (λ (h : Arrival). h.number) x ≡ option_map (λ k. e + k) y → option_map (λ (h : Arrival). wire h.number) x ≡ option_map (λ k. wire (e + k)) y
+number_shown-is e x y same = grind (arith, nat_tests)
+
+module _ (o : Setting) (s : Core) (t : Trace) (m : Mark) (e : Effect) (a : Arrival) (b : Begun o s t m e a) where
+  abbrev t₁ : Trace
+  t₁ = (m ∷ []) ∷ t
+
+  untouched : Untouched (m ∷ [])
+  untouched = untouched-begun o s t m e a b [] (search)
+
+  pub commands : CommandsAgree o s.live s.entered t₁
+  commands = CommandsAgree-untouched o s.live s.entered t (m ∷ []) untouched b.lasts.commands
+
+  sets : SetsAgree o s.sets t₁
+  sets = SetsAgree-untouched o s.sets t (m ∷ []) untouched b.lasts.sets
+
+  -- a live command passes
+  asked : (p : Command → Bool) (q : Live → Bool) → ((c : Command) → q (kept c) ≡ p c) → list_any q s.live ≡ list_any p (live t₁)
+  asked p q same = rw (commands.commands, list_any-map) (any_same (λ c. q (kept c)) p (live t₁) same)
+
+  alike : Alike (facts_of o t₁ a) (facts_by s a.request)
+  alike = record {
+    level = sym b.lasts.level;
+    unit = rw b.lasts.sets.units;
+    is_used = sym (asked (λ c. itt c.arrival.request == itt a.request) (λ l. l.itt == itt a.request) (λ c. refl));
+    is_crowded = sym (crowded_is s t₁ a.request commands.commands);
+    is_full = rw b.lasts.sets.units (of_unit-same (unit_named o.units a.request) false _ _ (λ unit is. sym (full_is o s t₁ unit sets (named_below o.units a.request unit is))));
+    has_commands = rw b.lasts.sets.units (of_unit-same (unit_named o.units a.request) false _ _ (λ unit is. has unit));
+    live = rw b.lasts.sets.units (of_unit-same (unit_named o.units a.request) None _ _ (λ unit is. ticket_kept (live_with_tag t₁ (rtt a.request) unit) ∙ ap (option_map (λ (l : Live). l.ticket)) (sym (tagged_in-is s t₁ (rtt a.request) unit commands.commands))));
+    is_open = sym (open_same o s t m e a b (cid a.request));
+  }
+    where
+      has : (unit : ℕ) → list_any (λ c. true) (live_in unit t₁) ≡ list_any (λ l. l.unit == unit) s.live
+      has unit = rw (any_filter, asked (λ c. c.unit == unit && true) (λ l. l.unit == unit) (λ c. sym (and_true (c.unit == unit))))
+
+  finds : Found o s t₁ a → Finds (facts_of o t₁ a) (facts_by s a.request)
+  finds x = record {
+    held = rw b.lasts.sets.units (of_unit-same (unit_named o.units a.request) None _ _ (λ unit is. number_shown-is (number_expected s.window) (held_command o t₁ (rtt a.request) unit a.number) (find_held s.window (rtt a.request) unit (cmd_sn a.request)) (x.held_same unit (named_below o.units a.request unit is))));
+    is_missing = x.missing_same;
+  }
+
+  -- what the session does is what the definitions say
+  pub deed_is : ((function a.request == 1) ≡ true → Found o s t₁ a) → deed_of (facts_of o t₁ a) a.request ≡ deed_of (facts_by s a.request) a.request
+  deed_is found = deed_alike _ _ a.request alike (λ one. finds (found one))
+
+  pub function_is : ((function a.request == 1) ≡ true → Found o s t₁ a) → function_deed (facts_of o t₁ a) a.request ≡ function_deed (facts_by s a.request) a.request
+  function_is found = function_alike _ _ a.request alike (λ one. finds (found one))
+
+-- ==== a request executes, whatever it does
 
 -- ---- a command is before a function, by positions
 
@@ -197,10 +284,7 @@ module _ (o : Setting) (s : Core) (t : Trace) (m : Mark) (e : Effect) (a : Arriv
 -- what is known of a request that begins to execute meets what it does
 meets : (o : Setting) (s : Core) (t : Trace) (m : Mark) (e : Effect) (a : Arrival) (b : Begun o s t m e a) → number_by s a.request ≡ a.number → event_by s a.request ≡ cond (is_immediate a.request) a.event 0 → Found o s ((m ∷ []) ∷ t) a → (d : Deed)
     → (is_of_number d ≡ true → Windowed o s t m) → Meets o s t m e a b d
-meets o s t m e a b number_is event_is x (Enter unit) w = (number_is, event_is)
-meets o s t m e a b number_is event_is x Void w = (x, w refl)
-meets o s t m e a b number_is event_is x (Empty unit sn) w = (x, w refl)
-meets o s t m e a b number_is event_is x _ w = tt
+meets o s t m e a b number_is event_is x d w = grind (arith, nat_tests)
 
 position_of : (o : Setting) (s : Core) (a : Arrival) → s.window.first ≡ o.first → number_by s a.request ≡ a.number → position_by s a.request ≡ pos a.number -ℤ pos (number_of_first o.first)
 position_of o s a first number = rw (number, first)
@@ -254,7 +338,7 @@ pub waited-item : (o : Setting) (s : Core) (t : Trace) (w : Waiting) → Agrees 
     → Follows o t (function_item o t (arrival_waiting o.first w)) (function_taken s (Some w))
 waited-item o s t w h found =
     let a : Arrival = arrival_waiting o.first w in
-    let s' : Core = without_waiting s w in
+    let s' : Core = record s { waiting = filter (λ v. not (v.event == w.event)) s.waiting } in
     let stays : Waiting → Bool = λ v. not (v.event == w.event) in
     let turns : Waiting → Bool = λ v. v.turn == s.window.turned in
     let may : may_wait w.request ≡ true = find-passes turns (λ v. may_wait v.request) s.waiting w h.waiting.may found in
@@ -274,22 +358,14 @@ waited-item o s t w h found =
     subst (λ item. Follows o t item (function_taken s (Some w))) (sym is) done
   where
     whole_meets : (o : Setting) (s : Core) (t : Trace) (a : Arrival) (b : Begun o s t (Executes a) (Immediate a.request) a) (d : Deed) → is_whole d ≡ true → Meets o s t (Executes a) (Immediate a.request) a b d
-    whole_meets o s t a b (Enter unit) is = absurd (false≢true is)
-    whole_meets o s t a b Void is = absurd (false≢true is)
-    whole_meets o s t a b (Empty unit sn) is = absurd (false≢true is)
-    whole_meets o s t a b _ is = tt
+    whole_meets o s t a b d is = grind (arith, nat_tests, false≢true)
 
 -- ---- at its arrival
 
 -- no function that waits arrived in this event
 none_of_event : (first index taken : ℕ) (ws : List Waiting) → taken ≡ index + 1 → list_all (λ w. nat_lt (w.event + 1) taken) ws ≡ true → filter (λ b. not (b.event == index)) (map (arrival_waiting first) ws) ≡ map (arrival_waiting first) ws
 none_of_event first index taken [] is all = refl
-none_of_event first index taken (w ∷ ws) is all =
-    let parts = and_parts (nat_lt (w.event + 1) taken) (list_all (λ v. nat_lt (v.event + 1) taken) ws) all in
-    let lt : w.event + 1 < taken = grind (arith, nat_tests, parts.0) in
-    let less : w.event < index = omega (arith, lt, is) in
-    let apart : (w.event == index) ≡ false = grind (arith, nat_tests) in
-    rw (apart, none_of_event first index taken ws is parts.1)
+none_of_event first index taken (w ∷ ws) is all = grind (arith, nat_tests, none_of_event first index taken ws is, and_parts)
 
 -- an immediate request of a settled session
 module _ (o : Setting) (s : Core) (index : ℕ) (t : Trace) (r : Request) (h : Settled o s t) (immediate : is_immediate r ≡ true) (known : is_known (connection_of r) o.conns ≡ true) (taken : s.taken ≡ index + 1) (waited : list_all (λ w. nat_lt (w.event + 1) s.taken) s.waiting ≡ true) where
@@ -365,10 +441,7 @@ module _ (o : Setting) (s : Core) (index : ℕ) (t : Trace) (r : Request) (h : S
       many = rw h.agrees.waiting.list (count_by-map (λ (b : Arrival). connection_of b.request == connection_of r) (arrival_waiting o.first) s.waiting)
 
       by_tests : (b c d : Bool) → nat_lt (e + room_of s.window) n ≡ b → nat_lt e n ≡ c → nat_le 4 (waiting_in s.waiting (connection_of r)) ≡ d → Becomes (waiting_item o t a) (waits_by s r)
-      by_tests true c d f g k = rw (far, f) (becomes_done (Reply (Respond 255)) tt (λ e. cc))
-      by_tests false false d f g k = rw (far, near, f, g) (subst (Becomes (execution o t (Executes a) a)) executed becomes_now)
-      by_tests false true true f g k = rw (far, near, many, f, g, k) (becomes_done (Reply (Reject 6)) tt (λ e. cc))
-      by_tests false true false f g k = rw (far, near, many, f, g, k) (becomes_waiting may g)
+      by_tests b c d f g k = grind (arith, nat_tests, far, becomes_done, near, becomes_now, many, becomes_waiting)
 
   pub immediate-item : Follows o t (immediate_item o t (arrival_of o index t r)) (immediate_taken s r (arrival_by s r))
   immediate-item = by_function (opcode r == 0x02 && may_wait r) refl
@@ -380,8 +453,7 @@ module _ (o : Setting) (s : Core) (index : ℕ) (t : Trace) (r : Request) (h : S
       Chosen x y = Becomes (elim (option_map (reply_of r) x) [ Some reply ↦ execution o t (Executes a) a | None ↦ waiting_item o t a ]) (elim y [ Some z ↦ Reply z | None ↦ waits_by s r ])
 
       by_refusal : (opcode r == 0x02) ≡ true → may_wait r ≡ true → (y : Option Answer) → refusal_by s r ≡ y → Chosen y y
-      by_refusal is may (Some y) refused = let executed : deed_by s r ≡ Reply y = rw (is, refused) in subst (Becomes (execution o t (Executes a) a)) executed becomes_now
-      by_refusal is may None none = becomes_by_number may (rw (is, none))
+      by_refusal is may y refused = grind (arith, nat_tests, becomes_now, becomes_by_number)
 
       by_function : (v : Bool) → (opcode r == 0x02 && may_wait r) ≡ v → Becomes (immediate_item o t a) (arrival_by s r)
       by_function false is = rw is becomes_now

@@ -5,6 +5,7 @@ use Rattle.iscsi_tasks.specs.declared.member.Member.{Member}
 use Rattle.iscsi_tasks.specs.Sets.{is_new, next_in, given_in}
 use Rattle.iscsi_history.specs.declared.effect.Effect.TheVariants.{Enable}
 use Rattle.iscsi_session.specs.private.Steps.{as_given, enable_effects}
+use Rattle.std.proofs.lemmas.Bool.Decides.{nat_tests}
 
 -- a command is given
 pub record Given (unit ticket : ℕ) (ms : List Member) : Type 0 where
@@ -27,15 +28,11 @@ given_one unit ticket (m ∷ ms) h = by_new (is_new m) refl (given_one unit tick
 
     by_new : (b : Bool) → is_new m ≡ b → (next_in ms ≡ Some ticket → Given unit ticket ms) → Given unit ticket (m ∷ ms)
     by_new true is by_rest =
-        let first : Some m.task.ticket ≡ Some ticket = rw is at h in
         let same : m.task.ticket ≡ ticket = cc in
         let given : (m.given || m.enabled) ≡ true = grind arith in
         let now_is : given_in (m ∷ ms) ≡ now ∷ ms = rw is in
         record { same = rw (is, given); effects = rw (now_is, is, never, same); fewer = omega (arith, counts true m ms is, counts false now ms never, ap (count_by is_new) now_is) }
-    by_new false is by_rest =
-        let rest = by_rest (rw is at h) in
-        let later : given_in (m ∷ ms) ≡ m ∷ given_in ms = rw is in
-        record { same = rw (is, rest.same); effects = rw (later, is, rest.effects); fewer = omega (arith, counts false m ms is, counts false m (given_in ms) is, rest.fewer, ap (count_by is_new) later) }
+    by_new false is by_rest = grind (arith, nat_tests)
 
 -- none is left to be given
 pub record AllGiven (unit : ℕ) (ms : List Member) : Type 0 where
@@ -46,16 +43,4 @@ pub record AllGiven (unit : ℕ) (ms : List Member) : Type 0 where
 
 pub given_all : (unit : ℕ) (ms : List Member) → next_in ms ≡ None → AllGiven unit ms
 given_all unit [] h = record { same = refl; effects = refl; unchanged = refl; none_new = refl }
-given_all unit (m ∷ ms) h = by_new (is_new m) refl (given_all unit ms)
-  where
-    by_new : (b : Bool) → is_new m ≡ b → (next_in ms ≡ None → AllGiven unit ms) → AllGiven unit (m ∷ ms)
-    by_new true is by_rest = absurd (let none : Some m.task.ticket ≡ None = rw is at h in cc)
-    by_new false is by_rest =
-        let rest = by_rest (rw is at h) in
-        let old : (m.given || m.enabled) ≡ m.given = grind arith in
-        record {
-          same = rw (old, rest.same);
-          effects = rw (is, rest.effects);
-          unchanged = rw (is, rest.unchanged);
-          none_new = omega (arith, counts false m ms is, rest.none_new);
-        }
+given_all unit (m ∷ ms) h = grind (arith, nat_tests, given_all unit ms)

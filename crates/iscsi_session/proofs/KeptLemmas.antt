@@ -1,47 +1,45 @@
 -- The live commands that a session keeps, beside its task sets.
-use Rattle.std.proofs.Common.{◌≡◌, ℕ, ◌+◌, ◌<◌, ◌==◌, ◌&&◌, ⊎_elim, cond, Bool, true, false, nat_lt, nat_le, List, [], ◌∷◌, ◌++◌, length, map, filter, get_or, set, Option, Some, None, refl, ap, ◌∙◌, arith, length-set, eq-eqb}
-use Rattle.std.specs.List.{list_all}
-use Rattle.std.proofs.lemmas.Bool.{cases_eq, cond_both, leb-true}
+use Rattle.std.proofs.Common.{◌≡◌, ℕ, ◌+◌, ◌<◌, ◌==◌, ◌&&◌, cond, Bool, true, false, nat_lt, nat_le, List, [], ◌∷◌, ◌++◌, length, map, filter, get_or, set, Option, Some, None, refl, arith, length-set, eq-eqb, zero, suc, ◌≤◌, ◌||◌, not, ⊎_elim, count_by, All, take, is_some, ap, sym, ◌∙◌}
+use Rattle.std.specs.List.{list_all, list_any, AllPairs}
+use Rattle.std.proofs.lemmas.Bool.{cond_both, leb-true, cases_Bool, eqb-true, false≢true, ltb-true, ne_eqb}
 use Rattle.std.proofs.lemmas.Bool.Decides.{nat_tests}
-use Rattle.std.proofs.lemmas.List.{append-nil, map-append, get_or-set_same, get_or-set_other}
+use Rattle.std.proofs.lemmas.List.{append-nil, map-append, get_or-set_same, get_or-set_other, length-map, get_or_default, get_or-take, length-take-le, take_more}
 use Rattle.std.proofs.lemmas.List.Elements.{filter-append}
-use Rattle.std.proofs.lemmas.List.Folds.{list_all-map}
-use Rattle.std.proofs.lemmas.List.Sums.{AllPass-from_list_all}
+use Rattle.std.proofs.lemmas.List.Folds.{list_all-map, list_any_none, list_any_more}
+use Rattle.std.proofs.lemmas.List.Sums.{AllPass-from_list_all, sum_by-cons}
 use Rattle.iscsi_tasks.specs.declared.task.Task.{Task}
 use Rattle.iscsi_tasks.specs.declared.member.Member.{Member}
-use Rattle.std.specs.List.{list_any}
 use Rattle.iscsi_history.proofs.ApartLemmas.{eq_sym}
-use Rattle.iscsi_tasks.specs.Sets.{is_enabled_in, Members, opened, entered_to, after_moment, given_by}
+use Rattle.iscsi_tasks.specs.Sets.{is_enabled_in, Members, opened, entered_to, given_by, tasks_in, left_by, with_ticket, uncovered, is_new}
 use Rattle.iscsi_commands.specs.declared.live.Live.{Live}
 use Rattle.iscsi_session.specs.private.Standing.{Match, are_ascending, are_within, tickets_of, tickets_in}
-use Rattle.iscsi_session.specs.private.Steps.{enabled_of, covers_ticket, has_covered}
-use Rattle.iscsi_history.proofs.BoolLemmas.{and_parts, and_both}
-use Rattle.iscsi_history.proofs.ListLemmas.{list_all-filter}
-use Rattle.iscsi_history.proofs.TraceLemmas.{weaker}
+use Rattle.iscsi_session.specs.private.Steps.{enabled_of, covers_ticket, has_covered, set_staying, covered_tickets, find_ticket, without_ticket, as_given, all_given, is_numbered, is_gone, staying, finished_by, leave_each, without_tickets, ungiven, ungiven_in}
+use Rattle.iscsi_history.proofs.BoolLemmas.{and_parts, and_both, and_comm, and_true, and_false, or_first, or_second}
+use Rattle.iscsi_history.proofs.ListLemmas.{list_all-filter, any_filter, any_same, list_any-map, count_by-map, filter-swap, filter-map, map-map, find-found, filter-shorter, filter_every, filter_here, fewer_counted, none_out}
+use Rattle.iscsi_history.proofs.TraceLemmas.{weaker, filter-same, filter-true}
 use Rattle.iscsi_session.proofs.ListLemmas.{list_all-push}
-use Rattle.iscsi_history.proofs.SetLemmas.{tickets-given_in, tickets-moment}
+use Rattle.iscsi_history.proofs.SetLemmas.{tickets-given_in, tickets-moment, none_filtered, tickets, gone_each, none_covered, none_found, one_gone, rising, some_covered}
+use Rattle.std.specs.Prelude.{IsSome}
+use Rattle.iscsi_window.specs.Windows.{Arrived, with_unfinished}
+use Rattle.iscsi_history.specs.declared.effect.Effect.TheVariants.{Leave}
+use Rattle.iscsi_history.proofs.NewlyLemmas.{filter-twice, both_all}
+use Rattle.iscsi_history.proofs.CountLemmas.{fewer}
+use Rattle.iscsi_history.proofs.NumberLemmas.{none_above}
 
 -- ---- no call but entering and leaving changes the tickets
 
 tickets-entered : (s : Members) (task : Task) → tickets_of (given_by (entered_to s task)) ≡ tickets_of s ++ task.ticket ∷ []
-tickets-entered s task =
-    let newcomer : Member = record { task = task; enabled = false; given = false } in
-    tickets-given_in (after_moment (s.list ++ newcomer ∷ [])) ∙ tickets-moment (s.list ++ newcomer ∷ []) ∙ map-append (λ (m : Member). m.task.ticket) s.list (newcomer ∷ [])
+tickets-entered s task = grind (arith, nat_tests, tickets-given_in, tickets-moment, map-append)
 
 -- one set is another now, and the commands of the other units are as they were
 pub match_set : (sets : List Members) (lives left : List Live) (unit : ℕ) (new : Members) → unit < length sets → Match sets lives → tickets_of new ≡ tickets_in unit left
     → ((u : ℕ) → (u == unit) ≡ false → tickets_in u left ≡ tickets_in u lives) → Match (set sets unit new) left
-match_set sets lives left unit new inside m here elsewhere = λ u lt.
-    ⊎_elim
-    (λ (same : u ≡ unit). rw (same, get_or-set_same sets unit new (opened 0) inside) here)
-    (λ other. rw (get_or-set_other sets unit u new (opened 0) other, elsewhere u (let no : (u == unit) ≡ false = grind (arith, nat_tests) in no)) (m u (omega (arith, length-set sets unit new, lt))))
-    (cases_eq u unit)
+match_set sets lives left unit new inside m here elsewhere = grind (arith, nat_tests, get_or-set_same, get_or-set_other, length-set)
 
 -- ---- a command enters
 
 tickets_in-push : (unit : ℕ) (lives : List Live) (l : Live) → tickets_in unit (lives ++ l ∷ []) ≡ tickets_in unit lives ++ map (λ (x : Live). x.ticket) (cond (l.unit == unit) (l ∷ []) [])
-tickets_in-push unit lives l =
-    ap (map (λ (x : Live). x.ticket)) (filter-append (λ (x : Live). x.unit == unit) lives (l ∷ [])) ∙ map-append (λ (x : Live). x.ticket) (filter (λ (x : Live). x.unit == unit) lives) (cond (l.unit == unit) (l ∷ []) [])
+tickets_in-push unit lives l = grind (arith, nat_tests, filter-append, map-append)
 
 pub Match-entered : (sets : List Members) (lives : List Live) (l : Live) (task : Task) → Match sets lives → l.unit < length sets → task.ticket ≡ l.ticket
     → Match (set sets l.unit (given_by (entered_to (get_or sets l.unit (opened 0)) task))) (lives ++ l ∷ [])
@@ -56,19 +54,10 @@ is_within n units l = nat_le l.ticket n && nat_lt l.unit units
 
 pub ascending-push : (n units : ℕ) (lives : List Live) (l : Live) → are_ascending lives ≡ true → are_within n units lives ≡ true → n < l.ticket → are_ascending (lives ++ l ∷ []) ≡ true
 ascending-push n units [] l up within later = refl
-ascending-push n units (x ∷ lives) l up within later =
-    let ups = and_parts _ _ up in
-    let ins = and_parts _ _ within in
-    and_both (list_all (λ (y : Live). nat_lt x.ticket y.ticket) (lives ++ l ∷ [])) (are_ascending (lives ++ l ∷ []))
-    (list_all-push (λ (y : Live). nat_lt x.ticket y.ticket) lives l ups.0 (before x ins.0))
-    (ascending-push n units lives l ups.1 ins.1 later)
-  where
-    before : (y : Live) → is_within n units y ≡ true → nat_lt y.ticket l.ticket ≡ true
-    before y within = grind (arith, nat_tests)
+ascending-push n units (x ∷ lives) l up within later = grind (arith, nat_tests, ascending-push n units lives l, and_parts, and_both, list_all-push)
 
 pub within-push : (n units : ℕ) (lives : List Live) (l : Live) → are_within n units lives ≡ true → l.ticket ≡ n + 1 → l.unit < units → are_within (n + 1) units (lives ++ l ∷ []) ≡ true
-within-push n units lives l within ticket inside =
-    list_all-push (is_within (n + 1) units) lives l (weaker (is_within n units) (is_within (n + 1) units) lives (λ x h. grind (arith, nat_tests)) within) (grind (arith, nat_tests))
+within-push n units lives l within ticket inside = grind (arith, nat_tests, list_all-push, weaker)
 
 -- no member of a set is newer than the last command that entered
 pub newest_in : (sets : List Members) (lives : List Live) (n units unit : ℕ) → Match sets lives → are_within n units lives ≡ true → unit < length sets
@@ -86,14 +75,11 @@ newest_in sets lives n units unit m within inside = λ k d lt.
 
 pub ascending-kept : (p : Live → Bool) (lives : List Live) → are_ascending lives ≡ true → are_ascending (filter p lives) ≡ true
 ascending-kept p [] up = refl
-ascending-kept p (x ∷ lives) up =
-    let ups = and_parts _ _ up in
-    cond_both (p x) _ _ (λ ls. are_ascending ls ≡ true) (λ is. and_both _ _ (list_all-filter p (λ (y : Live). nat_lt x.ticket y.ticket) lives ups.0) (ascending-kept p lives ups.1)) (λ is. ascending-kept p lives ups.1)
+ascending-kept p (x ∷ lives) up = grind (arith, nat_tests, ascending-kept p lives, and_parts, cond_both, and_both, list_all-filter)
 
 -- the command that is enabled was found by its ticket
 pub enabled_found : (sets : List Members) (k : ℕ) (x : Option Live) (l : Live) → enabled_of sets k x ≡ Some l → x ≡ Some l
-enabled_found sets k None l h = absurd cc
-enabled_found sets k (Some y) l h = grind arith
+enabled_found sets k x l h = grind (arith, nat_tests)
 
 -- and is in the set of its unit
 pub enabled_covered : (sets : List Members) (k : ℕ) (x : Option Live) (l : Live) → enabled_of sets k x ≡ Some l → has_covered (covers_ticket k) (get_or sets l.unit (opened 0)) ≡ true
@@ -105,5 +91,216 @@ enabled_covered sets k (Some y) l h = by_test (is_enabled_in k (get_or sets y.un
     among (m ∷ ms) is = grind (arith, among ms)
 
     by_test : (b : Bool) → is_enabled_in k (get_or sets y.unit (opened 0)).list ≡ b → cond b (Some y) None ≡ Some l → has_covered (covers_ticket k) (get_or sets l.unit (opened 0)) ≡ true
-    by_test true is here = let same : y ≡ l = cc in rw (← same) (among (get_or sets y.unit (opened 0)).list is)
-    by_test false is here = absurd cc
+    by_test b is here = grind (arith, nat_tests, among)
+
+-- ==== covered commands of a unit leave: what is left of its set and of the live commands
+
+-- ---- tickets go up along a set
+
+later_in : (k unit : ℕ) (lives : List Live) → list_all (λ m. nat_lt k m.ticket) lives ≡ true → list_all (λ u. nat_lt k u) (tickets_in unit lives) ≡ true
+later_in k unit lives h = rw list_all-map (list_all-filter _ _ lives h)
+
+rising_in : (unit : ℕ) (lives : List Live) → are_ascending lives ≡ true → rising (tickets_in unit lives) ≡ true
+rising_in unit lives up = rw rising_are (ascending-kept _ lives up)
+  where
+    rising_are : (ls : List Live) → rising (map (λ (l : Live). l.ticket) ls) ≡ are_ascending ls
+    rising_are [] = refl
+    rising_are (l ∷ ls) = cc (rising_are ls, list_all-map (λ u. nat_lt l.ticket u) (λ (m : Live). m.ticket) ls)
+
+-- ---- who leaves, of a set and of the live commands
+
+module _ (covers : Task → Bool) (now : Members) where
+  ungiven-staying : ungiven (set_staying covers now) ≤ ungiven now
+  ungiven-staying = grind (arith, count_by-map {A = Member}, fewer_counted {A = Member})
+
+  tickets_staying : tickets_of (set_staying covers now) ≡ tickets (uncovered covers now.list)
+  tickets_staying = grind (arith, map-map {A = Member}, none_out {A = Member})
+
+  -- the tickets that are left in its set
+  left_tickets : rising (tickets now.list) ≡ true → tickets_of (set_staying covers now) ≡ filter (λ t. not (is_gone covers now t)) (tickets now.list)
+  left_tickets up = rw (tickets_staying, filter-map) (sym (ap tickets (filter_here _ _ now.list (λ k d l. ap not (gone_each covers now.list k d up l)))))
+
+-- and among the live commands of any unit
+live_tickets : (goes : ℕ → Bool) (unit : ℕ) (lives : List Live) → tickets_in unit (filter (λ l. not (goes l.ticket)) lives) ≡ filter (λ t. not (goes t)) (tickets_in unit lives)
+live_tickets goes unit lives = rw (filter-swap, filter-map)
+
+-- ---- no command is in two units
+
+abbrev is_in : ℕ → List Live → ℕ → Bool
+is_in unit lives t = list_any (λ u. u == t) (tickets_in unit lives)
+
+apart_units : (unit other : ℕ) (lives : List Live) → (other == unit) ≡ false → are_ascending lives ≡ true → list_all (λ t. not (is_in unit lives t)) (tickets_in other lives) ≡ true
+apart_units unit other [] apart up = refl
+apart_units unit other (x ∷ lives) apart up =
+    let ups = and_parts (list_all (λ m. nat_lt x.ticket m.ticket) lives) (are_ascending lives) up in
+    let rest = apart_units unit other lives apart ups.1 in
+    let later : list_all (λ t. not ((x.ticket == t) || is_in unit lives t)) (tickets_in other lives) ≡ true =
+    weaker (λ t. nat_lt x.ticket t && not (is_in unit lives t)) _ _ (λ t both. grind (arith, nat_tests)) (both_all _ _ (tickets_in other lives) (later_in x.ticket other lives ups.0) rest) in
+    grind (arith, rest, later, none_above x.ticket (tickets_in unit lives) (later_in x.ticket unit lives ups.0))
+
+-- ---- the sets and the live commands that are left
+
+module _ (sets : List Members) (lives : List Live) (unit : ℕ) (covers : Task → Bool) (inside : unit < length sets) (m : Match sets lives) (up : are_ascending lives ≡ true) where
+  abbrev here : Members
+  here = get_or sets unit (opened 0)
+
+  pub rises : rising (tickets here.list) ≡ true
+  rises = rw (m unit inside) (rising_in unit lives up)
+
+  goes_in : (t : ℕ) → not (is_in unit lives t) ≡ true → not (is_gone covers here t) ≡ true
+  goes_in t absent = grind (arith, none_covered covers t here.list, m unit inside)
+
+  pub Match-staying : Match (set sets unit (set_staying covers here)) (staying covers here lives)
+  Match-staying = match_set sets lives (staying covers here lives) unit (set_staying covers here) inside m
+      (rw (left_tickets covers here rises, m unit inside, live_tickets (is_gone covers here)))
+      (λ u apart. rw (live_tickets (is_gone covers here)) (filter_every _ _ (weaker _ _ (tickets_in u lives) goes_in (apart_units unit u lives apart up))))
+
+-- ---- what is owed
+
+pub ungiven_in-set : (sets : List Members) (unit : ℕ) (new : Members) → unit < length sets → ungiven_in (set sets unit new) + ungiven (get_or sets unit (opened 0)) ≡ ungiven_in sets + ungiven new
+ungiven_in-set [] unit new lt = absurd (omega arith)
+ungiven_in-set (x ∷ sets) zero new lt = omega arith
+ungiven_in-set (x ∷ sets) (suc unit) new lt = omega (arith, ungiven_in-set sets unit new (omega arith))
+
+-- no more is owed than was
+pub ungiven_in-staying : (sets : List Members) (unit : ℕ) (covers : Task → Bool) → unit < length sets → ungiven_in (set sets unit (set_staying covers (get_or sets unit (opened 0)))) ≤ ungiven_in sets
+ungiven_in-staying sets unit covers inside = grind (arith, nat_tests, ungiven_in-set, ungiven-staying)
+
+-- ---- tickets that go up
+
+-- each of them is among them
+all_in : (ts : List ℕ) → list_all (λ t. list_any (λ u. u == t) ts) ts ≡ true
+all_in [] = refl
+all_in (x ∷ ts) = and_both _ _ (or_first (x == x) (list_any (λ u. u == x) ts) (eq-eqb x x refl)) (weaker (λ t. list_any (λ u. u == t) ts) (λ t. (x == t) || list_any (λ u. u == t) ts) ts (λ t h. or_second (x == t) (list_any (λ u. u == t) ts) h) (all_in ts))
+
+pairs_up : (ts : List ℕ) → rising ts ≡ true → AllPairs (λ (a b : ℕ). a < b) ts
+pairs_up [] up i j d lt l = absurd (omega (arith, l))
+pairs_up (t ∷ ts) up i zero d lt l = absurd (omega (arith, lt))
+pairs_up (t ∷ ts) up zero (suc j) d lt l = grind (arith, nat_tests, and_parts, ltb-true, AllPass-from_list_all)
+pairs_up (t ∷ ts) up (suc i) (suc j) d lt l = grind (arith, nat_tests, pairs_up ts, and_parts)
+
+-- ---- one command after the other
+
+pub without_shorter : (k : ℕ) (lives : List Live) → IsSome (find_ticket k lives) → length (without_ticket k lives) + 1 ≤ length lives
+without_shorter k lives there = grind (arith, fewer (λ (y : Live). y.ticket == k) lives)
+
+some_live : (k unit : ℕ) (lives : List Live) → is_in unit lives k ≡ true → IsSome (find_ticket k lives)
+some_live k unit [] h = absurd (false≢true h)
+some_live k unit (x ∷ lives) h = grind (arith, some_live k unit lives)
+
+-- none has left yet
+pub without_none : (lives : List Live) → without_tickets [] lives ≡ lives
+without_none lives = filter-true lives
+
+module _ (ts : List ℕ) (k d : ℕ) (inside : k < length ts) where
+  abbrev ticket : ℕ
+  ticket = get_or ts k d
+
+  -- one more leaves
+  pub without_more : (lives : List Live) → without_ticket ticket (without_tickets (take k ts) lives) ≡ without_tickets (take (k + 1) ts) lives
+  without_more lives = rw filter-twice (filter-same _ _ lives (λ l. rw (list_any_more (λ t. t == l.ticket) ts k d inside, eq_sym l.ticket ticket) (grind arith)))
+
+  pub leave_more : (unit : ℕ) → leave_each unit (take k ts) ++ Leave ticket unit ∷ [] ≡ leave_each unit (take (k + 1) ts)
+  leave_more unit = rw (take_more ts k d inside, map-append)
+
+  -- it is still among the live ones, as it is above those that left
+  pub there_yet : (lives : List Live) → AllPairs (λ (a b : ℕ). a < b) ts → IsSome (find_ticket ticket lives) → IsSome (find_ticket ticket (without_tickets (take k ts) lives))
+  there_yet lives up there = still_found lives there
+    where
+      before : All (λ t. (t == ticket) ≡ false) (take k ts)
+      before i e l =
+          let within : i < k = omega (arith, length-take-le k ts (omega (arith, inside)), l) in
+          let lower : get_or ts i e < get_or ts k e = up i k e within inside in
+          ne_eqb _ _ (λ same. absurd (omega (arith, lower, get_or_default ts k e d inside, get_or-take k ts i e within, same)))
+
+      stays : list_any (λ t. t == ticket) (take k ts) ≡ false
+      stays = list_any_none _ (take k ts) before
+
+      still_found : (ls : List Live) → IsSome (find_ticket ticket ls) → IsSome (find_ticket ticket (without_tickets (take k ts) ls))
+      still_found [] there = there
+      still_found (l ∷ ls) there = grind (arith, still_found ls, stays)
+
+-- a set has no more commands than are live
+pub few_in : (now : Members) (unit : ℕ) (lives : List Live) → tickets_of now ≡ tickets_in unit lives → length now.list ≤ length lives
+few_in now unit lives match = grind (arith, nat_tests, length-map, filter-shorter)
+
+-- ---- the covered commands of a set, by their tickets
+
+module _ (now : Members) (covers : Task → Bool) where
+  covered_are : covered_tickets covers now.list ≡ tickets (filter (λ m. covers m.task) now.list)
+  covered_are = rw (filter-map, map-map)
+
+  gone_are : (k : ℕ) → list_any (λ t. t == k) (covered_tickets covers now.list) ≡ is_gone covers now k
+  gone_are k = rw (covered_are, list_any-map, any_filter) (any_same _ _ now.list (λ m. and_comm (covers m.task) (m.task.ticket == k)))
+
+  pub without_covered : (lives : List Live) → without_tickets (covered_tickets covers now.list) lives ≡ staying covers now lives
+  without_covered lives = filter-same _ _ lives (λ l. ap not (gone_are l.ticket))
+
+  -- each is among the live ones
+  pub covered_live : (unit : ℕ) (lives : List Live) → tickets_of now ≡ tickets_in unit lives → All (λ t. IsSome (find_ticket t lives)) (covered_tickets covers now.list)
+  covered_live unit lives match k d l = some_live (get_or (covered_tickets covers now.list) k d) unit lives (AllPass-from_list_all (is_in unit lives) (covered_tickets covers now.list) all k d l)
+    where
+      all : list_all (is_in unit lives) (covered_tickets covers now.list) ≡ true
+      all = rw (covered_are, list_all-map) (list_all-filter _ _ now.list (sym (list_all-map (is_in unit lives) (λ (m : Member). m.task.ticket) now.list) ∙ rw match (all_in (tickets_in unit lives))))
+
+  -- and their tickets go up
+  pub covered_up : rising (tickets now.list) ≡ true → AllPairs (λ (a b : ℕ). a < b) (covered_tickets covers now.list)
+  covered_up up = rw covered_are (pairs_up (tickets (filter (λ m. covers m.task) now.list)) (rising-filter now.list up))
+    where
+      rising-filter : (ms : List Member) → rising (tickets ms) ≡ true → rising (tickets (filter (λ m. covers m.task) ms)) ≡ true
+      rising-filter [] up = refl
+      rising-filter (x ∷ ms) up = grind (arith, nat_tests, rising-filter ms, and_parts, list_all-map, list_all-filter)
+
+-- the places that are given back one after the other
+pub finished_on : (w v : Arrived) (a b c : List Live) → v ≡ finished_by w a b → count_by is_numbered a ≤ w.unfinished → count_by is_numbered c ≤ count_by is_numbered b → count_by is_numbered b ≤ count_by is_numbered a → finished_by v b c ≡ finished_by w a c
+finished_on w v a b c is few less_c less_b = rw is (ap (with_unfinished w) (omega arith))
+
+pub finished_none : (w : Arrived) (a : List Live) → finished_by w a a ≡ w
+finished_none w a = ap (with_unfinished w) {y = w.unfinished} (omega arith)
+
+-- ---- the one with a ticket
+
+-- what is left of its set, and whether it was there
+pub one_leaving : (k : ℕ) (now : Members) → (set_staying (covers_ticket k) now ≡ left_by now (with_ticket k (tasks_in now))) × (is_some (with_ticket k (tasks_in now)) ≡ has_covered (covers_ticket k) now)
+one_leaving k now = grind (arith, nat_tests, none_found, some_covered, eqb-true, find-found)
+
+pub one_found : (k unit : ℕ) (now : Members) (lives : List Live) → tickets_of now ≡ tickets_in unit lives → has_covered (covers_ticket k) now ≡ true → IsSome (find_ticket k lives)
+one_found k unit now lives match has = some_live k unit lives (rw (← match, list_any-map) has)
+
+pub one_missing : (k unit : ℕ) (now : Members) (lives : List Live) → tickets_of now ≡ tickets_in unit lives → find_ticket k lives ≡ None → has_covered (covers_ticket k) now ≡ false
+one_missing k unit now lives match none = ⊎_elim
+    (λ there. let found = one_found k unit now lives match there in absurd (false≢true (rw none at found)))
+    (λ no. no)
+    (cases_Bool (has_covered (covers_ticket k) now))
+
+pub one_live : (k : ℕ) (now : Members) (lives : List Live) → cond (has_covered (covers_ticket k) now) (without_ticket k lives) lives ≡ staying (covers_ticket k) now lives
+one_live k now lives = simp one_gone (by_test (has_covered (covers_ticket k) now))
+  where
+    by_test : (b : Bool) → cond b (without_ticket k lives) lives ≡ filter (λ l. not (l.ticket == k && b)) lives
+    by_test true = simp and_true
+    by_test false = simp (and_false, filter-true)
+
+pub one_leaves : (k unit : ℕ) (ms : List Member) → rising (tickets ms) ≡ true → cond (list_any (λ m. m.task.ticket == k) ms) (Leave k unit ∷ []) [] ≡ leave_each unit (covered_tickets (covers_ticket k) ms)
+one_leaves k unit [] up = refl
+one_leaves k unit (x ∷ ms) up =
+    let parts = and_parts (list_all (λ u. nat_lt x.task.ticket u) (tickets ms)) (rising (tickets ms)) up in
+    let none : (x.task.ticket == k) ≡ true → list_any (λ (m : Member). m.task.ticket == k) ms ≡ false =
+    λ is. rw (← eqb-true x.task.ticket k is) (simp list_any-map at (none_above x.task.ticket (tickets ms) parts.0)) in
+    grind (arith, nat_tests, one_leaves k unit ms parts.1, none, none_filtered (λ m. m.task.ticket == k) ms)
+
+-- ---- a unit is told
+
+-- what is given isn't owed any more
+ungiven-given : (ms : List Member) → count_by (λ m. not m.given) (map as_given ms) + count_by is_new ms ≡ count_by (λ m. not m.given) ms
+ungiven-given [] = refl
+ungiven-given (x ∷ ms) =
+    omega (arith, one x.enabled x.given, ungiven-given ms, sum_by-cons (λ (m : Member). cond (not m.given) 1 0) (as_given x) (map as_given ms), sum_by-cons (λ m. cond (is_new m) 1 0) x ms, sum_by-cons (λ (m : Member). cond (not m.given) 1 0) x ms)
+  where
+    one : (e g : Bool) → ◌≡◌ {A = ℕ} (cond (not (g || e)) 1 0 + cond (e && not g) 1 0) (cond (not g) 1 0)
+    one e g = grind arith
+
+pub owed-given : (sets : List Members) (unit : ℕ) → unit < length sets → ungiven_in (set sets unit (all_given (get_or sets unit (opened 0)))) + count_by is_new (get_or sets unit (opened 0)).list ≡ ungiven_in sets
+owed-given sets unit inside = omega (arith, ungiven_in-set sets unit (all_given (get_or sets unit (opened 0))) inside, ungiven-given (get_or sets unit (opened 0)).list)
+
+pub Match-given : (sets : List Members) (lives : List Live) (unit : ℕ) → Match sets lives → unit < length sets → Match (set sets unit (all_given (get_or sets unit (opened 0)))) lives
+Match-given sets lives unit m inside = match_set sets lives lives unit (all_given (get_or sets unit (opened 0))) inside m (rw map-map (m unit inside)) (λ u apart. refl)

@@ -8,6 +8,7 @@ use Rattle.iscsi_history.specs.rules.Settings.{is_known}
 use Rattle.iscsi_session.specs.private.Standing.{are_known, is_place_known}
 use Rattle.iscsi_session.specs.private.Steps.{without_ticket, count_reply}
 use Rattle.iscsi_history.proofs.ListLemmas.{is_known-cids, list_all-filter, list_all-same}
+use Rattle.std.proofs.lemmas.Bool.Decides.{nat_tests}
 
 -- one more that passes
 pub list_all-push : {A : Type 0} (p : A → Bool) (xs : List A) (x : A) → list_all p xs ≡ true → p x ≡ true → list_all p (xs ++ x ∷ []) ≡ true
@@ -34,7 +35,4 @@ are_known-left ticket lives conns h = list_all-filter (λ l. not (l.ticket == ti
 
 -- and the requests that are held
 pub are_places_known-replied : (cid : ℕ) (places : List (Option (Option HeldRequest))) (conns : List (ℕ × ℕ)) → list_all (is_place_known conns) places ≡ true → list_all (is_place_known (count_reply cid conns)) places ≡ true
-are_places_known-replied cid places conns h = list_all-same (is_place_known (count_reply cid conns)) (is_place_known conns) places same ∙ h
-  where
-    same : (p : Option (Option HeldRequest)) → is_place_known (count_reply cid conns) p ≡ is_place_known conns p
-    same p = grind (arith, is_known-replied cid)
+are_places_known-replied cid places conns h = grind (arith, nat_tests, list_all-same, is_known-replied)

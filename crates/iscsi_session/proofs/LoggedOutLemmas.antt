@@ -3,13 +3,12 @@ use Rattle.std.proofs.Common.{◌+◌, ◌≡◌, ℕ, ◌≤◌, not, cond, Boo
 use Rattle.std.proofs.lemmas.List.Sums.{sum_by-cons}
 use Rattle.iscsi_window.specs.declared.held_request.HeldRequest.{HeldRequest}
 use Rattle.iscsi_wire.specs.declared.request.Request.{Request}
-use Rattle.iscsi_wire.specs.Fields.{connection_of}
-use Rattle.iscsi_window.specs.Windows.{is_asked, with_unfinished}
+use Rattle.iscsi_window.specs.Windows.{with_unfinished}
 use Rattle.iscsi_tasks.specs.declared.task.Task.{Task}
-use Rattle.iscsi_session.specs.declared.session.waiting.Waiting.{Waiting}
 use Rattle.iscsi_session.specs.private.Standing.{Core, is_held}
-use Rattle.iscsi_session.specs.private.Steps.{set_staying, set_at, units_of, is_numbered, is_gone, commands_left, all_commands_left, covers_of, emptied_place, logged_out}
+use Rattle.iscsi_session.specs.private.Steps.{set_staying, set_at, is_numbered, is_gone, commands_left, all_commands_left, emptied_place, logged_out}
 use Rattle.iscsi_history.proofs.ListLemmas.{fewer_counted, filter-shorter, count_by-map}
+use Rattle.std.proofs.lemmas.Bool.Decides.{nat_tests}
 
 -- ---- what stays
 
@@ -43,10 +42,7 @@ left_keeps s (unit ∷ units) covers =
 -- ---- held requests are taken out
 
 emptied_counted : (scope : Option ℕ) (ps : List (Option (Option HeldRequest))) → count_by is_some (map (emptied_place scope) ps) ≡ count_by is_some ps
-emptied_counted scope ps = simp (count_by-map, same)
-  where
-    same : (p : Option (Option HeldRequest)) → is_some (emptied_place scope p) ≡ is_some p
-    same p = grind arith
+emptied_counted scope ps = grind (arith, nat_tests, count_by-map)
 
 emptied_fewer : (scope : Option ℕ) (ps : List (Option (Option HeldRequest))) → count_by is_held (map (emptied_place scope) ps) ≤ count_by is_held ps
 emptied_fewer scope [] = omega arith
@@ -61,7 +57,4 @@ pub record Parts (s s' : Core) : Type 0 where
   pub counted : count_by is_some s'.window.places ≡ count_by is_some s.window.places
 
 pub logged_out_parts : (s : Core) (r : Request) (scope : Option ℕ) → Parts s (logged_out s r scope).core
-logged_out_parts s r scope =
-    let k = left_keeps s (units_of s) (covers_of scope) in
-    let stays : Waiting → Bool = λ w. not (is_asked scope (connection_of w.request)) in
-    rw k.same (grind (arith, k.unfinished, emptied_fewer scope s.window.places, emptied_counted scope s.window.places, filter-shorter stays s.waiting))
+logged_out_parts s r scope = grind (arith, nat_tests, left_keeps, emptied_fewer, emptied_counted, filter-shorter)

@@ -1,14 +1,20 @@
 -- A Logout Request executes.
-use Rattle.std.proofs.Common.{◌≡◌, ℕ, ◌<◌, ◌==◌, ◌&&◌, ◌||◌, not, cond, Bool, true, false, List, [], ◌∷◌, ◌++◌, length, map, filter, nat_lt, Option, Some, None, refl, sym, ◌∙◌, arith, append_assoc}
-use Rattle.std.specs.List.{list_any, list_all, filter_map, flat_map}
-use Rattle.std.proofs.lemmas.List.{length-map}
+use Rattle.std.proofs.Common.{◌≡◌, ℕ, zero, suc, ◌+◌, ◌<◌, ◌≤◌, not, ⊎_elim, Bool, List, [], ◌∷◌, ◌++◌, length, filter, count_by, refl, ap, sym, ◌∙◌, arith, length-set, ◌==◌, ◌&&◌, ◌||◌, cond, true, false, map, nat_lt, Option, Some, None, append_assoc}
+use Rattle.std.specs.List.{list_any, flat_map, range_with_len, list_all, filter_map}
+use Rattle.std.proofs.lemmas.Bool.{cases_eq}
+use Rattle.std.proofs.lemmas.List.{get_or-set_same, get_or-set_other, length-map}
+use Rattle.iscsi_tasks.specs.declared.task.Task.{Task}
+use Rattle.iscsi_tasks.specs.Sets.{opened}
+use Rattle.iscsi_session.specs.private.Standing.{Core, Agrees, WindowAgrees, CommandsAgree, SetsAgree, arrival_waiting, open_of, task_of}
+use Rattle.iscsi_session.specs.private.Steps.{set_staying, covered_tickets, set_at, is_numbered, is_gone, leave_each, commands_left, all_commands_left, is_among_open, still_open, after_effect, units_of, all_given, enable_effects, covers_of, waiting_then, session_closes, closing_effects, logged_out}
+use Rattle.iscsi_history.proofs.TraceLemmas.{filter-same, filter-true}
+use Rattle.iscsi_history.proofs.NewlyLemmas.{filter-twice, Untouched, live-untouched, filter_all, filter-none}
+use Rattle.iscsi_history.proofs.ListLemmas.{any_in_range, flat_map_in_range, list_all-filter, list_all-same, list_any-map, any_filter, any_flat_map, filter-flat_map, map-flat_map, filter-map, filtered_among}
 use Rattle.std.proofs.lemmas.List.Elements.{filter_map-append}
 use Rattle.std.proofs.Math.ListN.{get_or-map}
 use Rattle.iscsi_wire.specs.declared.reply.Reply.TheVariants.{Logout}
 use Rattle.iscsi_wire.specs.Fields.{connection_of, itt}
 use Rattle.iscsi_window.specs.Windows.{is_asked}
-use Rattle.iscsi_tasks.specs.declared.task.Task.{Task}
-use Rattle.iscsi_tasks.specs.Sets.{opened}
 use Rattle.iscsi_history.specs.declared.effect.Effect.{Effect}
 use Rattle.iscsi_history.specs.declared.effect.Effect.TheVariants.{Leave, Send, CloseConn, CloseSession}
 use Rattle.iscsi_session.specs.declared.session.waiting.Waiting.{Waiting}
@@ -18,26 +24,72 @@ use Rattle.iscsi_history.specs.rules.Execution.{unfinished}
 use Rattle.iscsi_history.specs.rules.Logout.{live_of_units, is_open, is_last_open, taken_out, parting, end_session, close_conn}
 use Rattle.iscsi_history.specs.rules.Management.{may_wait}
 use Rattle.iscsi_history.specs.rules.Run.{effects_of_mark, effects_of_item, newly_enabled, stat_sn_of}
-use Rattle.iscsi_session.specs.private.Standing.{Core, Agrees, WindowAgrees, CommandsAgree, SetsAgree, arrival_waiting, open_of, task_of}
-use Rattle.iscsi_session.specs.private.Steps.{set_staying, is_among_open, still_open, after_effect, set_at, units_of, all_given, enable_effects, all_commands_left, covers_of, waiting_then, session_closes, closing_effects, logged_out}
 use Rattle.iscsi_history.proofs.MomentLemmas.{enables}
-use Rattle.iscsi_session.proofs.ReplyParts.{RepliesAgree-sent}
-use Rattle.iscsi_history.proofs.ListLemmas.{list_all-filter, list_all-same, list_any-map, any_filter, any_flat_map, any_in_range, flat_map_in_range, filter-flat_map, map-flat_map, filter-map, filtered_among}
+use Rattle.iscsi_session.proofs.AgreeLemmas.{RepliesAgree-sent, CommandsAgree-left, units_live}
 use Rattle.iscsi_history.proofs.BoolLemmas.{or_false, and_false, alike, alike_same}
-use Rattle.iscsi_history.proofs.TraceLemmas.{filter-same}
 use Rattle.iscsi_history.proofs.ApartLemmas.{eq_sym, unamong-filter}
 use Rattle.iscsi_history.proofs.DeliveryLemmas.{IsQuiet}
-use Rattle.iscsi_history.proofs.NewlyLemmas.{Untouched, live-untouched, filter_all, filter-none, filter-twice}
 use Rattle.iscsi_history.proofs.CommandItems.{LeavesSome, live_in-left, among_passing, any_in_units, enters_only, leaves_only}
 use Rattle.iscsi_history.proofs.EnabledItems.{EnabledSoFar-left}
 use Rattle.iscsi_history.proofs.ClosingItems.{closed-same, closing_marks, quiet-closing, untouched-closing, untouched-emptied, emptied_any, emptied_sends, emptied_shown, emptied_waits, is_nil, last_is, left_any, left_sends, left_shown, left_waits, nil_is}
-use Rattle.iscsi_session.proofs.CommandParts.{CommandsAgree-left}
-use Rattle.iscsi_session.proofs.AgreeLemmas.{units_live}
 use Rattle.iscsi_session.proofs.ExecutionLemmas.{Begun, Follows}
-use Rattle.iscsi_session.proofs.LeavingLemmas.{WindowAgrees-fewer, numbered_live, gone_tickets, leaving_shown, SetLeft, set_left}
+use Rattle.iscsi_session.proofs.ExecutionLemmas.{WindowAgrees-fewer, numbered_live, gone_tickets, leaving_shown, SetLeft, set_left}
 use Rattle.iscsi_session.proofs.LoggedOutLemmas.{Keeps, left_keeps}
-use Rattle.iscsi_session.proofs.LogoutUnits.{sets_left, gone_in, live_staying, effects_leaving, unfinished_left}
 use Rattle.iscsi_session.proofs.EmptyingLemmas.{taken_requests, emptied_from-is, WindowAgrees-logged_out}
+use Rattle.std.proofs.lemmas.Bool.Decides.{nat_tests}
+
+-- ==== the covered commands of several units leave: what it comes to at once, in place of one unit after the other
+
+module _ (covers : Task → Bool) where
+  -- ---- the sets
+
+  -- those of other units are as they were
+  other_set : (s : Core) (unit other : ℕ) → (other ≡ unit → ⊥) → set_at (commands_left s unit covers).core other ≡ set_at s other
+  other_set s unit other apart = get_or-set_other s.sets unit other (set_staying covers (set_at s unit)) (opened 0) apart
+
+  -- those of the units before
+  sets_before : (s : Core) (from n unit : ℕ) → unit < from → set_at (all_commands_left s (range_with_len from n) covers).core unit ≡ set_at s unit
+  sets_before s from zero unit lt = refl
+  sets_before s from (suc n) unit lt = rw (sets_before (commands_left s from covers).core (from + 1) n unit (omega arith)) (other_set s from unit (omega arith))
+
+  -- and those of these units
+  pub sets_left : (s : Core) (from n unit : ℕ) → from + n ≤ length s.sets → from ≤ unit → unit < from + n → set_at (all_commands_left s (range_with_len from n) covers).core unit ≡ set_staying covers (set_at s unit)
+  sets_left s from zero unit few low high = absurd (omega arith)
+  sets_left s from (suc n) unit few low high =
+      let s' : Core = (commands_left s from covers).core in
+      let long : length s'.sets ≡ length s.sets = length-set s.sets from (set_staying covers (set_at s from)) in
+      ⊎_elim
+      (λ (here : unit ≡ from). rw (here, sets_before s' (from + 1) n from (omega arith)) (get_or-set_same s.sets from (set_staying covers (set_at s from)) (opened 0) (omega arith)))
+      (λ (apart : unit ≡ from → ⊥). rw (sets_left s' (from + 1) n unit (omega (arith, long)) (omega arith) (omega arith), other_set s from unit apart))
+      (cases_eq unit from)
+
+  -- ---- the live commands
+
+  -- a covered command of one of the units has the ticket
+  abbrev pub gone_in : Core → List ℕ → ℕ → Bool
+  gone_in s units ticket = list_any (λ unit. is_gone covers (set_at s unit) ticket) units
+
+  pub live_staying : (s : Core) (from n : ℕ) → (all_commands_left s (range_with_len from n) covers).core.live ≡ filter (λ l. not (gone_in s (range_with_len from n) l.ticket)) s.live
+  live_staying s from zero = sym (filter-true s.live)
+  live_staying s from (suc n) =
+      let s' : Core = (commands_left s from covers).core in
+      rw (live_staying s' (from + 1) n, filter-twice) (filter-same _ _ s.live (λ l.
+      rw (any_in_range (λ unit. is_gone covers (set_at s' unit) l.ticket) (λ unit. is_gone covers (set_at s unit) l.ticket) (from + 1) n (λ unit low high. rw (other_set s from unit (omega arith))))
+      (grind arith)))
+
+  -- ---- the effects
+
+  pub effects_leaving : (s : Core) (from n : ℕ) → (all_commands_left s (range_with_len from n) covers).effects ≡ flat_map (λ unit. leave_each unit (covered_tickets covers (set_at s unit).list)) (range_with_len from n)
+  effects_leaving s from zero = refl
+  effects_leaving s from (suc n) =
+      ap (λ es. leave_each from (covered_tickets covers (set_at s from).list) ++ es)
+      (effects_leaving (commands_left s from covers).core (from + 1) n ∙ flat_map_in_range _ _ (from + 1) n (λ unit low high. rw (other_set s from unit (omega arith))))
+
+  -- ---- the numbered commands
+
+  pub unfinished_left : (s : Core) (units : List ℕ) → s.window.unfinished ≡ count_by is_numbered s.live → (all_commands_left s units covers).core.window.unfinished ≡ count_by is_numbered (all_commands_left s units covers).core.live
+  unfinished_left s [] counted = counted
+  unfinished_left s (unit ∷ units) counted = unfinished_left (commands_left s unit covers).core units (omega (arith, counted))
 
 -- ---- what the closing marks come to
 
@@ -207,8 +259,7 @@ module _ (o : Setting) (s : Core) (t : Trace) (m : Mark) (e : Effect) (a : Arriv
   }
 
   enabling : flat_map (λ unit. enable_effects unit (set_at left unit).list) (units_of left) ≡ enables (newly_enabled o t item)
-  enabling =
-      rw (units_same, map-flat_map) (flat_map_in_range _ _ 0 o.units (λ unit low high. rw (set_is unit (omega arith)) (set_after unit (omega arith)).effects))
+  enabling = grind (arith, nat_tests, units_same, map-flat_map, flat_map_in_range, set_is, set_after)
 
   -- ---- the window
 
@@ -238,8 +289,7 @@ module _ (o : Setting) (s : Core) (t : Trace) (m : Mark) (e : Effect) (a : Arriv
       rw (b.lasts.open_is, filter-twice, last_is o t closing o.conns (λ c known. known)) (list_all-same _ _ o.conns (λ d. rw (closed-same d.0 (m ∷ []) t b.closes_no)))
 
   closes_are : (x : Option ℕ) → closing_effects x ++ session_closes (still_open x s.open_conns) ≡ closes_shown o t₁ a x
-  closes_are None = rw none_stay
-  closes_are (Some closing) = grind (arith, last_open closing)
+  closes_are x = grind (arith, nat_tests, none_stay, last_open)
 
   -- what the item closes, the closing marks do
   closes : (test : Mark → Bool) → (test m || false) ≡ false → ((c : Command) → test (Leaves c) ≡ false) → ((h : Arrival) → test (Empties h) ≡ false) → has test (item ∷ t) ≡ (list_any test rest || has test t)
@@ -257,8 +307,7 @@ module _ (o : Setting) (s : Core) (t : Trace) (m : Mark) (e : Effect) (a : Arriv
   stays_open (Some closing) = by_last (is_last_open o t₁ closing) refl
     where
       by_last : (v : Bool) → is_last_open o t₁ closing ≡ v → still_open (Some closing) (open_of o t) ≡ filter (opens (Some closing)) cids
-      by_last true is =
-          nil_is _ (rw b.lasts.open_is at (last_open closing) ∙ is) ∙ sym (filter-none (opens (Some closing)) cids (λ c. rw is (and_false (is_known c o.conns))))
+      by_last true is = grind (arith, nat_tests, nil_is, last_open, filter-none, and_false)
       by_last false is = rw filter-twice (filter-same _ _ cids (λ c. grind (arith, is, eq_sym closing c)))
 
   -- ---- what waits still
@@ -271,8 +320,7 @@ module _ (o : Setting) (s : Core) (t : Trace) (m : Mark) (e : Effect) (a : Arriv
     where
       rest_waits : (x : Option ℕ) → waiting_through (closing_marks o t₁ a x) (map (arrival_waiting o.first) s.waiting)
           ≡ map (arrival_waiting o.first) (waiting_then (still_open x s.open_conns) (filter (λ w. not (is_asked x (connection_of w.request))) s.waiting))
-      rest_waits None = rw none_stay
-      rest_waits (Some closing) = grind (arith, last_open closing, filter-map (λ (c : Arrival). not (connection_of c.request == closing)) (arrival_waiting o.first) s.waiting)
+      rest_waits x = grind (arith, nat_tests, none_stay, last_open, filter-map)
 
   still_all : (test : Waiting → Bool) → list_all test s.waiting ≡ true → list_all test (logged_out s a.request scope).core.waiting ≡ true
   still_all test h = rw k.same (grind (arith, list_all-filter stays test s.waiting h))

@@ -1,18 +1,15 @@
 -- A session that was opened, and how many requests one holds.
-use Rattle.std.proofs.Common.{Bool, ◌≡◌, ℕ, ◌+◌, ◌-◌, ◌*◌, ◌==◌, cond, false, List, [], ◌∷◌, length, map, filter, replicate, Option, Some, None, option_map, is_some, refl, ap, sym, ◌∙◌, arith, count_by}
-use Rattle.std.specs.List.{filter_map, range_with_len}
+use Rattle.std.proofs.Common.{◌≡◌, ℕ, ◌+◌, ◌*◌, ◌==◌, List, [], ◌∷◌, length, map, filter, replicate, Some, None, is_some, refl, ap, sym, ◌∙◌, arith, count_by}
 use Rattle.std.proofs.lemmas.List.{length-map, length-replicate}
-use Rattle.iscsi_wire.specs.Serial.{wire, number_of_first}
-use Rattle.iscsi_window.specs.declared.held_request.HeldRequest.{HeldRequest}
+use Rattle.iscsi_wire.specs.Serial.{wire}
 use Rattle.iscsi_window.specs.Windows.{number_expected, opened}
-use Rattle.iscsi_tasks.specs.Sets.{Members, opened as opened_set}
+use Rattle.iscsi_tasks.specs.Sets.{opened as opened_set}
 use Rattle.iscsi_history.specs.declared.event.Event.{Event}
 use Rattle.iscsi_history.specs.rules.Settings.{Setting}
-use Rattle.iscsi_history.specs.rules.Trace.{Arrival, Trace, first_of, is_received, held, live}
+use Rattle.iscsi_history.specs.rules.Trace.{Trace, first_of, held, live}
 use Rattle.iscsi_history.specs.rules.Run.{trace_of}
-use Rattle.iscsi_history.specs.promises.Executed.{request_at}
 use Rattle.iscsi_session.specs.promises.Bounds.{held_count, effect_bound_of}
-use Rattle.iscsi_session.specs.private.Standing.{Core, Settled, StandsFor, held_of, place_of, is_held, stat_sn_on, kept, arrival_waiting}
+use Rattle.iscsi_session.specs.private.Standing.{Core, Settled, StandsFor, place_of, is_held, stat_sn_on, kept, arrival_waiting}
 use Rattle.iscsi_history.proofs.EnabledItems.{EnabledSoFar-none}
 use Rattle.iscsi_history.proofs.HeldLemmas.{unreceived_unheld}
 use Rattle.iscsi_history.proofs.ClosingItems.{all_open}
@@ -20,6 +17,7 @@ use Rattle.iscsi_history.proofs.CountLemmas.{count_places}
 use Rattle.iscsi_history.proofs.PlaceLemmas.{nothing_at}
 use Rattle.iscsi_history.proofs.SetLemmas.{set_opened}
 use Rattle.iscsi_session.proofs.AgreeLemmas.{settled_expected}
+use Rattle.std.proofs.lemmas.Bool.Decides.{nat_tests}
 
 first_number : (cid : ℕ) (cs : List (ℕ × ℕ)) → stat_sn_on cid cs ≡ wire (elim (first_of (filter (λ c. c.0 == cid) cs)) [ Some c ↦ c.1 | None ↦ 0 ] + 0)
 first_number cid [] = refl
@@ -40,28 +38,10 @@ pub Settled-opened : (o : Setting) (taken : ℕ) → Settled o (record {
 Settled-opened o taken = record {
   agrees = record {
     events = refl;
-    window = record {
-      first = refl;
-      size = length-replicate o.window None;
-      below = λ n low high. absurd (omega arith);
-      inside = λ k lt. nothing_at o.window k;
-      above = λ n high. refl;
-      past = λ n low. refl;
-      undelivered = λ n high. refl;
-      unemptied = λ n gone. refl;
-      requests = λ n a found. absurd cc;
-      numbers = λ n a found. absurd cc;
-      delivered = sym (ap (λ m. filter_map (request_at []) (range_with_len (number_of_first o.first) m)) (let z : number_of_first o.first + 0 - number_of_first o.first ≡ 0 = omega arith in z));
-      few = omega arith;
-      free = λ k big. nothing_at o.window k;
-    };
+    window = grind (arith, nat_tests, length-replicate, nothing_at);
     replies = record { cids = refl; stat_sns = λ cid known. first_number cid o.conns };
     commands = record { commands = refl; regular = refl; apart = refl; count_is = refl; fresh = λ k h. refl; unleft = λ k h. refl };
-    sets = record {
-      units = length-replicate o.units (opened_set o.depth);
-      depths = λ u lt. ap (λ (m : Members). m.depth) (set_opened o.units u o.depth lt);
-      lists = λ u lt. ap (λ (m : Members). m.list) (set_opened o.units u o.depth lt);
-    };
+    sets = grind (arith, nat_tests, length-replicate, set_opened);
     unfinished = refl;
     enabled = EnabledSoFar-none o;
     level = refl;
@@ -74,10 +54,7 @@ Settled-opened o taken = record {
 -- ---- how many are held
 
 held_place : (t : Trace) (n : ℕ) → is_held (place_of t n) ≡ is_some (held t n)
-held_place t n = by_received (is_received t n) (held t n) (unreceived_unheld t n)
-  where
-    by_received : (b : Bool) (x : Option Arrival) → (b ≡ false → x ≡ None) → is_held (let p : Option (Option HeldRequest) = cond b (Some (option_map held_of x)) None in p) ≡ is_some x
-    by_received b x none = grind arith
+held_place t n = grind (arith, nat_tests, unreceived_unheld)
 
 pub bound_is : (o : Setting) (s : Core) (h : List Event) → StandsFor o s h → 12 * (count_by is_held s.window.places + length s.waiting + 1) + 2 * length s.live ≡ effect_bound_of o (trace_of o h)
 bound_is o s h stands =

@@ -1,10 +1,19 @@
 -- Where a session stands for some events, their log keeps the promises.
-use Rattle.std.proofs.Common.{◌≡◌, ◌∙◌, List, [], ap, sym}
+use Rattle.std.proofs.Common.{◌≡◌, ℕ, ◌+◌, ◌-◌, ◌<◌, ⊎_elim, false, length, arith, List}
+use Rattle.std.proofs.lemmas.Bool.{cases_lt}
+use Rattle.iscsi_window.specs.Windows.{number_expected}
 use Rattle.iscsi_history.specs.declared.event.Event.{Event}
 use Rattle.iscsi_history.specs.rules.Settings.{Setting}
-use Rattle.iscsi_history.specs.rules.Run.{trace_of, run_of}
-use Rattle.iscsi_history.specs.promises.Executed.{delivered, executed, executed_below}
-use Rattle.iscsi_history.specs.promises.Flow.{FlowsThrough}
+use Rattle.iscsi_history.specs.rules.Trace.{Trace, received, is_received}
+use Rattle.iscsi_history.specs.rules.Execution.{max_of}
+use Rattle.iscsi_history.specs.rules.Run.{after_event, run_of}
+use Rattle.iscsi_session.specs.private.Standing.{Core, Settled, StandsFor}
+use Rattle.iscsi_session.specs.private.Steps.{KeepsPace}
+use Rattle.iscsi_history.specs.promises.Flow.{HasOneMore, Flows, FlowsThrough}
+use Rattle.iscsi_history.proofs.FlowItems.{exp_stays}
+use Rattle.iscsi_session.proofs.WindowParts.{no_place}
+use Rattle.iscsi_session.proofs.AgreeLemmas.{settled_expected, settled_max}
+use Rattle.iscsi_history.specs.promises.Executed.{delivered, executed}
 use Rattle.iscsi_history.specs.promises.Enabling.{EnablesByTheRule}
 use Rattle.iscsi_history.specs.promises.Closes.{ClosesHoldIn}
 use Rattle.iscsi_history.specs.promises.Promises.{KeepsPromises}
@@ -17,21 +26,44 @@ use Rattle.iscsi_history.proofs.AnswerTheorem.{answers_once_in}
 use Rattle.iscsi_history.proofs.NumberingLemmas.{counts_replies}
 use Rattle.iscsi_history.proofs.OrderRuns.{keeps_order}
 use Rattle.iscsi_history.proofs.MeaningTheorem.{means_what_it_says}
-use Rattle.iscsi_session.specs.private.Standing.{Core, StandsFor}
-use Rattle.iscsi_session.proofs.AgreeLemmas.{settled_expected}
+use Rattle.std.proofs.lemmas.Bool.Decides.{nat_tests}
+
+-- ==== arrived numbers and the window, from event to event
+
+-- ---- the window's end
+
+-- nothing is received above MaxCmdSN
+none_above : (o : Setting) (s : Core) (t : Trace) → Settled o s t → (n : ℕ) → max_of o t < n → is_received t n ≡ false
+none_above o s t h n above =
+    let w = h.agrees.window in
+    let k : ℕ = n - number_expected s.window in
+    let max = settled_max o s t h in
+    let at : n ≡ number_expected s.window + k = omega (arith, w.few) in
+    ⊎_elim (λ lt. no_place t n (cc (w.inside k lt, w.free k (omega (arith, w.few))))) (λ far. w.above n (omega arith)) (cases_lt k (length s.window.places))
+
+-- an event that a session took
+pub Flows-step : (o : Setting) (s s' : Core) (index : ℕ) (t : Trace) (e : Event) → HasOneMore (received t) (received (after_event o index t e)) → Settled o s t → Settled o s' (after_event o index t e) → KeepsPace s.window s'.window → Flows o t (after_event o index t e)
+Flows-step o s s' index t e more h h' pace =
+    let t' : Trace = after_event o index t e in
+    let w = h.agrees.window in
+    let w' = h'.agrees.window in
+    let exp' = settled_expected o s' t' h' in
+    let max = settled_max o s t h in
+    let max' = settled_max o s' t' h' in
+    record {
+      one_number = more;
+      none_above = none_above o s' t' h';
+      exp_stays = exp_stays o t t' more;
+      max_stays = omega (arith, w, w');
+      max_near = omega (arith, w'.few);
+      few_unfinished = omega (arith, h'.agrees.unfinished, w'.few, w'.size);
+    }
 
 pub stands_delivers : (o : Setting) (s : Core) (h : List Event) → StandsFor o s h → delivered (run_of o h) ≡ executed o h
-stands_delivers o s h stands =
-    sym (log_delivers o 0 [] h)
-    ∙ stands.settled.agrees.window.delivered
-    ∙ ap (executed_below o (trace_of o h)) (sym (settled_expected o s (trace_of o h) stands.settled))
+stands_delivers o s h stands = grind (arith, nat_tests, log_delivers, settled_expected)
 
 pub stands_enables : (o : Setting) (s : Core) (h : List Event) → StandsFor o s h → EnablesByTheRule o h (run_of o h)
-stands_enables o s h stands = record {
-  whole = sym (log_effects o 0 [] h);
-  exact = stands.settled.agrees.enabled;
-  means = rule_means;
-}
+stands_enables o s h stands = grind (arith, nat_tests, log_effects, rule_means)
 
 pub stands_closes : (o : Setting) (s : Core) (h : List Event) → StandsFor o s h → ClosesHoldIn o h (run_of o h)
 stands_closes o s h stands = closes_hold_in o h stands.belong

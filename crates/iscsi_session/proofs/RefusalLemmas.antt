@@ -1,19 +1,17 @@
 -- The first event of a run that is refused.
-use Rattle.std.proofs.Common.{◌≡◌, ℕ, ◌+◌, inl, not, cond, Bool, true, List, Option, Some, None, refl, ap, sym, nat_lt, ◌<◌, ◌⊎◌, inr, length, take, drop, get_or, Ok, Err, arith, length-take}
+use Rattle.std.proofs.Common.{◌≡◌, ℕ, ◌+◌, true, List, Option, Some, None, ◌<◌, ◌⊎◌, length, take, drop, get_or, Ok, Err, arith, length-take}
 use Rattle.iscsi_history.specs.declared.event.Event.{Event}
 use Rattle.iscsi_session.specs.declared.fault.SessionFault.{SessionFault}
-use Rattle.iscsi_session.specs.declared.fault.SessionFault.TheVariants.{UnknownConnection, Exhausted, NoMemory}
+use Rattle.iscsi_session.specs.declared.fault.SessionFault.TheVariants.{NoMemory}
 use Rattle.iscsi_history.specs.rules.Settings.{Setting}
 use Rattle.iscsi_history.specs.rules.Agenda.{belongs}
 use Rattle.iscsi_session.specs.promises.Refusals.{first_refusal, refusal_of, RefusesAs, RunRefusesAs}
 use Rattle.std.proofs.lemmas.List.{drop_more}
+use Rattle.std.proofs.lemmas.Bool.Decides.{nat_tests}
 
 -- an event that isn't refused comes on a connection of the session
 pub taken_belongs : (o : Setting) (h : List Event) (e : Event) → refusal_of o h e ≡ None → belongs o e ≡ true
-taken_belongs o h e none = by_tests (belongs o e) (nat_lt (length h) o.events) none
-  where
-    by_tests : (b c : Bool) → cond (not b) (Some UnknownConnection) (cond c None (Some Exhausted)) ≡ None → b ≡ true
-    by_tests b c h = grind arith
+taken_belongs o h e none = grind (arith, nat_tests)
 
 abbrev first_of_two : Option SessionFault → Option SessionFault → Option SessionFault
 first_of_two x y = elim x [ Some fault ↦ Some fault | None ↦ y ]
@@ -21,18 +19,14 @@ first_of_two x y = elim x [ Some fault ↦ Some fault | None ↦ y ]
 -- the i-th event decides, or else those after it
 first_refusal-at : (o : Setting) (events : List Event) (i : ℕ) (d : Event) → i < length events
     → first_refusal o i (drop i events) ≡ first_of_two (refusal_of o (take i events) (get_or events i d)) (first_refusal o (i + 1) (drop (i + 1) events))
-first_refusal-at o events i d lt =
-    let long : length (take i events) ≡ i = omega (arith, length-take i events) in
-    cc (drop_more events i d lt)
+first_refusal-at o events i d lt = grind (arith, nat_tests, length-take, drop_more)
 
 -- what an answer says of the refusal
 pub taken_none : {A : Type 0} (x : Option SessionFault) (v : A) → RefusesAs x (Ok v) → x ≡ None
-taken_none None v h = refl
-taken_none (Some fault) v h = absurd h
+taken_none x v h = grind (arith, nat_tests)
 
 pub refused_cases : (A : Type 0) (x : Option SessionFault) (e : SessionFault) → RefusesAs {A = A} x (Err e) → (e ≡ NoMemory) ⊎ (x ≡ Some e)
-refused_cases A None e h = inl h
-refused_cases A (Some fault) e h = inr (ap Some (sym h))
+refused_cases A x e h = grind (arith, nat_tests)
 
 pub refusal_more : (o : Setting) (events : List Event) (i : ℕ) (d : Event) (first : Option SessionFault) → i < length events → first_refusal o i (drop i events) ≡ first
     → refusal_of o (take i events) (get_or events i d) ≡ None → first_refusal o (i + 1) (drop (i + 1) events) ≡ first
@@ -44,8 +38,7 @@ refusal_here o events i d first e lt so_far is = cc (first_refusal-at o events i
 
 -- the options are refused
 pub options_refused : (A B : Type 0) (x of_events : Option SessionFault) (e : SessionFault) → RefusesAs {A = A} x (Err e) → RunRefusesAs {A = B} x of_events (Err e)
-options_refused A B None of_events e h = inl h
-options_refused A B (Some fault) of_events e h = h
+options_refused A B x of_events e h = grind (arith, nat_tests)
 
 -- they are not, and an event is, or memory is wanting
 pub event_refused : (B : Type 0) (x of_events : Option SessionFault) (e : SessionFault) → x ≡ None → (e ≡ NoMemory) ⊎ (of_events ≡ Some e) → RunRefusesAs {A = B} x of_events (Err e)

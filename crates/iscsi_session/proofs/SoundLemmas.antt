@@ -1,16 +1,16 @@
 -- What holds of every session holds on, where only some of its fields change.
-use Rattle.std.proofs.Common.{◌≡◌, ◌+◌, ◌<◌, ◌≤◌, ◌==◌, not, ap, arith, nat_lt, nat_le, length, filter, count_by, is_some, Bool, true, List, Option, ℕ, cond, ◌&&◌, ◌++◌, [], ◌∷◌}
+use Rattle.std.proofs.Common.{◌≡◌, ◌+◌, ◌<◌, ◌≤◌, ◌==◌, not, ap, arith, nat_lt, length, filter, count_by, is_some, Bool, true, List, Option, ℕ, cond, ◌++◌, [], ◌∷◌, ◌∙◌, take, drop, get_or, set, length-set, refl}
 use Rattle.std.specs.List.{list_all}
 use Rattle.iscsi_wire.specs.Fields.{connection_of}
 use Rattle.iscsi_window.specs.declared.held_request.HeldRequest.{HeldRequest}
 use Rattle.iscsi_window.specs.Windows.{Arrived, advanced}
-use Rattle.iscsi_tasks.specs.Sets.{Members}
+use Rattle.iscsi_tasks.specs.Sets.{Members, opened}
 use Rattle.iscsi_commands.specs.declared.live.Live.{Live}
 use Rattle.iscsi_session.specs.declared.session.waiting.Waiting.{Waiting}
 use Rattle.iscsi_history.specs.rules.Settings.{is_known}
 use Rattle.iscsi_history.specs.rules.Management.{may_wait}
-use Rattle.iscsi_session.specs.private.Standing.{is_place_known, Match, are_within}
-use Rattle.iscsi_session.specs.private.Steps.{count_reply, AreCounted, is_numbered}
+use Rattle.iscsi_session.specs.private.Standing.{is_place_known, Match}
+use Rattle.iscsi_session.specs.private.Steps.{count_reply, AreCounted, is_numbered, set_staying, is_gone, staying, finished_by}
 use Rattle.iscsi_session.specs.private.Invariant.{Inner, IsWindowSound, AreCommandsSound, AreFunctionsSound, IsSessionSound}
 use Rattle.iscsi_history.proofs.ListLemmas.{count_by-push, list_all-filter, fewer_counted}
 use Rattle.iscsi_session.proofs.ListLemmas.{list_all-push, are_known-replied, are_places_known-replied}
@@ -19,15 +19,17 @@ use Rattle.iscsi_history.proofs.NumberLemmas.{later_event}
 use Rattle.iscsi_session.proofs.WindowLemmas.{Changed, Advanced}
 use Rattle.iscsi_session.proofs.CountLemmas.{length-replied, AreCounted-replied}
 use Rattle.iscsi_session.proofs.KeptLemmas.{ascending-push, within-push, ascending-kept}
+use Rattle.std.proofs.lemmas.Bool.Decides.{nat_tests}
+use Rattle.iscsi_tasks.specs.declared.task.Task.{Task}
+use Rattle.iscsi_history.proofs.PlaceLemmas.{written}
+use Rattle.iscsi_session.proofs.KeptLemmas.{Match-staying}
 
 -- ---- the window
 
 -- it has become another, with as many places and as many commands in execution
 pub window_sound : {s : Inner} → IsSessionSound s → {w : Arrived} → w.unfinished ≡ s.window.unfinished → length w.places ≡ length s.window.places
     → IsWindowSound w s.entered s.taken s.conns → IsSessionSound (record s { window = w })
-window_sound {s} inv {w} unfinished long sound =
-    let commands : AreCommandsSound w.unfinished s.entered s.conns s.immediate s.sets s.live = rw unfinished inv.commands in
-    search (arith, commands)
+window_sound {s} inv {w} unfinished long sound = grind (arith, nat_tests)
 
 -- it has stayed the same
 pub same_sound : {s : Inner} → IsSessionSound s → {w : Arrived} → w ≡ s.window → IsSessionSound (record s { window = w })
@@ -63,37 +65,21 @@ commands_sound_on inv same window commands places units more_live = rw same (com
 
 -- the sets have become others, of the same commands
 pub sets_sound : {s : Inner} → IsSessionSound s → {sets new : List Members} → sets ≡ new → length new ≡ length s.sets → Match new s.live → IsSessionSound (record s { sets = sets })
-sets_sound {s} inv {new = new} is long match =
-    let within : are_within s.entered (length new) s.live ≡ true = rw long inv.commands.within in
-    rw is (search (arith, within))
+sets_sound {s} inv {new = new} is long match = grind (arith, nat_tests)
 
 -- one more, of the next ticket, has entered
 pub entered_sound : {unfinished now count : ℕ} {conns : List (ℕ × ℕ)} {immediate counts : List ℕ} {sets new : List Members} {live entered : List Live} → AreCommandsSound unfinished count conns immediate sets live
     → (l : Live) → entered ≡ live ++ l ∷ [] → l.ticket ≡ count + 1 → l.unit < length sets → is_known l.conn conns ≡ true → count_by is_numbered live + cond (not l.immediate) 1 0 ≤ now
     → length new ≡ length sets → Match new (live ++ l ∷ []) → AreCounted counts conns (live ++ l ∷ []) → AreCommandsSound now (count + 1) conns counts new entered
 entered_sound {count = count} {conns = conns} {counts = counts} {sets = sets} {new = new} {live = live} c l is next inside known numbered long match counted =
-    rw is (record {
-      numbered = omega (arith, numbered, count_by-push is_numbered live l);
-      known = list_all-push (λ (x : Live). is_known x.conn conns) live l c.known known;
-      in_sets = match;
-      ascending = ascending-push count (length sets) live l c.ascending c.within (omega (arith, next));
-      within = rw long (within-push count (length sets) live l c.within next inside);
-      counted = counted;
-    })
+    grind (arith, nat_tests, count_by-push, list_all-push, ascending-push, within-push)
 
 -- those that are left once some have left
 pub kept_sound : {unfinished now count : ℕ} {conns : List (ℕ × ℕ)} {immediate counts : List ℕ} {sets new : List Members} {live left : List Live} → AreCommandsSound unfinished count conns immediate sets live
     → (p : Live → Bool) → left ≡ filter p live → count_by is_numbered (filter p live) ≤ now → length new ≡ length sets → Match new (filter p live) → AreCounted counts conns (filter p live)
     → AreCommandsSound now count conns counts new left
 kept_sound {count = count} {conns = conns} {counts = counts} {sets = sets} {new = new} {live = live} c p is numbered long match counted =
-    rw is (record {
-      numbered = numbered;
-      known = list_all-filter p (λ (l : Live). is_known l.conn conns) live c.known;
-      in_sets = match;
-      ascending = ascending-kept p live c.ascending;
-      within = rw long (list_all-filter p (λ (l : Live). nat_le l.ticket count && nat_lt l.unit (length sets)) live c.within);
-      counted = counted;
-    })
+    grind (arith, nat_tests, list_all-filter, ascending-kept)
 
 -- ---- the functions that wait
 
@@ -116,8 +102,7 @@ fewer_sound {s} inv stays rest more =
 
 -- one event more was taken
 pub taken_sound : {s : Inner} → IsSessionSound s → s.taken < s.events → IsSessionSound (record s { taken = s.taken + 1 })
-taken_sound {s} inv one =
-    search (arith, weaker (λ (v : Waiting). nat_lt v.event s.taken) (λ v. nat_lt v.event (s.taken + 1)) s.waiting (λ v. later_event v.event s.taken) inv.functions.before)
+taken_sound {s} inv one = grind (arith, nat_tests, weaker, later_event)
 
 -- a reply went out on a connection
 pub replied_sound : {s : Inner} → IsSessionSound s → (cid : ℕ) {conns : List (ℕ × ℕ)} → conns ≡ count_reply cid s.conns → IsSessionSound (record s { conns = conns })
@@ -130,3 +115,20 @@ replied_sound {s} inv cid is =
       AreCounted-replied cid s.immediate s.conns s.live inv.commands.counted,
       are_known-replied (λ (v : Waiting). connection_of v.request) cid s.waiting s.conns inv.functions.known,
     ))
+
+-- ==== what holds of every session holds on, where covered commands of a unit left
+
+-- the sets, once the set of the unit was written
+pub sets_written : (unit n : ℕ) (covers : Task → Bool) (old sets : List Members) → n ≡ length old → sets ≡ set old unit (set_staying covers (get_or old unit (opened 0)))
+    → take n (sets ++ drop (length sets) old) ≡ set old unit (set_staying covers (get_or old unit (opened 0)))
+sets_written unit n covers old sets long is = written n sets old (rw is (length-set old unit (set_staying covers (get_or old unit (opened 0))))) long ∙ is
+
+pub left_sound : {s : Inner} → IsSessionSound s → (unit : ℕ) (covers : Task → Bool) → unit < length s.sets → {immediate : List ℕ} → AreCounted immediate s.conns (staying covers (get_or s.sets unit (opened 0)) s.live)
+    → IsSessionSound (record s { window = finished_by s.window s.live (staying covers (get_or s.sets unit (opened 0)) s.live); live = staying covers (get_or s.sets unit (opened 0)) s.live; immediate = immediate; sets = set s.sets unit (set_staying covers (get_or s.sets unit (opened 0))) })
+left_sound {s} inv unit covers inside counted =
+    let stays : Live → Bool = λ l. not (is_gone covers (get_or s.sets unit (opened 0)) l.ticket) in
+    let long : length (set s.sets unit (set_staying covers (get_or s.sets unit (opened 0)))) ≡ length s.sets = length-set s.sets unit (set_staying covers (get_or s.sets unit (opened 0))) in
+    let fewer = fewer_counted is_numbered stays s.live in
+    commands_sound inv (places_sound inv.window refl refl (omega (arith, inv.window.fits, fewer)) inv.window.entered)
+    (kept_sound inv.commands stays refl (omega (arith, fewer, inv.commands.numbered)) long (Match-staying s.sets s.live unit covers inside inv.commands.in_sets inv.commands.ascending) counted)
+    refl long (omega arith)

@@ -1,18 +1,16 @@
 -- Each unit is told of its commands, one unit after the other.
-use Rattle.std.proofs.Common.{◌≡◌, ℕ, zero, suc, ◌+◌, ◌<◌, ◌||◌, ⊎_elim, List, [], ◌∷◌, length, map, set, get_or, refl, ap, ◌∙◌, arith}
+use Rattle.std.proofs.Common.{◌≡◌, ℕ, zero, suc, ◌+◌, ◌<◌, List, [], ◌∷◌, length, map, set, get_or, refl, ap, ◌∙◌, arith}
 use Rattle.std.specs.List.{range_with_len, flat_map}
-use Rattle.std.proofs.lemmas.Bool.{cases_eq}
 use Rattle.std.proofs.lemmas.List.{get_or-set_other}
 use Rattle.std.proofs.lemmas.Grind.{get_or-set_at}
 use Rattle.iscsi_tasks.specs.declared.member.Member.{Member}
 use Rattle.iscsi_tasks.specs.Sets.{Members, opened}
 use Rattle.iscsi_session.specs.private.Steps.{as_given, all_given, enable_effects}
+use Rattle.std.proofs.lemmas.Bool.Decides.{nat_tests}
 
 given_again : (ms : List Member) → map as_given (map as_given ms) ≡ map as_given ms
 given_again [] = refl
-given_again (m ∷ ms) =
-    let twice : ((m.given || m.enabled) || m.enabled) ≡ (m.given || m.enabled) = grind arith in
-    rw (twice, given_again ms)
+given_again (m ∷ ms) = grind (arith, nat_tests, given_again ms)
 
 told_again : (s : Members) → all_given (all_given s) ≡ all_given s
 told_again s = rw (given_again s.list)
@@ -24,11 +22,7 @@ given_all (s ∷ sets) (suc u) = rw (given_all sets u)
 
 pub told_more : (sets : List Members) (u : ℕ) → u < length sets → ((k : ℕ) → k < u → all_given (get_or sets k (opened 0)) ≡ get_or sets k (opened 0))
     → (k : ℕ) → k < u + 1 → all_given (get_or (set sets u (all_given (get_or sets u (opened 0)))) k (opened 0)) ≡ get_or (set sets u (all_given (get_or sets u (opened 0)))) k (opened 0)
-told_more sets u inside told k lt =
-    ⊎_elim
-    (λ here. rw (get_or-set_at sets u k (all_given (get_or sets u (opened 0))) (opened 0) here inside, told_again (get_or sets u (opened 0))))
-    (λ apart. rw (get_or-set_other sets u k (all_given (get_or sets u (opened 0))) (opened 0) apart) (told k (omega (arith, lt, apart))))
-    (cases_eq k u)
+told_more sets u inside told k lt = grind (arith, nat_tests, get_or-set_at, told_again, get_or-set_other)
 
 pub told_all : (sets : List Members) → ((k : ℕ) → k < length sets → all_given (get_or sets k (opened 0)) ≡ get_or sets k (opened 0)) → map all_given sets ≡ sets
 told_all [] told = refl

@@ -1,5 +1,5 @@
 -- The functions that wait for a number, one after the other.
-use Rattle.std.proofs.Common.{◌≡◌, ℕ, suc, ◌+◌, ◌<◌, ◌≤◌, ◌==◌, cond, Bool, true, false, List, [], ◌∷◌, map, filter, find, position, All, Option, Some, None, option_map, is_some, refl, ap, ◌∙◌, arith}
+use Rattle.std.proofs.Common.{◌≡◌, ℕ, ◌+◌, ◌<◌, ◌≤◌, ◌==◌, Bool, true, false, List, [], ◌∷◌, map, filter, find, position, All, Some, None, is_some, refl, arith}
 use Rattle.std.proofs.lemmas.Bool.Decides.{nat_tests}
 use Rattle.std.proofs.lemmas.List.Elements.{All-weaker}
 use Rattle.iscsi_wire.specs.Serial.{number_of_first}
@@ -19,9 +19,7 @@ number_test : (first turned : ℕ) (w : Waiting) → ((arrival_waiting first w).
 number_test first turned w = grind (arith, nat_tests)
 
 at_turn : (first turned : ℕ) (ws : List Waiting) → filter (λ b. b.number == number_of_first first + turned) (map (arrival_waiting first) ws) ≡ map (arrival_waiting first) (filter (λ w. w.turn == turned) ws)
-at_turn first turned ws =
-    filter-map (λ (b : Arrival). b.number == number_of_first first + turned) (arrival_waiting first) ws
-    ∙ ap (map (arrival_waiting first)) (filter-same _ (λ w. w.turn == turned) ws (number_test first turned))
+at_turn first turned ws = grind (arith, nat_tests, filter-map, filter-same, number_test)
 
 first_found : (p : Waiting → Bool) (ws : List Waiting) (w : Waiting) → find p ws ≡ Some w → (rest : List Waiting) × (filter p ws ≡ w ∷ rest)
 first_found p [] w h = absurd cc
@@ -33,11 +31,7 @@ first_found p (x ∷ ws) w h = by_head (p x) refl (first_found p ws w)
 
 none_found : (p : Waiting → Bool) (ws : List Waiting) → find p ws ≡ None → filter p ws ≡ []
 none_found p [] h = refl
-none_found p (x ∷ ws) h = by_head (p x) refl (none_found p ws)
-  where
-    by_head : (b : Bool) → p x ≡ b → (find p ws ≡ None → filter p ws ≡ []) → filter p (x ∷ ws) ≡ []
-    by_head true is later = absurd (let none : Some x ≡ None = rw is at h in cc)
-    by_head false is later = rw is (later (rw is at h))
+none_found p (x ∷ ws) h = grind (arith, nat_tests, none_found p ws)
 
 -- the next function is the first of those of the next number
 pub next_function : (o : Setting) (t : Trace) (ws : List Waiting) (turned : ℕ) (w : Waiting) → waiting t ≡ map (arrival_waiting o.first) ws → find (λ v. v.turn == turned) ws ≡ Some w
@@ -60,12 +54,4 @@ none_due ws next turn all before = find_nowhere (λ (w : Waiting). w.turn) turn 
 -- one has a place where one is found
 pub found_where : (p : Waiting → Bool) (ws : List Waiting) → is_some (position p ws) ≡ is_some (find p ws)
 found_where p [] = refl
-found_where p (w ∷ ws) =
-    ap is_some (position-cons p w ws) ∙ elim (p w) as (λ b. is_some (cond b (Some 0) (option_map suc (position p ws))) ≡ is_some (cond b (Some w) (find p ws))) [
-      | true ↦ refl
-      | false ↦ as_far (position p ws) ∙ found_where p ws
-    ]
-  where
-    as_far : (y : Option ℕ) → is_some (option_map suc y) ≡ is_some y
-    as_far None = refl
-    as_far (Some k) = refl
+found_where p (w ∷ ws) = grind (arith, nat_tests, found_where p ws, position-cons)

@@ -1,5 +1,5 @@
 -- What an offer and a completion change of what a session keeps.
-use Rattle.std.proofs.Common.{◌≡◌, ◌⊎◌, inl, inr, ℕ, suc, ◌+◌, ◌-◌, ◌<◌, ◌≤◌, ◌&&◌, cond, Bool, true, false, List, [], ◌∷◌, ◌++◌, length, drop, get_or, Option, Some, None, is_some, refl, ap, ◌∙◌, arith, nat_lt, nat_le, count_by, length-set, get_or-set_same, ◌==◌, not, sym, subst}
+use Rattle.std.proofs.Common.{◌≡◌, ◌⊎◌, inl, inr, ℕ, ◌+◌, ◌-◌, ◌<◌, ◌&&◌, cond, Bool, true, false, List, [], ◌∷◌, ◌++◌, length, drop, get_or, Option, Some, None, is_some, refl, ap, ◌∙◌, arith, nat_lt, nat_le, count_by, length-set, get_or-set_same, not}
 use Rattle.std.specs.List.{list_all}
 use Rattle.std.specs.Option.{option_flatten}
 use Rattle.std.proofs.lemmas.Bool.Decides.{nat_tests}
@@ -8,13 +8,12 @@ use Rattle.iscsi_session.specs.private.Standing.{Core, is_held, is_place_known}
 use Rattle.iscsi_session.specs.private.Deeds.{next_waiting, comes_next}
 use Rattle.iscsi_wire.specs.declared.request.Request.{Request}
 use Rattle.iscsi_window.specs.declared.held_request.HeldRequest.{HeldRequest}
-use Rattle.iscsi_wire.specs.Serial.{lift}
-use Rattle.iscsi_wire.specs.Fields.{cmd_sn, connection_of, is_immediate}
+use Rattle.iscsi_wire.specs.Fields.{connection_of, is_immediate}
 use Rattle.iscsi_window.specs.declared.answer.Offer.{Offer}
 use Rattle.iscsi_window.specs.declared.answer.Offer.TheVariants.{Held, Outside as NotAdmitted, Duplicate as Known}
 use Rattle.iscsi_window.specs.declared.answer.Place.{Place}
 use Rattle.iscsi_window.specs.declared.answer.Place.TheVariants.{Inside, Outside as NoPlace}
-use Rattle.iscsi_window.specs.Windows.{Arrived, number_expected, room_of, at_place, advanced, advanced_if, offer_at, offer_to, place_in, IsInside, held_at, is_received_at, is_next_at, is_next, received_at, offered_in, voided, emptied, emptied_if, with_place}
+use Rattle.iscsi_window.specs.Windows.{Arrived, number_expected, room_of, at_place, advanced, advanced_if, offer_at, offer_to, place_in, IsInside, held_at, is_received_at, is_next, received_at, offered_in, voided, emptied, emptied_if, with_place}
 use Rattle.iscsi_history.specs.rules.Settings.{is_known}
 use Rattle.iscsi_session.specs.private.Invariant.{IsWindowSound}
 use Rattle.iscsi_history.proofs.PlaceLemmas.{all_set, all_shift, some_within}
@@ -33,23 +32,14 @@ pub record Taken (s : Arrived) (h : HeldRequest) : Type 0 where
 -- the place of a request that is held
 by_empty : (s : Arrived) (r : HeldRequest) (k : ℕ) (x : Option (Option HeldRequest)) → at_place s k ≡ x → cond (is_some x) Known Held ≡ Held
     → (get_or s.places k None ≡ None) × (cond (is_some x) s (with_place s k (Some (Some r))) ≡ with_place s k (Some (Some r)))
-by_empty s r k None is h = (is, refl)
-by_empty s r k (Some y) is h = absurd cc
+by_empty s r k x is h = grind (arith, nat_tests)
 
 by_test : (s : Arrived) (r : HeldRequest) (m : ℕ) (b : Bool) → (nat_le (number_expected s) m && nat_lt m (number_expected s + room_of s)) ≡ b → offer_at s (cond b (Inside (m - number_expected s)) NoPlace) ≡ Held
     → (k : ℕ) × ((k < length s.places) × ((get_or s.places k None ≡ None) × (received_at s (cond b (Inside (m - number_expected s)) NoPlace) (Some r) ≡ with_place s k (Some (Some r)))))
-by_test s r m false is h = absurd cc
-by_test s r m true is h =
-    let e : ℕ = number_expected s in
-    let low : e ≤ m = grind (arith, nat_tests) in
-    let high : m < e + room_of s = grind (arith, nat_tests) in
-    (m - e, (omega arith, by_empty s r (m - e) (at_place s (m - e)) refl h))
+by_test s r m b is h = grind (arith, nat_tests, by_empty)
 
 pub taken : (s : Arrived) (r : HeldRequest) → offer_to s r.request ≡ Held → Taken s r
-taken s r said =
-    let n : ℕ = lift (number_expected s) (cmd_sn r.request) in
-    let h = by_test s r n (nat_le (number_expected s) n && nat_lt n (number_expected s + room_of s)) refl said in
-    record { k = h.0; inside = h.1.0; empty = h.1.1.0; window = h.1.1.1 }
+taken s r said = grind (arith, nat_tests, by_test)
 
 -- ---- a turn
 
@@ -73,14 +63,11 @@ advanced_at w q here =
       long = ap (λ (v : Arrived). length v.places) moved ∙ some w.places q here;
       held = ap (λ (v : Arrived). count_by is_held v.places + cond (is_held (Some q)) 1 0) moved ∙ count_shift is_held q w.places refl here;
       counted = ap (λ (v : Arrived). count_by is_some v.places + 1) moved ∙ count_shift is_some q w.places refl here;
-      known = λ conns all.
-          let h' = all_shift (is_place_known conns) q w.places refl here all in
-          (h'.0, ap (λ (v : Arrived). list_all (is_place_known conns) v.places) moved ∙ h'.1);
+      known = grind (arith, nat_tests, all_shift);
     }
   where
     some : {A : Type 0} (ps : List (Option A)) (x : A) → get_or ps 0 None ≡ Some x → length (drop 1 ps ++ None ∷ []) ≡ length ps
-    some [] x h = absurd cc
-    some (p ∷ ps) x h = length_push ps None ∙ (let z : length ps + 1 ≡ suc (length ps) = omega arith in z)
+    some ps x h = grind (arith, nat_tests, length_push)
 
 -- ---- a number that is emptied or voided
 
@@ -93,60 +80,44 @@ pub record Changed (old new : Arrived) (fewer_held more : ℕ) : Type 0 where
   pub counted : count_by is_some new.places ≡ count_by is_some old.places + more
   pub known : (conns : List (ℕ × ℕ)) → list_all (is_place_known conns) old.places ≡ true → list_all (is_place_known conns) new.places ≡ true
 
+same : (w : Arrived) → Changed w w 0 0
+same w = record { long = refl; turned = refl; unfinished = refl; held_is = omega arith; counted = omega arith; known = λ conns all. all }
+
+-- nothing is held at a place any more
+blanked : (w : Arrived) (k : ℕ) (p : Option (Option HeldRequest)) → at_place w k ≡ p → k < length w.places → Changed w (with_place w k (Some None)) (cond (is_held p) 1 0) (cond (is_some p) 0 1)
+blanked w k p is within =
+    let none : Option (Option HeldRequest) = Some None in
+    record {
+      long = length-set w.places k none;
+      turned = refl;
+      unfinished = refl;
+      held_is = omega (arith, count_replaced is_held w.places k none None within, ap {B = ℕ} (λ p. cond (is_held p) 1 0) is);
+      counted = grind (arith, count_replaced is_some w.places k none None within);
+      known = λ conns all. all_set (is_place_known conns) w.places k none all refl;
+    }
+
 pub emptied_changes : (w : Arrived) (sn : ℕ) → Changed w (emptied w sn) (cond (is_some (held_at w (place_in w sn))) 1 0) 0
 emptied_changes w sn = by_place (place_in w sn)
   where
-    same : Changed w w 0 0
-    same = record { long = refl; turned = refl; unfinished = refl; held_is = omega arith; counted = omega arith; known = λ conns all. all }
-
     by_kept : (k : ℕ) (p : Option (Option HeldRequest)) → at_place w k ≡ p → Changed w (emptied_if w (Inside k) (option_flatten p)) (cond (is_some (option_flatten p)) 1 0) 0
-    by_kept k None is = same
-    by_kept k (Some None) is = same
-    by_kept k (Some (Some r)) is =
-        let within : k < length w.places = some_within w.places k (Some r) is in
-        let none : Option (Option HeldRequest) = Some None in
-        record {
-          long = length-set w.places k none;
-          turned = refl;
-          unfinished = refl;
-          held_is = omega (arith, count_replaced is_held w.places k none None within, ap {B = ℕ} (λ p. cond (is_held p) 1 0) is);
-          counted = omega (arith, count_replaced is_some w.places k none None within, ap {B = ℕ} (λ (p : Option (Option HeldRequest)). cond (is_some p) 1 0) is);
-          known = λ conns all. all_set (is_place_known conns) w.places k none all refl;
-        }
+    by_kept k None is = same w
+    by_kept k (Some None) is = same w
+    by_kept k (Some (Some r)) is = blanked w k (Some (Some r)) is (some_within w.places k (Some r) is)
 
     by_place : (p : Place) → Changed w (emptied_if w p (held_at w p)) (cond (is_some (held_at w p)) 1 0) 0
-    by_place NoPlace = same
+    by_place NoPlace = same w
     by_place (Inside k) = by_kept k (at_place w k) refl
 
 -- a number inside the window has a place
 pub place_within : (w : Arrived) (sn k : ℕ) → place_in w sn ≡ Inside k → k < length w.places
-place_within w sn k h =
-    let e : ℕ = number_expected w in
-    let n : ℕ = lift e sn in
-    elim (nat_le e n && nat_lt n (e + room_of w)) as (λ b. (nat_le e n && nat_lt n (e + room_of w)) ≡ b → cond b (Inside (n - e)) NoPlace ≡ Inside k → k < length w.places) [
-      | true ↦ λ is said.
-          let same : n - e ≡ k = cc in
-          let low : e ≤ n = grind (arith, nat_tests) in
-          let high : n < e + room_of w = grind (arith, nat_tests) in
-          omega (arith, same, low, high)
-      | false ↦ λ is said. absurd cc
-    ] refl h
+place_within w sn k h = grind (arith, nat_tests)
 
 pub voided_changes : (w : Arrived) (sn : ℕ) → IsInside (place_in w sn) → Changed w (voided w sn) 0 (cond (is_received_at w (place_in w sn)) 0 1)
 voided_changes w sn inside = by_place (place_in w sn) refl inside
   where
     by_kept : (k : ℕ) → k < length w.places → (p : Option (Option HeldRequest)) → at_place w k ≡ p → Changed w (cond (is_some p) w (with_place w k (Some None))) 0 (cond (is_some p) 0 1)
-    by_kept k within (Some x) is = record { long = refl; turned = refl; unfinished = refl; held_is = omega arith; counted = omega arith; known = λ conns all. all }
-    by_kept k within None is =
-        let none : Option (Option HeldRequest) = Some None in
-        record {
-          long = length-set w.places k none;
-          turned = refl;
-          unfinished = refl;
-          held_is = omega (arith, count_replaced is_held w.places k none None within, ap {B = ℕ} (λ p. cond (is_held p) 1 0) is);
-          counted = omega (arith, count_replaced is_some w.places k none None within, ap {B = ℕ} (λ (p : Option (Option HeldRequest)). cond (is_some p) 1 0) is);
-          known = λ conns all. all_set (is_place_known conns) w.places k none all refl;
-        }
+    by_kept k within (Some x) is = same w
+    by_kept k within None is = blanked w k None is within
 
     by_place : (p : Place) → place_in w sn ≡ p → IsInside p → Changed w (received_at w p None) 0 (cond (is_received_at w p) 0 1)
     by_place NoPlace is out = absurd out
@@ -162,17 +133,7 @@ pub record Grown (old new : Arrived) (r : HeldRequest) : Type 0 where
   pub known : (conns : List (ℕ × ℕ)) → list_all (is_place_known conns) old.places ≡ true → is_place_known conns (Some (Some r)) ≡ true → list_all (is_place_known conns) new.places ≡ true
 
 pub grown : (old new : Arrived) (r : HeldRequest) → offer_to old r.request ≡ Held → new ≡ offered_in old r.request r.event → Grown old new r
-grown old new r said is =
-    let t : Taken old r = taken old r said in
-    let now : new ≡ with_place old t.k (Some (Some r)) = is ∙ t.window in
-    subst (λ (w : Arrived). Grown old w r) (sym now) (record {
-      long = length-set old.places t.k (Some (Some r));
-      turned = refl;
-      unfinished = refl;
-      held = count_set is_held old.places t.k (Some (Some r)) None t.inside (ap is_held t.empty) refl;
-      counted = count_set is_some old.places t.k (Some (Some r)) None t.inside (ap is_some t.empty) refl;
-      known = λ conns all this. all_set (is_place_known conns) old.places t.k (Some (Some r)) all this;
-    })
+grown old new r said is = grind (arith, nat_tests, length-set, count_set, all_set)
 
 -- the request is held, or nothing changes
 pub held_or_same : (old new : Arrived) (r : HeldRequest) → new ≡ offered_in old r.request r.event → Grown old new r ⊎ (new ≡ old)
@@ -197,22 +158,7 @@ pub record ComesNext (w : Arrived) (r : HeldRequest) : Type 0 where
   pub there : at_place (offered_in w r.request r.event) 0 ≡ Some (Some r)
 
 pub comes_first : (w : Arrived) (r : HeldRequest) → is_next w r.request ≡ true → ComesNext w r
-comes_first w r next = by_place (place_in w (cmd_sn r.request)) refl next
-  where
-    by_free : (x : Option (Option HeldRequest)) → at_place w 0 ≡ x → place_in w (cmd_sn r.request) ≡ Inside 0 → not (is_some x) ≡ true → ComesNext w r
-    by_free (Some y) is place said = absurd cc
-    by_free None is place said = record {
-      held = ap (offer_at w) place ∙ ap (λ x. cond (is_some x) Known Held) is;
-      there = ap (λ (v : Arrived). at_place v 0) (ap (λ p. received_at w p (Some r)) place ∙ ap (λ x. cond (is_some x) w (with_place w 0 (Some (Some r)))) is)
-          ∙ get_or-set_same w.places 0 (Some (Some r)) None (place_within w (cmd_sn r.request) 0 place);
-    }
-
-    by_place : (p : Place) → place_in w (cmd_sn r.request) ≡ p → is_next_at w p ≡ true → ComesNext w r
-    by_place NoPlace is said = absurd cc
-    by_place (Inside k) is said =
-        let parts = and_parts (k == 0) (not (is_some (at_place w 0))) said in
-        let first : k ≡ 0 = grind (arith, nat_tests) in
-        by_free (at_place w 0) refl (is ∙ ap (λ j. Inside j) first) parts.1
+comes_first w r next = grind (arith, nat_tests, get_or-set_same, place_within, and_parts)
 
 -- where it may be delivered as it comes, no function waits for its number
 pub comes_alone : (s : Core) (r : Request) → comes_next s r ≡ true → (next_waiting s ≡ None) × (is_next s.window r ≡ true)
@@ -233,10 +179,4 @@ delivered w r next =
 -- what holds of the window holds on once it has received a request
 pub grown_sound : {old new : Arrived} {count taken : ℕ} {conns : List (ℕ × ℕ)} {r : HeldRequest} → IsWindowSound old count taken conns → Grown old new r → old.turned + count_by is_some old.places < taken
     → count + count_by is_some old.places < taken → is_immediate r.request ≡ false → is_known (connection_of r.request) conns ≡ true → IsWindowSound new count taken conns
-grown_sound {old} {new} {count} {taken} {conns} {r} w g room entered regular known = record {
-  fits = omega (arith, w.fits, g.unfinished, g.long);
-  most = omega (arith, w.most, g.long);
-  turned = omega (arith, room, g.turned, g.counted);
-  entered = omega (arith, entered, g.counted);
-  known = g.known conns w.known (ap (λ b. not b && is_known (connection_of r.request) conns) regular ∙ known);
-}
+grown_sound {old} {new} {count} {taken} {conns} {r} w g room entered regular known = grind (arith, nat_tests)

@@ -1,22 +1,26 @@
 -- A window that agrees with what has happened agrees after one item more.
-use Rattle.std.proofs.Common.{◌≡◌, ℕ, ◌+◌, ◌-◌, ◌<◌, ◌≤◌, false, List, [], ◌∷◌, ◌++◌, Some, None, cond, option_map, Bool, refl, ap, sym, ◌∙◌, arith, ◌==◌, ⊎_elim, true, length, drop, get_or, set, Option, eq-eqb, ◌≢◌, length-set, length-drop}
+use Rattle.std.proofs.Common.{◌≡◌, ℕ, ◌+◌, ◌-◌, ◌<◌, ◌≤◌, false, List, [], ◌∷◌, ◌++◌, Some, None, cond, option_map, Bool, refl, ap, sym, ◌∙◌, arith, ◌==◌, ⊎_elim, true, length, drop, get_or, set, Option, eq-eqb, ◌≢◌, length-set, length-drop, filter_map, ne_eqb, ◌^◌, ◌||◌, subst}
 use Rattle.std.proofs.lemmas.List.{append-nil, length_push, get_or-set_same, get_or-set_other}
 use Rattle.iscsi_window.specs.declared.held_request.HeldRequest.{HeldRequest}
-use Rattle.iscsi_wire.specs.Serial.{number_of_first, wire}
+use Rattle.iscsi_wire.specs.Serial.{number_of_first, wire, lift}
 use Rattle.iscsi_history.specs.rules.Settings.{Setting}
-use Rattle.iscsi_history.specs.rules.Trace.{Arrival, Mark, Admits, Delivers, Trace, shown, received, contains, is_received, is_delivered, is_emptied, held, admits_at, admitted}
+use Rattle.iscsi_history.specs.rules.Trace.{Arrival, Mark, Admits, Delivers, Trace, shown, received, contains, is_received, is_delivered, is_emptied, held, admits_at, admitted, Voids, Empties, first_of, delivers_number}
 use Rattle.iscsi_history.specs.promises.Executed.{request_at, executed_below, delivers}
 use Rattle.iscsi_session.specs.private.Standing.{held_of, place_of, is_regular_request, WindowAgrees}
-use Rattle.std.proofs.lemmas.Bool.{cases_lt, cases_eq, ne_eqb}
-use Rattle.std.proofs.lemmas.Grind.{elements}
+use Rattle.std.proofs.lemmas.Bool.{cases_lt, cases_eq, eqb-true}
+use Rattle.std.proofs.lemmas.Grind.{elements, get_or-set_at}
 use Rattle.iscsi_wire.specs.Fields.{cmd_sn}
-use Rattle.iscsi_window.specs.Windows.{Arrived, number_expected, room_of, at_place, with_place, with_unfinished}
+use Rattle.iscsi_window.specs.Windows.{Arrived, number_expected, room_of, at_place, with_place, with_unfinished, IsInside, place_in, is_received_at, voided, emptied}
 use Rattle.iscsi_history.specs.rules.Execution.{exp_of}
 use Rattle.iscsi_history.proofs.BoolLemmas.{or_none, or_second, or_false}
 use Rattle.iscsi_history.proofs.Missing.{expected_is, expected_low, expected_gone}
-use Rattle.iscsi_history.proofs.HeldLemmas.{held-delivered, admitted-number, admitted-cases, held-admits, held-here, held-number, held-turned, request_at-turned, admitted_of_held, held_unemptied, received-admits, request_at-admits}
+use Rattle.iscsi_history.proofs.HeldLemmas.{held-delivered, admitted-number, admitted-cases, held-admits, held-here, held-number, held-turned, request_at-turned, admitted_of_held, held_unemptied, received-admits, request_at-admits, held_received, unreceived_unheld}
 use Rattle.iscsi_history.proofs.DeliveryLemmas.{held-quiet, IsQuiet, same_range, received-quiet, executed_below-quiet, delivered-quiet, admitted-quiet, executed_below-more}
 use Rattle.iscsi_history.proofs.PlaceLemmas.{has_first, last_none}
+use Rattle.std.proofs.lemmas.Bool.Decides.{nat_tests}
+use Rattle.std.specs.List.{list_any}
+use Rattle.iscsi_window.specs.declared.answer.Place.TheVariants.{Inside}
+use Rattle.iscsi_history.proofs.EmptyingMarks.{EmptiesOne, VoidsOne, admitted-empties, admitted-voids, emptied-empties, empties-one, held-gone, held-other, held-voids, received-empties, received-voids, request_at-empties, request_at-voids, voids-one}
 
 -- the window keeps the same of each number
 pub place_of-quiet : (item : List Mark) (t : Trace) (n : ℕ) → IsQuiet item → place_of (item ∷ t) n ≡ place_of t n
@@ -31,10 +35,7 @@ no_place t n none = grind arith
 module _ (o : Setting) (w : Arrived) (t : Trace) (a : WindowAgrees o w t) where
   -- nothing is received at the next number, where its place is empty
   pub next_gone : at_place w 0 ≡ None → is_received t (number_expected w) ≡ false
-  next_gone none =
-      let e : ℕ = number_expected w in
-      let at : e + 0 ≡ e = omega arith in
-      ⊎_elim (λ some. no_place t e (cc (a.inside 0 some))) (λ empty. a.above e (omega arith)) (cases_lt 0 (length w.places))
+  next_gone none = grind (arith, nat_tests, no_place)
 
   pub next_expected : at_place w 0 ≡ None → exp_of o t ≡ number_expected w
   next_expected none = expected_is o.first (number_expected w) t (omega (arith, a.first)) a.below (next_gone none)
@@ -72,8 +73,7 @@ place_of-other : (t : Trace) (a : Arrival) (n : ℕ) → (a.number == n) ≡ fal
 place_of-other t a n apart = cc (received-admits t a n, or_false (is_received t n), held-admits t a n apart)
 
 place_of-here : (t : Trace) (a : Arrival) → is_received t a.number ≡ false → is_delivered t a.number ≡ false → is_emptied t a.number ≡ false → place_of ((Admits a ∷ []) ∷ t) a.number ≡ Some (Some (held_of a))
-place_of-here t a new undelivered unemptied =
-    cc (received-admits t a a.number, or_second (is_received t a.number) (a.number == a.number) (eq-eqb a.number a.number refl), held-here t a new undelivered unemptied)
+place_of-here t a new undelivered unemptied = grind (arith, nat_tests, received-admits, or_second, eq-eqb, held-here)
 
 pub WindowAgrees-admitted : (o : Setting) (w : Arrived) (t : Trace) (a : Arrival) → WindowAgrees o w t → number_expected w ≤ a.number → a.number < number_expected w + room_of w → is_received t a.number ≡ false → is_regular_request o a.request ≡ true → wire (cmd_sn a.request) ≡ wire a.number
     → WindowAgrees o (with_held w a) ((Admits a ∷ []) ∷ t)
@@ -101,8 +101,7 @@ WindowAgrees-admitted o w t a h low high new regular shows =
       unemptied = λ n gone. h.unemptied n (or_none (is_received t n) (a.number == n) (sym (received-admits t a n) ∙ gone)).0;
       requests = λ n b found. ⊎_elim (λ before. h.requests n b before) (λ this. rw (← this) regular) (admitted-cases t a n b found);
       numbers = λ n b found. ⊎_elim (λ before. h.numbers n b before) (λ this. cc (shows, admitted-number t' n b found)) (admitted-cases t a n b found);
-      delivered = append-nil (shown delivers t) ∙ h.delivered
-          ∙ same_range t t' (number_of_first o.first) (e - number_of_first o.first) (λ k l u. sym (request_at-admits t a k (apart k (omega (arith, h.first)))));
+      delivered = grind (arith, nat_tests, append-nil, same_range, request_at-admits, apart);
       few = omega (arith, h.few, long);
       free = λ k big. get_or-set_other w.places k₀ k x None (omega (arith, long, h.few)) ∙ h.free k (omega (arith, long));
     }
@@ -117,9 +116,7 @@ pub record Next (w : Arrived) (t : Trace) (r : HeldRequest) : Type 0 where
   pub received_is : is_received t (number_expected w) ≡ true
 
 some_held : (b : Bool) (x : Option Arrival) (r : HeldRequest) → cond b (Some (option_map held_of x)) None ≡ Some (Some r) → (b ≡ true) × ((a : Arrival) × ((x ≡ Some a) × (held_of a ≡ r)))
-some_held true None r h = absurd (let z : Some None ≡ Some (Some r) = h in cc)
-some_held true (Some a) r h = (refl, (a, (refl, cc)))
-some_held false x r h = absurd cc
+some_held b x r h = grind (arith, nat_tests)
 
 pub next_request : (o : Setting) (w : Arrived) (t : Trace) (r : HeldRequest) → WindowAgrees o w t → at_place w 0 ≡ Some (Some r) → Next w t r
 next_request o w t r a h =
@@ -252,7 +249,143 @@ WindowAgrees-passed o w t h place =
 
 -- a command begins in a window that has turned
 pub WindowAgrees-started : (o : Setting) (w : Arrived) (t : Trace) → Turned o w t → WindowAgrees o (with_unfinished w (w.unfinished + 1)) t
-WindowAgrees-started o w t h =
-    let few : w.unfinished + 1 ≤ length w.places = omega (arith, h.not_full) in
-    let free : (k : ℕ) → length w.places ≤ k + (w.unfinished + 1) → get_or w.places k None ≡ None = λ k big. h.last_free k (omega (arith, big)) in
-    assumption
+WindowAgrees-started o w t h = grind (arith, nat_tests)
+
+-- ==== a number that is received without a request, and a held request that is taken out, in the window
+
+-- ---- the place of a number becomes empty
+
+-- after the item the number is received and nothing is held there, and the others are as they were
+record Clears (item : List Mark) (t : Trace) (n : ℕ) : Type 0 where
+  received_is : (k : ℕ) → is_received (item ∷ t) k ≡ (is_received t k || (n == k))
+  here : held (item ∷ t) n ≡ None
+  other : (k : ℕ) → (n == k) ≡ false → held (item ∷ t) k ≡ held t k
+  emptied_is : (k : ℕ) → (n == k) ≡ false → is_emptied (item ∷ t) k ≡ is_emptied t k
+  requested : (k : ℕ) → (n == k) ≡ false → request_at (item ∷ t) k ≡ request_at t k
+  admitted_is : (k : ℕ) → shown (admits_at k) (item ∷ t) ≡ shown (admits_at k) t
+  delivers_none : filter_map delivers item ≡ []
+  delivers_no : (k : ℕ) → list_any (delivers_number k) item ≡ false
+
+WindowAgrees-clears : (o : Setting) (w : Arrived) (item : List Mark) (t : Trace) (n : ℕ) → WindowAgrees o w t → Clears item t n → number_expected w ≤ n → n < number_expected w + room_of w
+    → WindowAgrees o (with_place w (n - number_expected w) (Some None)) (item ∷ t)
+WindowAgrees-clears o w item t n h v low high = record {
+  first = h.first;
+  size = long ∙ h.size;
+  below = λ k l u. rw (v.received_is k, h.below k l u);
+  inside = λ k lt. ⊎_elim (here k) (other k (omega (arith, lt, long))) (cases_eq k (n - e));
+  above = λ k u. rw (v.received_is k, h.above k (omega (arith, u, long))) (apart k (λ same. omega (arith, same, u, long)));
+  past = λ k before. v.other k (apart k (λ same. omega (arith, same, before, low))) ∙ h.past k before;
+  undelivered = λ k u. rw (v.delivers_no k, h.undelivered k u);
+  unemptied = grind (arith, nat_tests, or_none);
+  requests = λ k b found. h.requests k b (sym (ap first_of (v.admitted_is k)) ∙ found);
+  numbers = λ k b found. h.numbers k b (sym (ap first_of (v.admitted_is k)) ∙ found);
+  delivered = rw (v.delivers_none, append-nil, h.delivered)
+      (same_range t (item ∷ t) (number_of_first o.first) (e - number_of_first o.first) (λ k l u. sym (v.requested k (apart k (λ same. omega (arith, same, u, low))))));
+  few = omega (arith, h.few, long);
+  free = λ k big. get_or-set_other w.places (n - e) k (Some None) None (λ same. omega (arith, same, big, long, h.few)) ∙ h.free k (omega (arith, big, long));
+}
+  where
+    e : ℕ
+    e = number_expected w
+
+    long : length (set w.places (n - e) (Some None)) ≡ length w.places
+    long = length-set w.places (n - e) (Some None)
+
+    apart : (k : ℕ) → (n ≡ k → ⊥) → (n == k) ≡ false
+    apart k differ = ne_eqb n k differ
+
+    here : (k : ℕ) → k ≡ n - e → get_or (set w.places (n - e) (Some None)) k None ≡ place_of (item ∷ t) (e + k)
+    here k is =
+        let at : e + k ≡ n = omega (arith, is, low) in
+        let now : Some None ≡ place_of (item ∷ t) n = rw (v.here, v.received_is n, or_second (is_received t n) (n == n) (eq-eqb n n refl)) in
+        get_or-set_at w.places (n - e) k (Some None) None is (omega arith) ∙ now ∙ ap (place_of (item ∷ t)) (sym at)
+
+    other : (k : ℕ) → k < length w.places → (k ≡ n - e → ⊥) → get_or (set w.places (n - e) (Some None)) k None ≡ place_of (item ∷ t) (e + k)
+    other k lt differ = grind (arith, nat_tests, apart, get_or-set_other, or_false)
+
+-- a number is received without a request
+pub WindowAgrees-voided : (o : Setting) (w : Arrived) (t : Trace) (m : Mark) (n : ℕ) (ms : List Mark) → WindowAgrees o w t → IsQuiet (m ∷ []) → IsQuiet ms → number_expected w ≤ n → n < number_expected w + room_of w → is_received t n ≡ false
+    → WindowAgrees o (with_place w (n - number_expected w) (Some None)) ((m ∷ Voids n ∷ ms) ∷ t)
+WindowAgrees-voided o w t m n ms h q qs low high new =
+    let item : List Mark = m ∷ Voids n ∷ ms in
+    let v : VoidsOne item n = voids-one m n ms q qs in
+    WindowAgrees-clears o w item t n h (record {
+      received_is = received-voids item t n v;
+      here = held-voids item t n v n ∙ unreceived_unheld t n new;
+      other = λ k no. held-voids item t n v k;
+      emptied_is = λ k no. rw (v.empties_no k);
+      requested = λ k no. request_at-voids item t n v k;
+      admitted_is = admitted-voids item t n v;
+      delivers_none = v.delivers_none;
+      delivers_no = v.delivers_no;
+    }) low high
+
+-- what the window keeps of a number inside
+read_inside : (o : Setting) (w : Arrived) (t : Trace) (n : ℕ) → WindowAgrees o w t → number_expected w ≤ n → n < number_expected w + length w.places → at_place w (n - number_expected w) ≡ place_of t n
+read_inside o w t n h low high =
+    let at : number_expected w + (n - number_expected w) ≡ n = omega arith in
+    h.inside (n - number_expected w) (omega arith) ∙ rw at
+
+-- a held request is in the part of the window that no live command takes
+record HeldAt (w : Arrived) (t : Trace) (n : ℕ) (r : HeldRequest) : Type 0 where
+  there : is_received t n ≡ true
+  read : at_place w (n - number_expected w) ≡ Some (Some r)
+  high : n < number_expected w + room_of w
+
+held_inside : (o : Setting) (w : Arrived) (t : Trace) (n : ℕ) (h : Arrival) → WindowAgrees o w t → held t n ≡ Some h → number_expected w ≤ n → n < number_expected w + length w.places → HeldAt w t n (held_of h)
+held_inside o w t n h a is low high =
+    let k : ℕ = n - number_expected w in
+    let there : is_received t n ≡ true = held_received t n h is in
+    let read : at_place w k ≡ Some (Some (held_of h)) = read_inside o w t n a low high ∙ rw (there, is) in
+    let not_last : k + w.unfinished < length w.places = ⊎_elim (λ lt. lt) (λ last. absurd (let free = a.free k last in cc)) (cases_lt (k + w.unfinished) (length w.places)) in
+    record { there = there; read = read; high = omega (arith, not_last) }
+
+-- it is taken out
+pub WindowAgrees-emptied : (o : Setting) (w : Arrived) (t : Trace) (m : Mark) (n : ℕ) (h : Arrival) (ms : List Mark) → WindowAgrees o w t → IsQuiet (m ∷ []) → IsQuiet ms → held t n ≡ Some h → number_expected w ≤ n → n < number_expected w + length w.places
+    → WindowAgrees o (with_place w (n - number_expected w) (Some None)) ((m ∷ Empties h ∷ ms) ∷ t)
+WindowAgrees-emptied o w t m n h ms a q qs is low high =
+    let item : List Mark = m ∷ Empties h ∷ ms in
+    let at = held_inside o w t n h a is low high in
+    let v = subst (EmptiesOne item) (held-number t n h is) (empties-one m h ms q qs) in
+    let received : (k : ℕ) (b : Bool) → (n == k) ≡ b → is_received t k ≡ (is_received t k || b) = λ k.
+    elim [
+      | true ↦ λ same. rw (← eqb-true n k same, at.there)
+      | false ↦ λ no. sym (or_false (is_received t k))
+    ] in
+    WindowAgrees-clears o w item t n a (record {
+      received_is = λ k. ap (λ ns. contains ns k) (received-empties item t n v) ∙ received k (n == k) refl;
+      here = held-gone item t n v;
+      other = held-other item t n v;
+      emptied_is = λ k no. rw (emptied-empties item t n v k, no);
+      requested = request_at-empties item t n v;
+      admitted_is = admitted-empties item t n v;
+      delivers_none = v.delivers_none;
+      delivers_no = v.delivers_no;
+    }) low at.high
+
+-- ---- what the window becomes, by the number that the wire shows
+
+-- a place of the window is that of a number inside
+pub inside_place : (w : Arrived) (n x : ℕ) → number_expected w ≤ n → n < number_expected w + room_of w → lift (number_expected w) x ≡ n → place_in w x ≡ Inside (n - number_expected w)
+inside_place w n x low high is = grind (arith, nat_tests)
+
+-- a number that has a place is in the window
+pub inside_bounds : (w : Arrived) (x : ℕ) → IsInside (place_in w x) → (number_expected w ≤ lift (number_expected w) x) × (lift (number_expected w) x < number_expected w + room_of w)
+inside_bounds w x = grind (arith, nat_tests)
+
+-- a number inside is voided
+pub record VoidedAt (w : Arrived) (t : Trace) (x n : ℕ) : Type 0 where
+  pub new : is_received t n ≡ false → voided w x ≡ with_place w (n - number_expected w) (Some None)
+  pub known : is_received t n ≡ true → voided w x ≡ w
+  pub received_is : is_received_at w (place_in w x) ≡ is_received t n
+
+pub voided_at : (o : Setting) (w : Arrived) (t : Trace) (x n : ℕ) → WindowAgrees o w t → number_expected w ≤ n → n < number_expected w + room_of w → lift (number_expected w) x ≡ n → VoidedAt w t x n
+voided_at o w t x n h low high is = grind (arith, nat_tests, inside_place, read_inside)
+
+-- a held request is taken out
+pub emptied_at : (o : Setting) (w : Arrived) (t : Trace) (n : ℕ) (h : Arrival) → WindowAgrees o w t → n < number_expected w + 2 ^ 31 → held t n ≡ Some h → number_expected w ≤ n → n < number_expected w + length w.places
+    → emptied w (wire n) ≡ with_place w (n - number_expected w) (Some None)
+emptied_at o w t n h a near is low high =
+    let at = held_inside o w t n h a is low high in
+    let place = inside_place w n (wire n) low at.high (omega (arith, near, low)) in
+    rw (place, at.read)

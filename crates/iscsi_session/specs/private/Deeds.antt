@@ -17,12 +17,12 @@ use Rattle.iscsi_history.specs.declared.deed.Answer.TheVariants.{Reject, Respond
 use Rattle.iscsi_history.specs.declared.deed.Deed.{Deed}
 use Rattle.iscsi_history.specs.declared.deed.Deed.TheVariants.{Nothing, Wait, Reply, Enter, Void, Empty, Abort, AbortEarlier, AbortAll, CloseConn, CloseSession}
 use Rattle.iscsi_history.specs.rules.Settings.{is_known}
-use Rattle.iscsi_history.specs.rules.Execution.{unit_named}
+use Rattle.iscsi_history.specs.rules.Execution.{unit_named, reply_of}
 use Rattle.iscsi_history.specs.rules.Management.{MOST_WAITING, may_wait, refusal}
 use Rattle.iscsi_history.specs.rules.Deeds.{Facts, of_unit, function_deed, deed_of}
 use Rattle.iscsi_session.specs.declared.session.waiting.Waiting.{Waiting}
 use Rattle.iscsi_session.specs.private.Standing.{Core, is_held}
-use Rattle.iscsi_session.specs.private.Steps.{Step, unchanged, and_then, after_effect, set_at, is_set_full, is_tag_kept, is_crowded_by, waiting_in, number_by, request_answered, command_entered, covers_ticket, aborted, number_voided, number_emptied, is_among_open, logged_out}
+use Rattle.iscsi_session.specs.private.Steps.{Step, unchanged, and_then, after_effect, set_at, is_set_full, is_tag_kept, is_crowded_by, waiting_in, number_by, request_answered, command_entered, covers_ticket, left_answered, number_voided, number_emptied, is_among_open, logged_out}
 
 -- ---- what is found
 
@@ -140,9 +140,9 @@ carried s r number event (Reply x) = request_answered s r x
 carried s r number event (Enter unit) = command_entered s r unit
 carried s r number event Void = and_then (number_voided s (ref_cmd_sn r)) (λ s'. request_answered s' r (Respond 0))
 carried s r number event (Empty unit sn) = and_then (number_emptied s sn) (λ s'. request_answered s' r (Respond 0))
-carried s r number event (Abort unit ticket) = aborted s r unit (covers_ticket ticket)
-carried s r number event (AbortEarlier unit) = aborted s r unit (is_covered (Below number event))
-carried s r number event (AbortAll unit) = aborted s r unit (is_covered AllOfThem)
+carried s r number event (Abort unit ticket) = left_answered s unit (covers_ticket ticket) (connection_of r) (reply_of r (Respond 0))
+carried s r number event (AbortEarlier unit) = left_answered s unit (is_covered (Below number event)) (connection_of r) (reply_of r (Respond 0))
+carried s r number event (AbortAll unit) = left_answered s unit (is_covered AllOfThem) (connection_of r) (reply_of r (Respond 0))
 carried s r number event (CloseConn conn) = logged_out s r (Some conn)
 carried s r number event CloseSession = logged_out s r None
 
@@ -166,18 +166,14 @@ turn_taken s (Some q) = turn_of (record s { window = advanced s.window }) q
 abbrev pub next_waiting : Core → Option Waiting
 next_waiting s = find (λ w. w.turn == s.window.turned) s.waiting
 
--- it waits no more
-abbrev pub without_waiting : Core → Waiting → Core
-without_waiting s w = record s { waiting = filter (λ v. not (v.event == w.event)) s.waiting }
-
 abbrev pub next_position : Core → ℤ
 next_position s = pos (number_expected s.window) -ℤ pos (number_of_first s.window.first)
 
--- it executes, if there is one
+-- it waits no more, and executes, if there is one
 abbrev pub function_taken : Core → Option Waiting → Step
 function_taken s None = unchanged s
 function_taken s (Some w) =
-    let rest = without_waiting s w in after_effect (Immediate w.request) (carried rest w.request (next_position s) w.event (function_deed (facts_by rest w.request) w.request))
+    let rest = record s { waiting = filter (λ v. not (v.event == w.event)) s.waiting } in after_effect (Immediate w.request) (carried rest w.request (next_position s) w.event (function_deed (facts_by rest w.request) w.request))
 
 -- ---- an arrival
 
@@ -185,14 +181,10 @@ function_taken s (Some w) =
 abbrev pub comes_next : Core → Request → Bool
 comes_next s r = not (is_some (next_waiting s)) && is_next s.window r
 
--- an immediate request does this at its arrival
-abbrev pub done_at_once : Core → Request → Deed → Step
-done_at_once s r deed = after_effect (Immediate r) (carried s r (position_by s r) (s.taken - 1) deed)
-
--- or it waits
+-- an immediate request does this at its arrival, or it waits
 abbrev pub immediate_taken : Core → Request → Deed → Step
 immediate_taken s r Wait = record {
   core = record s { waiting = s.waiting ++ record { request = r; turn = lift (number_expected s.window) (cmd_sn r) - number_of_first s.window.first; event = s.taken - 1 } ∷ [] };
   effects = Waits r ∷ [];
 }
-immediate_taken s r deed = done_at_once s r deed
+immediate_taken s r deed = after_effect (Immediate r) (carried s r (position_by s r) (s.taken - 1) deed)

@@ -6,9 +6,10 @@ ghost use Rattle.iscsi_wire.specs.Fields.{connection_of, is_immediate};
 ghost use Rattle.iscsi_window.specs.Windows.{IsInside, place_in, held_at};
 ghost use Rattle.iscsi_tasks.specs.Sets.{is_covered};
 ghost use Rattle.iscsi_history.specs.rules.Settings.{is_known as known_in};
+ghost use Rattle.iscsi_history.specs.rules.Execution.{reply_of};
 ghost use Rattle.iscsi_session.specs.private.Standing.{is_held};
-ghost use Rattle.iscsi_session.specs.private.Steps.{KeepsPace, Takes, covers_ticket, aborted, number_voided, number_emptied, owed};
-ghost use Rattle.iscsi_session.specs.private.Deeds.{arrival_by, Fits, IsReady, most_emptied, next_waiting, function_taken, done_at_once, immediate_taken};
+ghost use Rattle.iscsi_session.specs.private.Steps.{KeepsPace, Takes, covers_ticket, left_answered, after_effect, number_voided, number_emptied, owed};
+ghost use Rattle.iscsi_session.specs.private.Deeds.{arrival_by, Fits, IsReady, most_emptied, next_waiting, function_taken, position_by, carried, immediate_taken};
 
 use crate::response::Response;
 use crate::session::Session;
@@ -51,7 +52,8 @@ impl Session {
         requires taken { 0 < self.old.taken }
         requires room { vec_len out.old + owed self.old.live self.old.sets + most_emptied self.old deed + 5
             ≤ vec_capacity out.old }
-        ensures done { Takes (done_at_once self.old request.now deed) self.new out.old out.new }
+        ensures done { Takes (after_effect (Effect.Immediate request.now) (carried self.old request.now
+            (position_by self.old request.now) (self.old.taken - 1) deed)) self.new out.old out.new }
         ensures spent { vec_len out.new + owed self.new.live self.new.sets + count_by is_held self.new.window.places
             ≤ vec_len out.old + owed self.old.live self.old.sets + count_by is_held self.old.window.places + 5 }
     {
@@ -113,7 +115,8 @@ impl Session {
     )
         requires unit { unit < length self.old.sets }
         requires room { vec_len out.old + owed self.old.live self.old.sets + 1 ≤ vec_capacity out.old }
-        ensures done { Takes (aborted self.old request.now unit (is_covered cover)) self.new out.old out.new }
+        ensures done { Takes (left_answered self.old unit (is_covered cover) (connection_of request.now)
+            (reply_of request.now (Answer.Respond 0))) self.new out.old out.new }
         ensures spent { vec_len out.new + owed self.new.live self.new.sets ≤ vec_len out.old
             + owed self.old.live self.old.sets + 1 }
     {
@@ -133,7 +136,8 @@ impl Session {
     )
         requires unit { unit < length self.old.sets }
         requires room { vec_len out.old + owed self.old.live self.old.sets + 1 ≤ vec_capacity out.old }
-        ensures done { Takes (aborted self.old request.now unit (covers_ticket ticket)) self.new out.old out.new }
+        ensures done { Takes (left_answered self.old unit (covers_ticket ticket) (connection_of request.now)
+            (reply_of request.now (Answer.Respond 0))) self.new out.old out.new }
         ensures spent { vec_len out.new + owed self.new.live self.new.sets ≤ vec_len out.old
             + owed self.old.live self.old.sets + 1 }
     {

@@ -1,12 +1,10 @@
-use Rattle.std.proofs.Common.{arith, ◌≡◌, ◌<◌, ◌∙◌, [], List, length, take, drop, ap, sym, subst, inl, inr, ⊎_elim, refl, false}
+use Rattle.std.proofs.Common.{arith, ◌≡◌, ◌<◌, ◌∙◌, [], List, length, take, drop, ap, sym, subst, inl, inr, ⊎_elim, false}
 use Rattle.std.specs.Prelude.{Result, Ok, Err, OnOk, is_err}
 use Rattle.std.proofs.lemmas.Grind.{common_steps}
-use Rattle.iscsi_session.specs.declared.session.Session.{Session}
 use Rattle.std.proofs.lemmas.List.{take_more, take_all}
 use Rattle.std.proofs.lemmas.Result.{err_from_is_err_and}
 use Rattle.iscsi_history.specs.declared.effect.Numbers.{Numbers}
 use Rattle.iscsi_history.specs.declared.event.Event.{Event}
-use Rattle.iscsi_session.specs.declared.fault.SessionFault.TheVariants.{NoMemory}
 use Rattle.iscsi_history.specs.rules.Settings.{Setting}
 use Rattle.iscsi_session.specs.promises.Settings.{setting_of}
 use Rattle.iscsi_history.specs.rules.Run.{run_of}
@@ -18,11 +16,10 @@ use Rattle.iscsi_history.proofs.FlowItems.{FlowsThrough-push}
 use Rattle.iscsi_session.proofs.RefusalLemmas.{taken_none, refused_cases, refusal_more, refusal_here, options_refused, event_refused, run_taken}
 use Rattle.iscsi_session.proofs.PromiseLemmas.{promises_kept}
 use Rattle.iscsi_session.proofs.log.run.Goals as goal
+use Rattle.std.proofs.lemmas.Bool.Decides.{nat_tests}
 
 pub returns-in_err-session-clause-refused : goal.returns-in_err-session-clause-refused
-returns-in_err-session-clause-refused c =
-    let p = err_from_is_err_and c.from_residual.result c.from_residual.ensures.1 in
-    rw (p.1, p.2) (options_refused Session _ _ _ c.in_err-session.field-0.0 c.in_err-session.ensures.refused)
+returns-in_err-session-clause-refused c = grind (arith, nat_tests, err_from_is_err_and, options_refused)
 
 pub returns-in_err-numbers-clause-refused : goal.returns-in_err-numbers-clause-refused
 returns-in_err-numbers-clause-refused c =
@@ -37,10 +34,7 @@ returns-in_err-numbers-clause-refused c =
     (⊎_elim (λ wanting. inl wanting) (λ refused. inr (refusal_here o c.args.events.now i _ (first_refusal o 0 c.args.events.now) c.in_err-numbers.field-0.0 in_range inv.refusal refused)) cases))
 
 pub returns-then-is_err-clause-refused : goal.returns-then-is_err-clause-refused
-returns-then-is_err-clause-refused c =
-    let o : Setting = setting_of c.args.options in
-    let opened = taken_none (refusal_of_options o) c.in_ok-session.session c.in_ok-session.ensures.refused in
-    event_refused _ _ (first_refusal o 0 c.args.events.now) NoMemory opened (inl refl)
+returns-then-is_err-clause-refused c = grind (arith, nat_tests, taken_none, event_refused)
 
 -- what an answer says that is no error
 granted : {T E : Type 0} (P : Type 0) (r : Result T E) → is_err r ≡ false → OnOk r P → P
@@ -48,9 +42,7 @@ granted P (Ok x) ok h = h
 granted P (Err e) ok h = absurd cc
 
 pub push_reserved-requires : goal.push_reserved-requires
-push_reserved-requires c =
-    let room = granted _ c.reserve.result (sym c.is_err.ensures.value ∙ c.if-is_err.false) c.reserve.ensures.ok in
-    omega (arith, room)
+push_reserved-requires c = grind (arith, nat_tests, granted)
 
 pub loop-event-preserved : goal.loop-event-preserved
 loop-event-preserved c =

@@ -1,11 +1,11 @@
-use Rattle.std.proofs.Common.{◌≡◌, ◌∙◌, ◌+◌, ◌-◌, ◌<◌, ℕ, [], ap, arith, length-set, append_assoc}
-use Rattle.std.specs.List.{range_with_len}
+use Rattle.std.proofs.Common.{◌∙◌, ◌+◌, ◌-◌, ◌<◌, ℕ, arith, length-set, append_assoc}
 use Rattle.std.proofs.lemmas.List.{append-nil}
 use Rattle.iscsi_session.specs.private.Standing.{Core}
 use Rattle.iscsi_session.specs.private.Steps.{set_at, all_given}
 use Rattle.iscsi_session.proofs.TellingLemmas.{given_all, told_more, told_all, told_later}
 use Rattle.iscsi_session.proofs.session.Session.announce_all.Goals as goal
 use Rattle.iscsi_history.proofs.ListLemmas.{range_step}
+use Rattle.std.proofs.lemmas.Bool.Decides.{nat_tests}
 
 pub loop-unit-preserved : goal.loop-unit-preserved
 loop-unit-preserved c =
@@ -25,13 +25,4 @@ loop-unit-preserved c =
     }
 
 pub returns-clause-done : goal.returns-clause-done
-returns-clause-done c =
-    let inv = c.loop-unit.invariant in
-    let u : ℕ = c.loop-unit.unit in
-    let end : ℕ = c.units-unit-end.result in
-    let none : range_with_len u (end - u) ≡ [] = ap (range_with_len u) (let z : end - u ≡ 0 = omega (arith, c.loop-unit-test.false) in z) in
-    record {
-      core = rw (told_all c.loop-unit.self.sets (λ k lt. inv.told k (omega (arith, lt, inv.units, c.loop-unit-test.false)))) at inv.session;
-      effects = rw (none, append-nil) at inv.effects;
-      room = inv.capacity;
-    }
+returns-clause-done c = grind (arith, nat_tests, told_all, append-nil)

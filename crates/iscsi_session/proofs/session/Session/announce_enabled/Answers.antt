@@ -2,7 +2,7 @@ use Rattle.std.proofs.Common.{◌≡◌, ◌∙◌, ◌<◌, ◌++◌, length, t
 use Rattle.iscsi_tasks.specs.Sets.{opened}
 use Rattle.iscsi_session.specs.private.Steps.{all_given}
 use Rattle.iscsi_history.proofs.PlaceLemmas.{written}
-use Rattle.iscsi_session.proofs.LeavingParts.{owed-given, Match-given}
+use Rattle.iscsi_session.proofs.KeptLemmas.{owed-given, Match-given}
 use Rattle.iscsi_session.proofs.SoundLemmas.{sets_sound}
 use Rattle.iscsi_session.proofs.session.Session.announce_enabled.Goals as goal
 use Rattle.iscsi_session.proofs.session.Session.announce_enabled.Goals.{After-deref_mut, After-announce}

@@ -1,6 +1,6 @@
 use Rattle.iscsi_session.proofs.AgreeLemmas.{handled}
-use Rattle.iscsi_session.proofs.PaceLemmas.{pace-completed}
-use Rattle.iscsi_session.proofs.StepLemmas.{Stepped-completion}
+use Rattle.iscsi_session.proofs.DeedLemmas.{pace-completed}
+use Rattle.iscsi_session.proofs.AgendaLemmas.{Stepped-completion}
 use Rattle.iscsi_session.proofs.session.Session.apply.Goals as goal
 
 pub returns-in-Arrive-clause-items : goal.returns-in-Arrive-clause-items

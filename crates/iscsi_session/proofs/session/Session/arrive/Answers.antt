@@ -5,7 +5,7 @@ use Rattle.iscsi_history.specs.promises.Flow.{HasOneMore}
 use Rattle.iscsi_session.specs.private.Standing.{Core}
 use Rattle.iscsi_session.specs.private.Steps.{is_among_open, Handles}
 use Rattle.iscsi_session.proofs.AgreeLemmas.{handled, known_of}
-use Rattle.iscsi_session.proofs.ArriveLemmas.{opened_arrival, closed_arrival}
+use Rattle.iscsi_session.proofs.AgendaLemmas.{opened_arrival, closed_arrival}
 use Rattle.iscsi_session.proofs.session.Session.arrive.Goals as goal
 
 pub returns-then-is_open-clause-items : goal.returns-then-is_open-clause-items

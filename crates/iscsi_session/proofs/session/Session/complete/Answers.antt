@@ -1,13 +1,7 @@
-use Rattle.std.proofs.Common.{◌∙◌, append_assoc, sym}
+use Rattle.std.proofs.Common.{append_assoc}
 use Rattle.iscsi_session.proofs.session.Session.complete.Goals as goal
+use Rattle.std.proofs.Common.{arith}
+use Rattle.std.proofs.lemmas.Bool.Decides.{nat_tests}
 
 pub returns-clause-done : goal.returns-clause-done
-returns-clause-done c =
-    let left = c.in-Some.ensures.done in
-    let reply = c.reply.ensures.done in
-    let told = c.announce_enabled.ensures.done in
-    rw (sym c.leave_enabled.ensures.command ∙ c.in-Some.is) (record {
-      core = rw (told.core, reply.core, left.core);
-      effects = rw (told.effects, reply.effects, left.effects, reply.core, left.core, append_assoc, append_assoc, c.sense_of.ensures);
-      room = told.room ∙ reply.room ∙ left.room;
-    })
+returns-clause-done c = grind (arith, nat_tests, append_assoc)

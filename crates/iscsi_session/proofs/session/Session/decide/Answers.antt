@@ -9,6 +9,8 @@ use Rattle.iscsi_session.specs.private.Codes.{opcode_named}
 use Rattle.iscsi_session.specs.private.Standing.{Core}
 use Rattle.iscsi_session.specs.private.Deeds.{facts_by, deed_by}
 use Rattle.iscsi_session.proofs.session.Session.decide.Goals as goal
+use Rattle.std.proofs.Common.{arith}
+use Rattle.std.proofs.lemmas.Bool.Decides.{nat_tests}
 
 -- one that has the table of the SCSI Command
 abbrev is_other : Opcode → Bool
@@ -22,10 +24,7 @@ abbrev named : ℕ → Opcode
 named n = cond (n == 0x00) NopOut (cond (n == 0x01) ScsiCommand (cond (n == 0x02) TaskManagement (cond (n == 0x04) Text (cond (n == 0x05) DataOut (cond (n == 0x06) Logout (cond (n == 0x10) Snack Unknown))))))
 
 apart : (r : Request) (n : ℕ) → is_other (named n) ≡ false → is_other (opcode_named r) ≡ true → (opcode r == n) ≡ false
-apart r n none other = elim (opcode r == n) as (λ b. (opcode r == n) ≡ b → b ≡ false) [
-  | true ↦ λ is. absurd (false≢true (sym none ∙ ap (λ k. is_other (named k)) (sym (eqb-true (opcode r) n is)) ∙ other))
-  | false ↦ λ is. refl
-] refl
+apart r n none other = grind (arith, nat_tests, false≢true, eqb-true)
 
 by_command : (s : Core) (r : Request) → is_other (opcode_named r) ≡ true → command_deed (facts_by s r) r ≡ deed_by s r
 by_command s r other = rw (apart r 0x02 refl other, apart r 0x06 refl other, apart r 0x00 refl other, apart r 0x04 refl other)

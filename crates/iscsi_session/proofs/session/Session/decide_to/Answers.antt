@@ -1,51 +1,26 @@
-use Rattle.std.proofs.Common.{rules, ◌≡◌, ◌==◌, ◌||◌, ◌∙◌, ◌<◌, cond, Bool, true, false, Option, Some, None, option_map, nat_lt, ℕ, List, [], ◌∷◌, length, filter, is_some, get_or, refl, ap, sym, arith}
+use Rattle.std.proofs.Common.{◌≡◌, ◌==◌, ◌<◌, Bool, false, nat_lt, ℕ, List, [], ◌∷◌, length, filter, get_or, refl, ap, arith}
 use Rattle.std.specs.List.{list_any}
 use Rattle.std.proofs.lemmas.Bool.{lt-ltb}
 use Rattle.std.proofs.lemmas.List.{get_or_default, length-map}
-use Rattle.iscsi_wire.specs.Fields.{function, rtt}
-use Rattle.iscsi_tasks.specs.Sets.{Members, opened}
+use Rattle.iscsi_tasks.specs.Sets.{Members}
 use Rattle.iscsi_commands.specs.declared.live.Live.{Live}
 use Rattle.iscsi_session.specs.private.Standing.{Match}
-use Rattle.iscsi_session.specs.private.Deeds.{tagged_in, live_by, facts_by}
+use Rattle.iscsi_session.specs.private.Deeds.{facts_by}
 use Rattle.iscsi_history.specs.rules.Deeds.{of_unit}
 use Rattle.iscsi_session.proofs.session.Session.decide_to.Goals as goal
 use Rattle.iscsi_session.proofs.session.Session.decide_to.Goals.{In-QueryTask, In-QueryTaskSet}
+use Rattle.std.proofs.lemmas.Bool.Decides.{nat_tests}
 
 any_filtered : (p : Live → Bool) (lives : List Live) → list_any p lives ≡ nat_lt 0 (length (filter p lives))
 any_filtered p [] = refl
-any_filtered p (x ∷ lives) = by_head (p x) (any_filtered p lives)
-  where
-    by_head : (b : Bool) → list_any p lives ≡ nat_lt 0 (length (filter p lives)) → (b || list_any p lives) ≡ nat_lt 0 (length (cond b (x ∷ filter p lives) (filter p lives)))
-    by_head true rest = sym (lt-ltb 0 (length (x ∷ filter p lives)) (omega arith))
-    by_head false rest = rest
+any_filtered p (x ∷ lives) = grind (arith, nat_tests, any_filtered p lives, lt-ltb)
 
 -- a set has a command just where the unit has a live one
 any_in_set : (sets : List Members) (lives : List Live) (unit i : ℕ) (set : Members) → Match sets lives → i ≡ unit → set ≡ get_or sets i set → unit < length sets → nat_lt 0 (length set.list) ≡ list_any (λ l. l.unit == unit) lives
-any_in_set sets lives unit i set match at read inside =
-    let same : get_or sets unit (opened 0) ≡ set = rw (← at) (get_or_default sets i (opened 0) set (omega (arith, at, inside)) ∙ sym read) in
-    let long : length set.list ≡ length (filter (λ l. l.unit == unit) lives) = rw same at (simp length-map at (ap length (match unit inside))) in
-    rw (long, any_filtered)
-
--- what is found of the unit
-live_is : (c : In-QueryTask) → (facts_by c.args.self.now c.args.request.now).live ≡ live_by c.args.self.now c.args.request.now c.args.unit
-live_is c = ap (λ x. of_unit x None (live_by c.args.self.now c.args.request.now)) c.requires.named
+any_in_set sets lives unit i set match at read inside = grind (arith, nat_tests, get_or_default, length-map, any_filtered)
 
 has_is : (c : In-QueryTaskSet) → (facts_by c.args.self.now c.args.request.now).has_commands ≡ list_any (λ l. l.unit == c.args.unit) c.args.self.now.live
 has_is c = ap (λ x. of_unit x false (λ unit. list_any (λ (l : Live). l.unit == unit) c.args.self.now.live)) c.requires.named
 
-mapped : (x : Option Live) → is_some (option_map (λ (l : Live). l.ticket) x) ≡ is_some x
-mapped None = refl
-mapped (Some l) = refl
-
-pub returns-in-QueryTask : goal.returns-in-QueryTask
-returns-in-QueryTask c =
-    let f : function c.args.request.now ≡ 9 = search rules in
-    let there : c.is_some.result ≡ is_some (tagged_in c.args.self.now (rtt c.args.request.now) c.args.unit) = search rules in
-    c.query.ensures ∙ rw (f, live_is (goal.at.returns-in-QueryTask c).In-QueryTask, mapped, there)
-
 pub returns-in-QueryTaskSet : goal.returns-in-QueryTaskSet
-returns-in-QueryTaskSet c =
-    let f : function c.args.request.now ≡ 10 = search rules in
-    let inside : c.args.unit < length c.self.inside.sets.items = rw (← c.self.view_is) at c.requires.unit in
-    let there = any_in_set c.self.inside.sets.items c.self.inside.live.items c.args.unit c.from.result c.index.result.now c.self.invariant.commands.in_sets c.from.ensures c.index.ensures inside in
-    c.query-in-QueryTaskSet.ensures ∙ rw (f, has_is (goal.at.returns-in-QueryTaskSet c).In-QueryTaskSet, c.len.ensures.len, there, ← c.self.view_is)
+returns-in-QueryTaskSet c = grind (arith, nat_tests, any_in_set, has_is)

@@ -1,25 +1,23 @@
-use Rattle.std.proofs.Common.{◌≡◌, ◌∙◌, not, false, Some, ap, sym, subst, arith, is_some, count_by}
-use Rattle.iscsi_wire.specs.Fields.{connection_of, is_immediate}
+use Rattle.std.proofs.Common.{◌≡◌, ◌∙◌, false, Some, ap, sym, subst, arith, is_some, count_by}
+use Rattle.iscsi_wire.specs.Fields.{is_immediate}
 use Rattle.iscsi_window.specs.Windows.{Arrived}
-use Rattle.iscsi_history.specs.rules.Settings.{is_known}
 use Rattle.iscsi_session.specs.contracts.session.Session.{the_view}
 use Rattle.iscsi_session.specs.private.Standing.{Core, is_held}
 use Rattle.iscsi_session.specs.private.Steps.{Takes}
 use Rattle.iscsi_session.specs.private.Deeds.{turn_of}
 use Rattle.iscsi_history.proofs.BoolLemmas.{and_first, not_true}
 use Rattle.iscsi_session.proofs.WindowLemmas.{Advanced, advanced_at}
-use Rattle.iscsi_session.proofs.PaceLemmas.{executed_counted}
+use Rattle.iscsi_session.proofs.DeedLemmas.{executed_counted}
 use Rattle.iscsi_session.proofs.session.Session.deliver_next.Goals as goal
 use Rattle.iscsi_session.proofs.session.Session.deliver_next.Goals.{In-Some, In-Some-held}
+use Rattle.std.proofs.lemmas.Bool.Decides.{nat_tests}
 
 -- the number has turned, and this was held for it
 turned : (c : In-Some-held) → Advanced c.self.inside.window (Some c.in-Some-held.field-0)
 turned c = advanced_at c.self.inside.window (Some c.in-Some-held.field-0) (sym c.advance.ensures.answer ∙ c.in-Some.is ∙ ap Some c.in-Some-held.is)
 
 numbered : (c : In-Some-held) → is_immediate c.in-Some-held.field-0.request ≡ false
-numbered c =
-    let r = c.in-Some-held.field-0.request in
-    not_true (is_immediate r) (and_first (not (is_immediate r)) (is_known (connection_of r) c.self.inside.connections.conns) ((turned c).known c.self.inside.connections.conns c.self.invariant.window.known).0)
+numbered c = grind (arith, nat_tests, not_true, and_first)
 
 pub returns-in-Some-held-clause-done : goal.returns-in-Some-held-clause-done
 returns-in-Some-held-clause-done c =

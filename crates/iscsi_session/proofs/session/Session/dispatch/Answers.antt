@@ -5,8 +5,8 @@ use Rattle.iscsi_session.specs.private.Standing.{Core}
 use Rattle.iscsi_session.specs.private.Steps.{Handles}
 use Rattle.iscsi_history.proofs.ReceivedItems.{is_numbered_arrival}
 use Rattle.iscsi_session.proofs.AgreeLemmas.{handled, known_of}
-use Rattle.iscsi_session.proofs.ArriveLemmas.{passed_over, rejected_opcode, at_once}
-use Rattle.iscsi_session.proofs.PaceLemmas.{immediate_same}
+use Rattle.iscsi_session.proofs.AgendaLemmas.{passed_over, rejected_opcode, at_once}
+use Rattle.iscsi_session.proofs.DeedLemmas.{immediate_same}
 use Rattle.iscsi_session.proofs.session.Session.dispatch.Goals as goal
 
 pub returns-in-PassedOver-clause-items : goal.returns-in-PassedOver-clause-items

@@ -7,6 +7,7 @@ use Rattle.iscsi_session.proofs.OpenLemmas.{bound_is}
 use Rattle.iscsi_session.proofs.CountLemmas.{few_live}
 use Rattle.iscsi_session.proofs.ManageLemmas.{few_waiting}
 use Rattle.iscsi_session.proofs.session.Session.effect_bound.Goals as goal
+use Rattle.std.proofs.lemmas.Bool.Decides.{nat_tests}
 
 -- few requests are held, few functions wait, and few commands are live
 record Few (s : Inner) : Type 0 where
@@ -15,11 +16,7 @@ record Few (s : Inner) : Type 0 where
   live : length s.live ≤ s.window.unfinished + 8 * length s.conns
 
 few : {s : Inner} → IsSessionSound s → Few s
-few {s} inv = record {
-  held = count_by-le-length is_held s.window.places;
-  waiting = few_waiting s.conns s.waiting inv.functions.few inv.functions.known;
-  live = few_live s.window.unfinished s.conns s.live inv.commands.numbered inv.commands.counted.few inv.commands.known;
-}
+few {s} inv = grind (arith, nat_tests, count_by-le-length, few_waiting, few_live)
 
 pub overflow_add-result : goal.overflow_add-result
 overflow_add-result c = omega (arith, few c.self.invariant, c.len.ensures)
@@ -37,8 +34,7 @@ pub overflow_add-result-3 : goal.overflow_add-result-3
 overflow_add-result-3 c = omega (arith, few c.self.invariant, ap (λ (s : Core). length s.live) c.self.view_is)
 
 pub returns-clause-bound : goal.returns-clause-bound
-returns-clause-bound c = λ o h stands.
-    omega (arith, ap (λ (s : Core). count_by is_held s.window.places + length s.waiting) c.self.view_is, bound_is o c.args.self.now h stands)
+returns-clause-bound c = grind (arith, nat_tests, bound_is)
 
 pub returns-clause-most : goal.returns-clause-most
 returns-clause-most c = λ o h stands.

@@ -6,6 +6,7 @@ use Rattle.iscsi_session.proofs.WindowLemmas.{Changed}
 use Rattle.iscsi_session.proofs.SoundLemmas.{window_sound, changed_sound, same_sound}
 use Rattle.iscsi_session.proofs.session.Session.empty_at.Goals as goal
 use Rattle.iscsi_session.proofs.session.Session.empty_at.Goals.{In-Some}
+use Rattle.std.proofs.lemmas.Bool.Decides.{nat_tests}
 
 -- ---- a request is taken out
 
@@ -54,6 +55,4 @@ pub invariant_of-self : goal.invariant_of-self
 invariant_of-self c = same_sound c.self.invariant (c.drop_at.ensures.state ∙ rw (none c))
 
 pub returns-in_default-clause-lowest : goal.returns-in_default-clause-lowest
-returns-in_default-clause-lowest c =
-    let no = none c in
-    rw (c.drop_at.ensures.state, no) (clear_past c.args.scope c.args.ahead c.self.inside.window.places (rw (← c.self.view_is) at c.requires.lowest) no)
+returns-in_default-clause-lowest c = grind (arith, nat_tests, none, clear_past)

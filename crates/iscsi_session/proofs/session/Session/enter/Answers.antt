@@ -48,9 +48,6 @@ push-requires-clause-room c =
 pub push-requires-clause-newest : goal.push-requires-clause-newest
 push-requires-clause-newest c = all_before c.self.inside.entered (length c.self.inside.sets.items) c.self.inside.live.items c.self.invariant.commands.within
 
-pub push-requires-clause-unused : goal.push-requires-clause-unused
-push-requires-clause-unused c = rw c.itt.ensures (rw (← c.self.view_is) at c.requires.unused)
-
 -- the set of the unit has the task as the definitions say
 sets_are : (c : After-enter-slot) → c.enter-slot.new.sets ≡ set c.self.inside.sets.items c.args.unit (given_by (entered_to (get_or c.self.inside.sets.items c.args.unit (opened 0)) (new_task c.args.self.now c.args.request.now)))
 sets_are c =
@@ -93,7 +90,6 @@ returns-clause-done c =
     let position = to_z-of_z w64 c.args.pos (search rules) in
     record {
       core = rw (sets_now e, sets_are e, lives_are p, c.begin.ensures.connections, c.begin.ensures.window, ← c.self.view_is);
-      effects = c.enter-slot.ensures.effects.items
-          ∙ rw (c.push_reserved.ensures.items, append_assoc, c.deref_mut.ensures.value, c.conn.ensures, c.itt.ensures, c.attr_of-attr.ensures, c.attr.ensures, c.immediate.ensures, position, c.requires.number, c.event-event.ensures, ← c.self.view_is);
+      effects = grind (arith, nat_tests, append_assoc);
       room = c.enter-slot.ensures.effects.room ∙ c.push_reserved.ensures.capacity;
     }

@@ -3,7 +3,7 @@ use Rattle.std.proofs.lemmas.Int.{to_z-of_z}
 use Rattle.iscsi_session.specs.private.Deeds.{deed_by}
 use Rattle.iscsi_session.proofs.DeedLemmas.{fits_deed, ready}
 use Rattle.iscsi_session.proofs.LoggedOutLemmas.{Stays}
-use Rattle.iscsi_session.proofs.PaceLemmas.{executed_stays}
+use Rattle.iscsi_session.proofs.DeedLemmas.{executed_stays}
 use Rattle.iscsi_session.proofs.session.Session.execute.Goals as goal
 
 pub carry_out-requires-clause-fits : goal.carry_out-requires-clause-fits

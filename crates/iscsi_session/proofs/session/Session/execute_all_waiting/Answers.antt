@@ -1,14 +1,14 @@
-use Rattle.std.proofs.Common.{◌≡◌, ◌∙◌, ◌++◌, ap, sym, subst, refl, arith, None}
+use Rattle.std.proofs.Common.{◌≡◌, ◌∙◌, ◌++◌, ap, sym, arith, None}
 use Rattle.std.proofs.lemmas.List.{append-nil}
 use Rattle.iscsi_window.specs.Windows.{number_expected}
 use Rattle.iscsi_history.specs.rules.Items.{functions_at}
 use Rattle.iscsi_session.specs.private.Standing.{Core}
-use Rattle.iscsi_session.specs.private.Steps.{KeepsPace}
 use Rattle.iscsi_session.specs.private.Deeds.{next_waiting, function_taken}
 use Rattle.iscsi_session.proofs.AgendaLemmas.{functions-on, functions-done}
-use Rattle.iscsi_session.proofs.PaceLemmas.{function_stays, pace-function}
+use Rattle.iscsi_session.proofs.DeedLemmas.{function_stays, pace-function}
 use Rattle.iscsi_session.proofs.session.Session.execute_all_waiting.Goals as goal
 use Rattle.iscsi_history.proofs.ListLemmas.{is_none}
+use Rattle.std.proofs.lemmas.Bool.Decides.{nat_tests}
 
 pub loop-preserved : goal.loop-preserved
 loop-preserved c =
@@ -17,15 +17,12 @@ loop-preserved c =
     let x = c.execute_next_waiting.ensures.done in
     let h = function_stays s (next_waiting s) in
     record {
-      due = λ o t a.
-          rw (x.core, x.effects) (functions-on o t c.args.out.now.items (functions_at o (number_expected c.args.self.now.window) t) s c.loop.out.items (next_waiting s) refl (sym c.execute_next_waiting.ensures.answer ∙ c.loop-test.true) (inv.due o t a));
+      due = grind (arith, nat_tests, functions-on);
       places = c.execute_next_waiting.ensures.places ∙ inv.places;
       turned = ap (λ (v : Core). v.window.turned) x.core ∙ h.turned ∙ inv.turned;
       first = ap (λ (v : Core). v.window.first) x.core ∙ h.first ∙ inv.first;
       taken = ap (λ (v : Core). v.taken) x.core ∙ h.taken ∙ inv.taken;
-      pace =
-          let one : KeepsPace s.window c.execute_next_waiting.new.self.window = subst (λ (v : Core). KeepsPace s.window v.window) (sym x.core) (pace-function s (next_waiting s)) in
-          omega (arith, one, inv.pace);
+      pace = grind (arith, nat_tests, pace-function);
       spent = omega (arith, c.execute_next_waiting.ensures.spent, inv.spent);
       capacity = x.room ∙ inv.capacity;
     }

@@ -1,4 +1,4 @@
-use Rattle.std.proofs.Common.{w64, to_z, ◌≡◌, ◌==◌, ◌≤◌, ◌+◌, ◌∙◌, not, true, find, filter, Some, length, count_by, pos, ◌-ℤ◌, ℤ, List, refl, ap, sym, arith, append_assoc, eq-eqb}
+use Rattle.std.proofs.Common.{w64, to_z, ◌≡◌, ◌==◌, ◌≤◌, ◌+◌, ◌∙◌, not, true, find, filter, Some, length, count_by, pos, ◌-ℤ◌, ℤ, List, refl, ap, arith, append_assoc, eq-eqb}
 use Rattle.std.proofs.lemmas.Bool.{false≢true}
 use Rattle.std.proofs.lemmas.Int.{ints, to_z_pos}
 use Rattle.iscsi_wire.specs.Serial.{number_of_first}
@@ -16,17 +16,15 @@ use Rattle.iscsi_session.specs.declared.session.waiting.Waiting.{Waiting}
 use Rattle.iscsi_session.specs.contracts.session.Session.{the_view}
 use Rattle.iscsi_history.proofs.ListLemmas.{find-passes}
 use Rattle.iscsi_history.proofs.CountLemmas.{fewer_left}
-use Rattle.iscsi_session.proofs.DeedLemmas.{Whole, whole, is_whole, whole_function, fits_function, carried_stays}
+use Rattle.iscsi_session.proofs.DeedLemmas.{Whole, whole, whole_function, fits_function, carried_stays}
 use Rattle.iscsi_session.proofs.SoundLemmas.{fewer_sound}
 use Rattle.iscsi_session.proofs.session.Session.execute_next_waiting.Goals as goal
 use Rattle.iscsi_session.proofs.session.Session.execute_next_waiting.Goals.{In-Some, After-carry_out, After-decide_function-deed}
+use Rattle.std.proofs.lemmas.Bool.Decides.{nat_tests}
 
 -- the number of the next turn, as a cast reads it
 next : (c : In-Some) → to_z w64 c.turned-number.result ≡ pos (number_expected c.self.inside.window) -ℤ pos (number_of_first c.self.inside.window.first)
-next c =
-    let inv = c.self.invariant in
-    let same : pos c.turned-number.result ≡ pos (number_expected c.self.inside.window) -ℤ pos (number_of_first c.self.inside.window.first) = omega (arith, ints, c.turned-number.ensures) in
-    to_z_pos w64 c.turned-number.result (omega (arith, c.turned-number.ensures, inv.window.turned, inv.limits.taken, inv.limits.events)) ∙ same
+next c = grind (arith, nat_tests, ints, to_z_pos)
 
 -- what it does, and what that shows
 function_is : (s : Core) (f : Waiting) (ws : List Waiting) (n : ℤ) (d : Deed) → next_waiting s ≡ Some f → ws ≡ filter (λ v. not (v.event == f.event)) s.waiting → n ≡ next_position s → d ≡ function_deed (facts_by (record s { waiting = ws }) f.request) f.request
@@ -81,11 +79,7 @@ pub carry_out-requires-clause-ready : goal.carry_out-requires-clause-ready
 carry_out-requires-clause-ready c = (whole_is (goal.at.carry_out-requires-clause-ready c).After-decide_function-deed (may (goal.at.carry_out-requires-clause-ready c).In-Some) (pos 0)).ready
 
 pub carry_out-requires-clause-number : goal.carry_out-requires-clause-number
-carry_out-requires-clause-number c = λ unit is.
-    let s : Core = record (the_view c.self.inside) { waiting = c.take_first.new.self.items } in
-    let r : Request = c.in-Some.function.request in
-    let whole : is_whole c.decide_function-deed.result ≡ true = rw c.decide_function-deed.ensures (whole_function (facts_by s r) r (may (goal.at.carry_out-requires-clause-number c).In-Some)) in
-    absurd (false≢true (ap is_whole (sym is) ∙ whole))
+carry_out-requires-clause-number c = grind (arith, nat_tests, whole_function, may, false≢true)
 
 pub carry_out-requires-clause-room : goal.carry_out-requires-clause-room
 carry_out-requires-clause-room c =
@@ -109,6 +103,4 @@ pub returns-clause-fewer : goal.returns-clause-fewer
 returns-clause-fewer c = λ said. rw (← c.self.view_is) (omega (arith, fewer (goal.at.returns-clause-fewer c).After-carry_out (found (goal.at.returns-clause-fewer c).In-Some) (items_left (goal.at.returns-clause-fewer c).In-Some)))
 
 pub returns-clause-places : goal.returns-clause-places
-returns-clause-places c =
-    ap (λ (u : Core). u.window.places) c.carry_out.ensures.done.core ∙ (whole_is (goal.at.returns-clause-places c).After-decide_function-deed (may (goal.at.returns-clause-places c).In-Some) _).places
-    ∙ ap (λ (u : Core). u.window.places) c.self.view_is
+returns-clause-places c = grind (arith, nat_tests, whole_is, may)

@@ -1,9 +1,7 @@
-use Rattle.std.proofs.Common.{◌≡◌, ◌∙◌, ◌-◌, ℕ, [], ap, arith, length-set, append_assoc}
+use Rattle.std.proofs.Common.{◌≡◌, ◌∙◌, ℕ, arith, length-set, append_assoc}
 use Rattle.iscsi_session.specs.private.Standing.{Core}
 use Rattle.iscsi_session.specs.private.Steps.{commands_left, covers_of}
 use Rattle.iscsi_history.proofs.ListLemmas.{range_step}
-use Rattle.std.specs.List.{range_with_len}
-use Rattle.std.proofs.lemmas.List.{append-nil}
 use Rattle.iscsi_session.proofs.session.Session.leave_all.Goals as goal
 
 pub loop-unit-preserved : goal.loop-unit-preserved
@@ -24,11 +22,3 @@ loop-unit-preserved c =
       spent = omega (arith, c.leave_covered.ensures.spent, inv.spent);
       capacity = x.room ∙ inv.capacity;
     }
-
-pub returns-clause-done : goal.returns-clause-done
-returns-clause-done c =
-    let inv = c.loop-unit.invariant in
-    let u : ℕ = c.loop-unit.unit in
-    let end : ℕ = c.units-unit-end.result in
-    let none : range_with_len u (end - u) ≡ [] = ap (range_with_len u) (let z : end - u ≡ 0 = omega (arith, c.loop-unit-test.false) in z) in
-    record { core = rw none at inv.session; effects = rw (none, append-nil) at inv.effects; room = inv.capacity }

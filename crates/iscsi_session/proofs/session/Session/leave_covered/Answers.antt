@@ -1,30 +1,19 @@
 use Rattle.std.proofs.Common.{◌≡◌, ◌∙◌, ◌<◌, ◌++◌, length, take, drop, get_or, set, ap, sym, arith}
 use Rattle.iscsi_tasks.specs.Sets.{opened, is_covered}
-use Rattle.iscsi_session.specs.private.Standing.{Core}
-use Rattle.iscsi_session.specs.private.Steps.{set_staying, covered_tickets, staying, finished_by, ungiven_in, owed}
+use Rattle.iscsi_session.specs.private.Steps.{set_staying, covered_tickets, staying, finished_by}
 use Rattle.iscsi_session.proofs.CountLemmas.{few_live}
-use Rattle.iscsi_session.proofs.LeavingParts.{ungiven_in-staying, rises, few_in, covered_live, covered_up, without_covered}
-use Rattle.iscsi_session.proofs.LeftSound.{sets_written, left_sound}
+use Rattle.iscsi_session.proofs.KeptLemmas.{ungiven_in-staying, rises, few_in, covered_live, covered_up, without_covered}
+use Rattle.iscsi_session.proofs.SoundLemmas.{sets_written, left_sound}
 use Rattle.iscsi_session.proofs.session.Session.leave_covered.Goals.{After-deref_mut, After-deref}
 use Rattle.iscsi_session.proofs.session.Session.leave_covered.Goals as goal
+use Rattle.std.proofs.lemmas.Bool.Decides.{nat_tests}
 
 inside : (c : After-deref_mut) → c.args.unit < length c.self.inside.sets.items
 inside c = rw (← c.self.view_is) at c.requires.unit
 
 -- there is room for the tickets of all that are live, and so for those of one set
 pub dequeue_covered-requires-clause-room : goal.dequeue_covered-requires-clause-room
-dequeue_covered-requires-clause-room c =
-    let i = c.self.inside in
-    let inv = c.self.invariant in
-    let unit = c.args.unit in
-    let within = inside (goal.at.dequeue_covered-requires-clause-room c).After-deref_mut in
-    rw c.deref_mut.ensures.value
-    (omega (
-      arith,
-      inv.rooms.left,
-      few_in (get_or i.sets.items unit (opened 0)) unit i.live.items (inv.commands.in_sets unit within),
-      few_live (length i.window.places) i.connections.conns i.live.items (omega (arith, inv.commands.numbered, inv.window.fits)) inv.commands.counted.few inv.commands.known,
-    ))
+dequeue_covered-requires-clause-room c = grind (arith, nat_tests, inside, few_in, few_live)
 
 -- the tickets are those of the covered commands of the unit
 tickets_are : (c : After-deref) → c.deref.result.now ≡ covered_tickets (is_covered c.args.cover.now) (get_or c.self.inside.sets.items c.args.unit (opened 0)).list
@@ -42,12 +31,7 @@ end_all-requires-clause-there c =
     (covered_live (get_or c.self.inside.sets.items c.args.unit (opened 0)) (is_covered c.args.cover.now) c.args.unit c.self.inside.live.items (c.self.invariant.commands.in_sets c.args.unit within))
 
 pub end_all-requires-clause-in_order : goal.end_all-requires-clause-in_order
-end_all-requires-clause-in_order c =
-    let i = c.self.inside in
-    let covers = is_covered c.args.cover.now in
-    let within = inside (goal.at.end_all-requires-clause-in_order c).After-deref_mut in
-    rw (tickets_are (goal.at.end_all-requires-clause-in_order c).After-deref)
-    (covered_up (get_or i.sets.items c.args.unit (opened 0)) covers (rises i.sets.items i.live.items c.args.unit covers within c.self.invariant.commands.in_sets c.self.invariant.commands.ascending))
+end_all-requires-clause-in_order c = grind (arith, nat_tests, inside, tickets_are, covered_up, rises)
 
 live_are : (c : goal.After-end_all) → c.end_all.new.live.items ≡ staying (is_covered c.args.cover.now) (get_or c.self.inside.sets.items c.args.unit (opened 0)) c.self.inside.live.items
 live_are c = c.end_all.ensures.live ∙ rw (tickets_are (goal.at.returns c).After-deref) (without_covered (get_or c.self.inside.sets.items c.args.unit (opened 0)) (is_covered c.args.cover.now) c.self.inside.live.items)
@@ -62,11 +46,4 @@ invariant_of-self c =
     (left_sound c.self.invariant c.args.unit (is_covered c.args.cover.now) (inside (goal.at.invariant_of-self c).After-deref_mut) (rw (live_are c) at c.end_all.ensures.counted))
 
 pub returns : goal.returns
-returns c =
-    let i = c.self.inside in
-    let covers = is_covered c.args.cover.now in
-    let d = (goal.at.returns c).After-deref in
-    record {
-      done = record { core = rw (← c.self.view_is, c.end_all.ensures.connections, window_is c, live_are c, sets_are d); effects = rw (← c.self.view_is, c.end_all.ensures.effects.items, tickets_are d); room = c.end_all.ensures.effects.room };
-      spent = omega (arith, c.end_all.ensures.spent, ap ungiven_in (sets_are d), ungiven_in-staying i.sets.items c.args.unit covers (inside (goal.at.returns c).After-deref_mut), ap (λ (x : Core). owed x.live x.sets) c.self.view_is);
-    }
+returns c = grind (arith, nat_tests, window_is, live_are, sets_are, tickets_are, ungiven_in-staying, inside)

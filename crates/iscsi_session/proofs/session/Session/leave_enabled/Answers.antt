@@ -1,4 +1,4 @@
-use Rattle.std.proofs.Common.{◌≡◌, ◌∙◌, ◌+◌, ◌≤◌, ◌<◌, ◌==◌, ◌&&◌, ◌++◌, ℕ, true, Some, List, length, nat_le, nat_lt, get_or, take, drop, ap, sym, arith, length-set}
+use Rattle.std.proofs.Common.{◌≡◌, ◌∙◌, ◌+◌, ◌≤◌, ◌<◌, ◌++◌, true, Some, List, length, get_or, take, drop, ap, sym, arith, length-set}
 use Rattle.std.proofs.lemmas.Bool.{ltb-true}
 use Rattle.iscsi_tasks.specs.Sets.{Members, opened}
 use Rattle.iscsi_commands.specs.declared.live.Live.{Live}
@@ -10,10 +10,11 @@ use Rattle.iscsi_history.proofs.TraceLemmas.{weaker}
 use Rattle.iscsi_history.proofs.CountLemmas.{fewer}
 use Rattle.iscsi_session.proofs.FoundLemmas.{found_ticket}
 use Rattle.iscsi_session.proofs.KeptLemmas.{enabled_found, enabled_covered}
-use Rattle.iscsi_session.proofs.LeavingParts.{ungiven_in-staying, rises, one_live, one_leaves}
-use Rattle.iscsi_session.proofs.LeftSound.{sets_written, left_sound}
+use Rattle.iscsi_session.proofs.KeptLemmas.{ungiven_in-staying, rises, one_live, one_leaves}
+use Rattle.iscsi_session.proofs.SoundLemmas.{sets_written, left_sound}
 use Rattle.iscsi_session.proofs.session.Session.leave_enabled.Goals as goal
 use Rattle.iscsi_session.proofs.session.Session.leave_enabled.Goals.{In-Some, After-end_command}
+use Rattle.std.proofs.lemmas.Bool.Decides.{nat_tests}
 
 -- the command that leaves, as the session keeps it
 record Found (sets : List Members) (lives : List Live) (l : Live) : Type 0 where
@@ -24,29 +25,14 @@ record Found (sets : List Members) (lives : List Live) (l : Live) : Type 0 where
 
 -- each live command has a unit of the session
 pub take_enabled-requires : goal.take_enabled-requires
-take_enabled-requires c =
-    record { units = rw c.deref_mut.ensures.value (weaker (λ (l : Live). nat_le l.ticket c.self.inside.entered && nat_lt l.unit (length c.self.inside.sets.items)) (λ l. nat_lt l.unit (length c.self.inside.sets.items)) c.self.inside.live.items (λ l h. and_second _ _ h) c.self.invariant.commands.within) }
+take_enabled-requires c = grind (arith, nat_tests, weaker, and_second)
 
 -- it is the one that is looked for
 found_it : (c : In-Some) → enabled_in c.self.inside.sets.items c.self.inside.live.items c.args.ticket ≡ Some c.in-Some.command
 found_it c = sym (rw c.deref_mut.ensures.value at c.take_enabled.ensures.command) ∙ c.in-Some.is
 
 command : (c : In-Some) → Found c.self.inside.sets.items c.self.inside.live.items c.in-Some.command
-command c =
-    let l : Live = c.in-Some.command in
-    let lives : List Live = c.self.inside.live.items in
-    let sets : List Members = c.self.inside.sets.items in
-    let k : ℕ = c.args.ticket in
-    let there = enabled_found sets k (find_ticket k lives) l (found_it c) in
-    let named = found_ticket k lives l there in
-    let here : find_ticket l.ticket lives ≡ Some l = ap (λ n. find_ticket n lives) named ∙ there in
-    let test : nat_lt l.unit (length sets) ≡ true = and_second _ _ (find-passes (λ (x : Live). x.ticket == k) (λ (x : Live). nat_le x.ticket c.self.inside.entered && nat_lt x.unit (length sets)) lives l c.self.invariant.commands.within there) in
-    record {
-      found = here;
-      inside = ltb-true l.unit (length sets) test;
-      covered = rw named (enabled_covered sets k (find_ticket k lives) l (found_it c));
-      left = fewer (λ (x : Live). x.ticket == l.ticket) lives l here;
-    }
+command c = grind (arith, nat_tests, enabled_found, found_it, found_ticket, and_second, find-passes, ltb-true, enabled_covered, fewer)
 
 pub end_command-requires-clause-there : goal.end_command-requires-clause-there
 end_command-requires-clause-there c = (command (goal.at.end_command-requires-clause-there c).In-Some).found
@@ -60,9 +46,6 @@ live_are c f = c.end_command.ensures.live ∙ rw f.covered at (one_live c.in-Som
 
 window_is : (c : After-end_command) → (f : Found c.self.inside.sets.items c.self.inside.live.items c.in-Some.command) → c.end_command.new.window ≡ finished_by c.self.inside.window c.self.inside.live.items (staying (covers_ticket c.in-Some.command.ticket) (get_or c.self.inside.sets.items c.in-Some.command.unit (opened 0)) c.self.inside.live.items)
 window_is c f = c.end_command.ensures.window ∙ ap (finished_by c.self.inside.window c.self.inside.live.items) (sym c.end_command.ensures.live ∙ live_are c f)
-
-pub push_reserved-requires : goal.push_reserved-requires
-push_reserved-requires c = omega (arith, c.requires.room, (command (goal.at.push_reserved-requires c).In-Some).left, ap (λ (x : Core). owed x.live x.sets) c.self.view_is)
 
 pub invariant_of-self-2 : goal.invariant_of-self-2
 invariant_of-self-2 c =

@@ -1,11 +1,12 @@
-use Rattle.std.proofs.Common.{◌≡◌, ◌∙◌, ◌<◌, ◌++◌, length, take, drop, get_or, set, ap, sym, arith}
+use Rattle.std.proofs.Common.{◌≡◌, ◌∙◌, ◌<◌, ◌++◌, length, take, drop, get_or, set, ap, arith}
 use Rattle.iscsi_tasks.specs.Sets.{opened}
 use Rattle.iscsi_session.specs.private.Standing.{Core}
 use Rattle.iscsi_session.specs.private.Steps.{set_staying, staying, covers_ticket, has_covered, ungiven_in, owed}
-use Rattle.iscsi_session.proofs.LeavingParts.{ungiven_in-staying, rises, one_found, one_live, one_leaves}
-use Rattle.iscsi_session.proofs.LeftSound.{sets_written, left_sound}
+use Rattle.iscsi_session.proofs.KeptLemmas.{ungiven_in-staying, rises, one_found, one_live, one_leaves}
+use Rattle.iscsi_session.proofs.SoundLemmas.{sets_written, left_sound}
 use Rattle.iscsi_session.proofs.session.Session.leave_one.Goals.{After-dequeue_one-is_there}
 use Rattle.iscsi_session.proofs.session.Session.leave_one.Goals as goal
+use Rattle.std.proofs.lemmas.Bool.Decides.{nat_tests}
 
 inside : (c : After-dequeue_one-is_there) → c.args.unit < length c.self.inside.sets.items
 inside c = rw (← c.self.view_is) at c.requires.unit
@@ -20,9 +21,7 @@ sets_are : (c : After-dequeue_one-is_there) → take c.self.inside.sets.len (c.d
 sets_are c = sets_written c.args.unit c.self.inside.sets.len (covers_ticket c.args.ticket) c.self.inside.sets.items c.dequeue_one-is_there.new.sets c.self.inside.sets.ok.0 (rw c.deref_mut.ensures.value at c.dequeue_one-is_there.ensures.sets)
 
 pub end_one-requires-clause-there : goal.end_one-requires-clause-there
-end_one-requires-clause-there c = λ on.
-    let d = (goal.at.end_one-requires-clause-there c).After-dequeue_one-is_there in
-    one_found c.args.ticket c.args.unit (get_or c.self.inside.sets.items c.args.unit (opened 0)) c.self.inside.live.items (c.self.invariant.commands.in_sets c.args.unit (inside d)) (sym (there d) ∙ on)
+end_one-requires-clause-there c = grind (arith, nat_tests, one_found, inside)
 
 live_are : (c : goal.After-end_one) → c.end_one.new.live.items ≡ staying (covers_ticket c.args.ticket) (get_or c.self.inside.sets.items c.args.unit (opened 0)) c.self.inside.live.items
 live_are c = c.end_one.ensures.live ∙ rw (there (goal.at.returns c).After-dequeue_one-is_there) (one_live c.args.ticket (get_or c.self.inside.sets.items c.args.unit (opened 0)) c.self.inside.live.items)

@@ -7,7 +7,7 @@ use Rattle.iscsi_session.specs.private.Standing.{Core, is_held}
 use Rattle.iscsi_session.specs.private.Deeds.{Fits, most_emptied}
 use Rattle.iscsi_session.proofs.DeedLemmas.{fits_arrival, ready}
 use Rattle.iscsi_session.proofs.LoggedOutLemmas.{Stays}
-use Rattle.iscsi_session.proofs.PaceLemmas.{at_once_stays, immediate_is}
+use Rattle.iscsi_session.proofs.DeedLemmas.{at_once_stays, immediate_is}
 use Rattle.iscsi_session.proofs.session.Session.receive_immediate.Goals as goal
 use Rattle.iscsi_session.proofs.session.Session.receive_immediate.Goals.{After-decide_arrival}
 

@@ -4,11 +4,11 @@ use Rattle.iscsi_window.specs.declared.answer.Offer.TheVariants.{Held}
 use Rattle.iscsi_window.specs.Windows.{offer_to, is_next}
 use Rattle.iscsi_session.specs.private.Standing.{Core}
 use Rattle.iscsi_session.proofs.AgreeLemmas.{handled}
-use Rattle.iscsi_session.proofs.ArriveLemmas.{offered_known, carried_at_once, held_handled}
+use Rattle.iscsi_session.proofs.AgendaLemmas.{offered_known, carried_at_once, held_handled}
 use Rattle.iscsi_session.specs.private.Steps.{KeepsPace, with_offered}
 use Rattle.iscsi_session.specs.private.Deeds.{turn_taken, comes_next}
 use Rattle.iscsi_session.proofs.WindowLemmas.{held_now, comes_alone, comes_first, Delivered, delivered}
-use Rattle.iscsi_session.proofs.PaceLemmas.{pace-turned, turned_taken}
+use Rattle.iscsi_session.proofs.DeedLemmas.{pace-turned, turned_taken}
 use Rattle.iscsi_session.proofs.session.Session.receive_numbered.Goals as goal
 
 is_next_of : (s : Core) (r : Request) → comes_next s r ≡ true → is_next s.window r ≡ true

@@ -1,7 +1,5 @@
-use Rattle.std.proofs.Common.{◌∙◌, refl, ap, sym, subst, vec_capacity}
+use Rattle.std.proofs.Common.{refl, sym, subst, vec_capacity}
 use Rattle.iscsi_connections.specs.Connected.{Connected}
-use Rattle.iscsi_session.specs.private.Standing.{Core}
-use Rattle.iscsi_session.specs.private.Steps.{count_reply}
 use Rattle.iscsi_session.specs.private.Invariant.{Inner, IsSessionSound}
 use Rattle.iscsi_session.proofs.SoundLemmas.{replied_sound}
 use Rattle.iscsi_session.proofs.session.Session.reply.Goals as goal
@@ -11,12 +9,3 @@ invariant_of-self c =
     let old : Inner = record { window = c.self.inside.window; events = c.self.inside.events; conns = c.self.inside.connections.conns; entered = c.self.inside.entered; taken = c.self.inside.taken; live = c.self.inside.live.items; immediate = c.self.inside.connections.immediate; sets = c.self.inside.sets.items; waiting = c.self.inside.waiting.items; live_room = c.self.inside.live.room; waiting_room = c.self.inside.waiting.room; left_room = vec_capacity c.self.inside.left } in
     subst (λ (x : Connected). IsSessionSound (record old { conns = x.conns; immediate = x.immediate })) (sym c.assign_stat_sn-stat_sn.ensures.state)
     (replied_sound c.self.invariant c.args.conn refl)
-
-pub returns-clause-done : goal.returns-clause-done
-returns-clause-done c =
-    let old : Core = record { window = c.self.inside.window; events = c.self.inside.events; conns = c.self.inside.connections.conns; entered = c.self.inside.entered; taken = c.self.inside.taken; live = c.self.inside.live.items; sets = c.self.inside.sets.items; level = c.self.inside.level; waiting = c.self.inside.waiting.items; open_conns = c.self.inside.connections.open_conns } in
-    record {
-      core = ap (λ (x : Connected). record old { conns = x.conns; open_conns = x.open_conns }) c.assign_stat_sn-stat_sn.ensures.state ∙ ap (λ (s : Core). record s { conns = count_reply c.args.conn s.conns }) c.self.view_is;
-      effects = c.push_reserved.ensures.items ∙ rw (c.assign_stat_sn-stat_sn.ensures.number, ← c.self.view_is);
-      room = c.push_reserved.ensures.capacity;
-    }

@@ -1,11 +1,11 @@
-use Rattle.std.proofs.Common.{◌∙◌, ap, sym, subst, refl, arith, count_by}
+use Rattle.std.proofs.Common.{◌∙◌, ap, sym, refl, arith, count_by}
 use Rattle.iscsi_window.specs.Windows.{at_place}
 use Rattle.iscsi_session.specs.private.Standing.{Core, is_held}
-use Rattle.iscsi_session.specs.private.Steps.{KeepsPace}
 use Rattle.iscsi_session.proofs.AgendaLemmas.{Due, whole_of, Due-start, Due-functions, turned-one}
-use Rattle.iscsi_session.proofs.ArriveLemmas.{turns_done}
-use Rattle.iscsi_session.proofs.PaceLemmas.{same_expected, pace-turned, turned_taken}
+use Rattle.iscsi_session.proofs.AgendaLemmas.{turns_done}
+use Rattle.iscsi_session.proofs.DeedLemmas.{same_expected, pace-turned, turned_taken}
 use Rattle.iscsi_session.proofs.session.Session.run_agenda.Goals as goal
+use Rattle.std.proofs.lemmas.Bool.Decides.{nat_tests}
 
 pub loop-self-preserved : goal.loop-self-preserved
 loop-self-preserved c =
@@ -19,9 +19,7 @@ loop-self-preserved c =
           let due : Due o t out whole c.deliver_next.new.self c.deliver_next.new.out.items =
           rw (x.core, x.effects) (turned-one o t out whole s c.loop-self.out.items p refl (sym c.deliver_next.ensures.answer ∙ c.loop-self-test.true) (inv.due o t out whole d)) in
           Due-functions o t out whole c.deliver_next.new.self c.execute_waiting-in-loop-self.new.self c.deliver_next.new.out.items c.execute_waiting-in-loop-self.new.out.items due (same_expected c.deliver_next.new.self.window c.execute_waiting-in-loop-self.new.self.window f.first f.turned) f.items;
-      pace =
-          let one : KeepsPace s.window c.deliver_next.new.self.window = subst (λ (v : Core). KeepsPace s.window v.window) (sym c.deliver_next.ensures.done.core) (pace-turned s) in
-          omega (arith, one, f.pace, inv.pace);
+      pace = grind (arith, nat_tests, pace-turned);
       taken = f.taken ∙ ap (λ (v : Core). v.taken) c.deliver_next.ensures.done.core ∙ turned_taken s p ∙ inv.taken;
       spent = omega (arith, c.deliver_next.ensures.spent, c.deliver_next.ensures.waiting, f.spent, ap (count_by is_held) f.places, inv.spent);
       capacity = f.capacity ∙ c.deliver_next.ensures.done.room ∙ inv.capacity;

@@ -11,11 +11,11 @@ use Rattle.iscsi_session.specs.private.Standing.{Core, StandsFor}
 use Rattle.iscsi_session.specs.private.Steps.{refusal_by, KeepsPace, Handles}
 use Rattle.iscsi_history.specs.promises.Flow.{Flows, HasOneMore}
 use Rattle.iscsi_history.specs.rules.Agenda.{items_of}
-use Rattle.iscsi_session.proofs.FlowLemmas.{Flows-step}
+use Rattle.iscsi_session.proofs.PromiseLemmas.{Flows-step}
 use Rattle.iscsi_history.proofs.RunLemmas.{trace_of-push}
 use Rattle.iscsi_session.proofs.OwedLemmas.{owed_few}
 use Rattle.iscsi_session.proofs.AgreeLemmas.{settled_numbers}
-use Rattle.iscsi_session.proofs.StepLemmas.{Settled-counted, taken_by, refusal_is}
+use Rattle.iscsi_session.proofs.AgendaLemmas.{Settled-counted, taken_by, refusal_is}
 use Rattle.iscsi_session.proofs.OpenLemmas.{bound_is}
 use Rattle.iscsi_session.proofs.SoundLemmas.{taken_sound}
 use Rattle.iscsi_history.proofs.AbortTheorem.{aborts_hold_in}

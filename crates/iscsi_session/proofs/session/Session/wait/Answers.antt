@@ -1,9 +1,6 @@
-use Rattle.std.proofs.Common.{◌≡◌, ◌<◌, ◌+◌, ◌-◌, ◌∙◌, nat_lt, true, refl, ap, arith, ℕ}
+use Rattle.std.proofs.Common.{◌≡◌, ◌<◌, ◌+◌, ◌-◌, nat_lt, true, refl, ap, arith}
 use Rattle.std.proofs.lemmas.Bool.Decides.{nat_tests}
 use Rattle.std.proofs.lemmas.List.Folds.{list_all-append}
-use Rattle.iscsi_wire.specs.Serial.{lift, number_of_first}
-use Rattle.iscsi_wire.specs.Fields.{cmd_sn}
-use Rattle.iscsi_window.specs.Windows.{number_expected}
 use Rattle.iscsi_slots.specs.Queued.{Queued}
 use Rattle.iscsi_session.specs.declared.session.waiting.Waiting.{Waiting}
 use Rattle.iscsi_session.specs.private.Deeds.{FitsWait}
@@ -12,7 +9,6 @@ use Rattle.iscsi_session.proofs.SoundLemmas.{functions_sound}
 use Rattle.iscsi_session.specs.contracts.session.Session.{the_view}
 use Rattle.iscsi_session.proofs.session.Session.wait.Goals as goal
 use Rattle.iscsi_session.proofs.session.Session.wait.Goals.{After-exp}
-use Rattle.iscsi_history.proofs.NumberLemmas.{ahead_by}
 
 waits_later : (c : After-exp) → FitsWait (the_view c.self.inside) c.args.request
 waits_later c = rw (← c.self.view_is) at c.requires.later
@@ -35,7 +31,6 @@ invariant_of-self c =
     let w = waits_one here (record { request = c.args.request; turn = c.turned.result + c.from.result; event = c.self.inside.taken - 1 }) refl in
     let items = ap (λ (q : Queued Waiting). q.items) c.push.ensures in
     let some : 0 < c.self.inside.taken = rw (← c.self.view_is) at c.requires.taken in
-    let lt : c.self.inside.taken - 1 < c.self.inside.taken = omega (arith, some) in
     let before : nat_lt (c.self.inside.taken - 1) c.self.inside.taken ≡ true = grind (arith, nat_tests) in
     functions_sound inv (record {
       before = rw (items, list_all-append, inv.functions.before, before);
@@ -43,12 +38,3 @@ invariant_of-self c =
       may = rw (items, list_all-append, inv.functions.may, (waits_later here).may);
       few = λ cid. rw items (w.few cid);
     }) (omega (arith, ap (λ (q : Queued Waiting). q.room) c.push.ensures))
-
-pub returns-clause-done : goal.returns-clause-done
-returns-clause-done c =
-    let r = c.args.request in
-    let e : ℕ = number_expected c.self.inside.window in
-    let l = waits_later (goal.at.returns-clause-done c).After-exp in
-    let ahead : c.from.result ≡ lift e (cmd_sn r) - e = c.from.ensures ∙ rw (c.cmd_sn.ensures, c.exp.ensures) (ahead_by e (cmd_sn r) (omega arith) l.ahead) in
-    let turn : c.turned.result + c.from.result ≡ lift e (cmd_sn r) - number_of_first c.self.inside.window.first = omega (arith, ahead, c.turned.ensures, l.ahead) in
-    record { core = rw (← c.self.view_is, c.push.ensures, turn); effects = c.push_reserved.ensures.items; room = c.push_reserved.ensures.capacity }

@@ -1,24 +1,17 @@
-use Rattle.std.proofs.Common.{◌≡◌, ◌∙◌, ◌<◌, ◌==◌, true, Some, length, nat_lt, get_or, ap, sym, arith}
+use Rattle.std.proofs.Common.{◌≡◌, ◌∙◌, ◌<◌, length, get_or, ap, arith}
 use Rattle.std.proofs.lemmas.Bool.{ltb-true}
 use Rattle.std.proofs.lemmas.List.{get_or_default}
-use Rattle.iscsi_tasks.specs.Sets.{Members, opened, is_enabled_in}
-use Rattle.iscsi_commands.specs.declared.live.Live.{Live}
-use Rattle.iscsi_session.specs.private.Steps.{find_ticket}
+use Rattle.iscsi_tasks.specs.Sets.{Members, opened}
 use Rattle.iscsi_history.proofs.ListLemmas.{find-passes}
-use Rattle.iscsi_session.proofs.LeavingParts.{one_leaving}
+use Rattle.iscsi_session.proofs.KeptLemmas.{one_leaving}
 use Rattle.iscsi_session.proofs.FoundLemmas.{found_ticket}
 use Rattle.iscsi_session.proofs.session.completion.take_enabled.Goals as goal
 use Rattle.iscsi_session.proofs.session.completion.take_enabled.Goals.{After-from}
-
--- the command is the one with the ticket
-found : (c : After-from) → find_ticket c.args.ticket c.args.live.now.items ≡ Some c.in_ok-command.field-0.command
-found c = sym c.in_ok-command.ensures.command
+use Rattle.std.proofs.lemmas.Bool.Decides.{nat_tests}
 
 -- its unit has a set
 within : (c : After-from) → c.in_ok-command.field-0.command.unit < length c.args.sets.now
-within c =
-    let l : Live = c.in_ok-command.field-0.command in
-    ltb-true l.unit (length c.args.sets.now) (find-passes (λ (x : Live). x.ticket == c.args.ticket) (λ (x : Live). nat_lt x.unit (length c.args.sets.now)) c.args.live.now.items l c.requires.units (found c))
+within c = grind (arith, nat_tests, ltb-true, find-passes)
 
 pub bounds-sets-from : goal.bounds-sets-from
 bounds-sets-from c = omega (arith, within (goal.at.bounds-sets-from c).After-from, c.from.ensures)
@@ -28,14 +21,7 @@ set_is : (c : After-from) (d : Members) → get_or c.args.sets.now c.from.result
 set_is c d = ap (λ i. get_or c.args.sets.now i d) c.from.ensures ∙ get_or_default c.args.sets.now c.in_ok-command.field-0.command.unit d (opened 0) (within c)
 
 pub returns-then-leave_enabled-clause-command : goal.returns-then-leave_enabled-clause-command
-returns-then-leave_enabled-clause-command c =
-    let f : After-from = (goal.at.returns-then-leave_enabled-clause-command c).After-from in
-    let enabled : is_enabled_in c.args.ticket (get_or c.args.sets.now c.in_ok-command.field-0.command.unit (opened 0)).list ≡ true = rw (set_is f c.index-sets-from.result) at (sym c.leave_enabled.ensures.answer ∙ c.if-leave_enabled.true) in
-    rw (found f, enabled)
+returns-then-leave_enabled-clause-command c = grind (arith, nat_tests, After-from, set_is)
 
 pub returns-then-leave_enabled-clause-sets : goal.returns-then-leave_enabled-clause-sets
-returns-then-leave_enabled-clause-sets c =
-    let f : After-from = (goal.at.returns-then-leave_enabled-clause-sets c).After-from in
-    let l : Live = c.in_ok-command.field-0.command in
-    let named : l.ticket ≡ c.args.ticket = found_ticket c.args.ticket c.args.live.now.items l (found f) in
-    rw (c.leave_enabled.ensures.left c.if-leave_enabled.true, set_is f c.index-sets-from.result, c.from.ensures, named, (one_leaving c.args.ticket (get_or c.args.sets.now l.unit (opened 0))).0)
+returns-then-leave_enabled-clause-sets c = grind (arith, nat_tests, After-from, found_ticket, set_is, one_leaving)

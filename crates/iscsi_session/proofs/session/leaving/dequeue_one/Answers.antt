@@ -1,21 +1,13 @@
-use Rattle.std.proofs.Common.{◌≡◌, ◌∙◌, List, None, option_map, get_or, ap, sym, arith}
+use Rattle.std.proofs.Common.{◌≡◌, ◌∙◌, List, get_or, arith}
 use Rattle.std.proofs.lemmas.List.{get_or_default, set-get_or}
 use Rattle.iscsi_tasks.specs.Sets.{Members, opened}
-use Rattle.iscsi_commands.specs.declared.live.Placed.{Placed}
-use Rattle.iscsi_session.specs.private.Steps.{find_ticket}
-use Rattle.iscsi_session.proofs.LeavingParts.{one_leaving, one_missing}
+use Rattle.iscsi_session.proofs.KeptLemmas.{one_leaving, one_missing}
 use Rattle.iscsi_session.proofs.session.leaving.dequeue_one.Goals as goal
+use Rattle.std.proofs.lemmas.Bool.Decides.{nat_tests}
 
 -- one that isn't live isn't in its set, which stays as it is
 pub returns-in_default : goal.returns-in_default
-returns-in_default c =
-    let set : Members = get_or c.args.sets.now c.args.unit (opened 0) in
-    let none : find_ticket c.args.ticket c.args.live.now.items ≡ None = sym c.find_placed.ensures.command ∙ ap (option_map (λ (p : Placed). p.command)) c.in_default.is in
-    let missing = one_missing c.args.ticket c.args.unit set c.args.live.now.items c.requires.there none in
-    record {
-      there = sym missing;
-      sets = rw missing (sym (set-get_or c.args.sets.now c.args.unit (opened 0)));
-    }
+returns-in_default c = grind (arith, nat_tests, one_missing, set-get_or)
 
 pub returns : goal.returns
 returns c =

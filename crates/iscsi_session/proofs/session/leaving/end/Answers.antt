@@ -4,9 +4,6 @@ use Rattle.iscsi_session.proofs.FoundLemmas.{found_ticket}
 use Rattle.iscsi_session.proofs.session.leaving.end.Goals.{After-unwrap-command}
 use Rattle.iscsi_session.proofs.session.leaving.end.Goals as goal
 
-pub unwrap-command-requires : goal.unwrap-command-requires
-unwrap-command-requires c = rw c.find.ensures.command c.requires.there
-
 -- the command is the one with the ticket
 found : (c : After-unwrap-command) → find_ticket c.args.ticket c.args.live.now.items ≡ Some c.unwrap-command.result
 found c = sym c.find.ensures.command ∙ c.unwrap-command.ensures

@@ -1,23 +1,22 @@
-use Rattle.std.proofs.Common.{◌++◌, ◌∙◌, ◌<◌, ◌≤◌, ◌==◌, ℕ, not, List, length, count_by, get_or, append_assoc, ap, sym, arith, rules}
+use Rattle.std.proofs.Common.{◌∙◌, ◌<◌, ◌≤◌, ◌==◌, ℕ, not, List, length, count_by, get_or, append_assoc, ap, sym, arith, rules}
 use Rattle.std.specs.Prelude.{IsSome}
-use Rattle.std.proofs.lemmas.List.{append-nil, take_all}
+use Rattle.std.proofs.lemmas.List.{append-nil}
 use Rattle.iscsi_history.proofs.ListLemmas.{fewer_counted}
 use Rattle.iscsi_commands.specs.declared.live.Live.{Live}
-use Rattle.iscsi_session.specs.private.Steps.{find_ticket, without_ticket, is_numbered, finished_by, leave_each, without_tickets}
+use Rattle.iscsi_session.specs.private.Steps.{find_ticket, without_ticket, is_numbered}
 use Rattle.iscsi_session.proofs.KeptLemmas.{ascending-kept}
 use Rattle.iscsi_session.proofs.ListLemmas.{are_known-left}
-use Rattle.iscsi_session.proofs.LeavingParts.{without_none, without_more, leave_more, there_yet, finished_none, finished_on, without_shorter}
+use Rattle.iscsi_session.proofs.KeptLemmas.{without_none, without_more, leave_more, there_yet, finished_none, finished_on, without_shorter}
 use Rattle.iscsi_session.proofs.session.leaving.end_all.Goals.{In-loop-k}
 use Rattle.iscsi_session.proofs.session.leaving.end_all.Goals as goal
+use Rattle.std.proofs.lemmas.Bool.Decides.{nat_tests}
 
 pub loop-k-init : goal.loop-k-init
 loop-k-init c = search (rules, arith, sym (without_none c.args.live.now.items), sym (finished_none c.args.window.now c.args.live.now.items), sym (append-nil c.args.out.now.items))
 
 -- the command with the next ticket is still live
 still_live : (c : In-loop-k) → IsSome (find_ticket (get_or c.args.tickets.now c.loop-k.k 0) c.loop-k.live.items)
-still_live c =
-    let inside : c.loop-k.k < length c.args.tickets.now = c.loop-k-test.true in
-    rw c.loop-k.invariant.live (there_yet c.args.tickets.now c.loop-k.k 0 inside c.args.live.now.items c.requires.in_order (c.requires.there c.loop-k.k 0 inside))
+still_live c = grind (arith, nat_tests, there_yet)
 
 pub end-requires-clause-there : goal.end-requires-clause-there
 end-requires-clause-there c = still_live (goal.at.end-requires-clause-there c).In-loop-k
@@ -50,16 +49,3 @@ loop-k-preserved c =
       spent = omega (arith, ap length c.end.ensures.live, without_shorter ticket before there, inv.spent, c.push_reserved.ensures.len);
       capacity = c.push_reserved.ensures.capacity ∙ inv.capacity;
     }
-
--- at the end all came
-pub returns-clause-live : goal.returns-clause-live
-returns-clause-live c = c.loop-k.invariant.live ∙ ap (λ ts. without_tickets ts c.args.live.now.items) (take_all c.loop-k.k c.args.tickets.now (omega arith))
-
-pub returns-clause-window : goal.returns-clause-window
-returns-clause-window c = c.loop-k.invariant.window ∙ ap (finished_by c.args.window.now c.args.live.now.items) (returns-clause-live c)
-
-pub returns-clause-effects : goal.returns-clause-effects
-returns-clause-effects c = record {
-  items = c.loop-k.invariant.effects ∙ ap (λ ts. c.args.out.now.items ++ leave_each c.args.unit ts) (take_all c.loop-k.k c.args.tickets.now (omega arith));
-  room = c.loop-k.invariant.capacity;
-}

@@ -1,8 +1,7 @@
-use Rattle.std.proofs.Common.{◌≡◌, ◌<◌, ◌≤◌, ◌==◌, ◌∙◌, position, remove, length, get_or, [], Some, None, List, arith, ap, sym, nat_lt, true, false, refl, ◌+◌}
+use Rattle.std.proofs.Common.{◌≡◌, ◌<◌, ◌==◌, ◌∙◌, position, remove, length, get_or, [], Some, None, List, arith, ap, sym}
 use Rattle.std.proofs.lemmas.List.Quantifiers.{position-Some, all_pairs_remove}
 use Rattle.std.proofs.lemmas.Bool.{ltb-true, ltb-false}
 use Rattle.std.proofs.lemmas.List.Edits.{get_or-remove_below, get_or-remove_above, length-remove}
-use Rattle.std.specs.List.{All}
 use Rattle.std.specs.VecDeque.{deque_capacity}
 use Rattle.iscsi_slots.specs.Queued.{queued}
 use Rattle.iscsi_slots.proofs.SortedLemmas.{remove_is}
@@ -10,6 +9,7 @@ use Rattle.iscsi_history.proofs.PlaceLemmas.{found_there, found_nowhere}
 use Rattle.iscsi_session.specs.declared.session.waiting.Waiting.{Waiting}
 use Rattle.iscsi_session.proofs.session.waiting.Waitlist.take_first.Goals as goal
 use Rattle.iscsi_session.proofs.session.waiting.Waitlist.take_first.Goals.{In-Some}
+use Rattle.std.proofs.lemmas.Bool.Decides.{nat_tests}
 
 -- some function, for where a list is empty
 some_waiting : Waiting
@@ -47,16 +47,4 @@ returns-clause-first c =
 
 -- those behind the next turn stay so, in the order of their arrival
 pub invariant_of-self : goal.invariant_of-self
-invariant_of-self c =
-    let ws : List Waiting = c.self.inside.functions.items in
-    let here = (goal.at.invariant_of-self c).In-Some in
-    let items : c.take_at.new.waiting.items ≡ remove ws c.in-Some.at = c.take_at.ensures.items (omega (arith, within here, c.self.inside.functions.ok.0)) in
-    let lower : All (λ (w : Waiting). c.self.inside.next_turn ≤ w.turn) ws = c.self.invariant.none_before in
-    rw items (record {
-      none_before = λ k d lt.
-          elim (nat_lt k c.in-Some.at) as (λ b. nat_lt k c.in-Some.at ≡ b → c.self.inside.next_turn ≤ (get_or (remove ws c.in-Some.at) k d).turn) [
-            | true ↦ λ low. rw (get_or-remove_below ws c.in-Some.at d k (ltb-true k c.in-Some.at low) (within here)) (lower k d (omega (arith, ltb-true k c.in-Some.at low, within here)))
-            | false ↦ λ high. rw (get_or-remove_above ws c.in-Some.at d k (ltb-false k c.in-Some.at high) (within here)) (lower (k + 1) d (omega (arith, lt, length-remove ws c.in-Some.at (within here))))
-          ] refl;
-      in_order = all_pairs_remove (λ (a b : Waiting). a.event < b.event) ws c.in-Some.at (within here) c.self.invariant.in_order;
-    })
+invariant_of-self c = grind (arith, nat_tests, within, get_or-remove_below, ltb-true, get_or-remove_above, ltb-false, length-remove, all_pairs_remove)
