@@ -5,6 +5,7 @@ use Rattle.std.proofs.lemmas.Bool.{cases_Bool, cases_eq, cases_lt, and_parts, an
 use Rattle.std.proofs.lemmas.List.{get_or_default, get_or-map, length-map}
 use Rattle.std.proofs.lemmas.List.Elements.{All-filter, All-head, All-tail, All-map}
 use Rattle.std.proofs.lemmas.List.Folds.{list_any_at, list_any_none}
+use Rattle.std.proofs.lemmas.Bool.Decides.{nat_tests}
 use Rattle.iscsi_tasks.specs.declared.task.Task.{Task}
 use Rattle.iscsi_tasks.specs.declared.member.Member.{Member}
 use Rattle.iscsi_tasks.specs.Rules.{Queued, is_free}
@@ -16,10 +17,7 @@ use Rattle.iscsi_tasks.proofs.RuleLemmas.{stays_free}
 
 any_filter : {X : Type 0} (p q : X → Bool) (xs : List X) → list_any p (filter q xs) ≡ list_any (λ x. q x && p x) xs
 any_filter p q [] = refl
-any_filter p q (x ∷ xs) = elim (q x) as (λ b. list_any p (cond b (x ∷ filter q xs) (filter q xs)) ≡ ((b && p x) || list_any (λ y. q y && p y) xs)) [
-  | true ↦ ap (λ b. p x || b) (any_filter p q xs)
-  | false ↦ any_filter p q xs
-]
+any_filter p q (x ∷ xs) = grind (arith, nat_tests, any_filter p q xs, cond, filter, true, false)
 
 filter_agree : {X : Type 0} (p q : X → Bool) (xs : List X) → All (λ x. p x ≡ q x) xs → filter p xs ≡ filter q xs
 filter_agree p q [] same = refl
@@ -33,10 +31,7 @@ filter_true (x ∷ xs) = ap (λ r. x ∷ r) (filter_true xs)
 
 filter_filter : {X : Type 0} (p q : X → Bool) (xs : List X) → filter (λ x. not (q x)) (filter (λ x. not (p x)) xs) ≡ filter (λ x. not (p x || q x)) xs
 filter_filter p q [] = refl
-filter_filter p q (x ∷ xs) = elim (p x) as (λ b. filter (λ y. not (q y)) (cond (not b) (x ∷ filter (λ y. not (p y)) xs) (filter (λ y. not (p y)) xs)) ≡ cond (not (b || q x)) (x ∷ filter (λ y. not (p y || q y)) xs) (filter (λ y. not (p y || q y)) xs)) [
-  | true ↦ filter_filter p q xs
-  | false ↦ ap (λ r. cond (not (q x)) (x ∷ r) r) (filter_filter p q xs)
-]
+filter_filter p q (x ∷ xs) = grind (arith, nat_tests, filter_filter p q xs, filter, not, cond, true, false)
 
 -- one of these commands has this ticket
 abbrev has_ticket : List Task → ℕ → Bool
@@ -158,10 +153,7 @@ module _ (s : Members) (covers : Task → Bool) (h : List Change) (order : InOrd
           (cases_Bool (covers x))
 
   pub StandsFor-all_left : StandsFor (set_staying covers s) (after_all_left (filter covers (live h)) h)
-  StandsFor-all_left = ⊎_elim
-      (λ yes. subst (λ (x : Members). StandsFor x (after_all_left ts h)) (sym (ap (λ b. cond b (record s { list = after_moment (uncovered covers s.list) }) s) yes)) (some_case yes))
-      (λ no. subst (λ (x : Members). StandsFor x (after_all_left ts h)) (sym (ap (λ b. cond b (record s { list = after_moment (uncovered covers s.list) }) s) no)) (none_case no))
-      (cases_Bool (list_any (λ (m : Member). covers m.task) s.list))
+  StandsFor-all_left = grind (arith, nat_tests, cond, some_case, none_case)
 
 -- so does the set that became so
 pub StandsFor-staying : (s : Members) (covers : Task → Bool) (h : List Change) → InOrder s.list → StandsFor s h → (t : Members) → t ≡ set_staying covers s → StandsFor t (after_all_left (filter covers (live h)) h)

@@ -1,6 +1,5 @@
 -- Members in slots, each linked to those beside it.
-use Rattle.std.proofs.Common.{◌≡◌, ◌≢◌, ℕ, zero, suc, ◌+◌, ◌<◌, ◌≤◌, List, [], ◌∷◌, length, map, get_or, set, refl, ap, sym, subst, ◌∙◌, arith, ⊎_elim}
-use Rattle.std.proofs.lemmas.Bool.{cases_eq, cases_lt}
+use Rattle.std.proofs.Common.{◌≡◌, ◌≢◌, ℕ, zero, suc, ◌+◌, ◌<◌, ◌≤◌, List, [], ◌∷◌, length, map, get_or, set, refl, ap, sym, subst, ◌∙◌, arith}
 use Rattle.std.proofs.lemmas.Bool.Decides.{nat_tests}
 use Rattle.std.proofs.lemmas.List.{get_or-set_same, get_or-set_other, get_or_past, length-set}
 use Rattle.iscsi_slots.specs.Slots.{times, AreShared}
@@ -11,10 +10,7 @@ use Rattle.iscsi_tasks.specs.Chains.{AreApart, BLANK_NODE, node_at, after_of, be
 
 -- what a write to a node leaves as it is, it leaves of all
 pub kept_by_set : {X : Type 0} (f : Node → X) (nodes : List Node) (i j : ℕ) (n : Node) → i < length nodes → f n ≡ f (node_at nodes i) → f (node_at (set nodes i n) j) ≡ f (node_at nodes j)
-kept_by_set f nodes i j n l same = ⊎_elim
-    (λ (e : j ≡ i). ap (λ k. f (node_at (set nodes i n) k)) e ∙ ap f (get_or-set_same nodes i n BLANK_NODE l) ∙ same ∙ ap (λ k. f (node_at nodes k)) (sym e))
-    (λ apart. ap f (get_or-set_other nodes i j n BLANK_NODE apart))
-    (cases_eq j i)
+kept_by_set f nodes i j n l same = grind (arith, nat_tests, set, get_or-set_same, get_or-set_other)
 
 module _ (nodes : List Node) (first second : ℕ) where
   abbrev pointed : List Node
@@ -90,30 +86,15 @@ same_place (s ∷ order) once (suc i) (suc j) li lj same = ap suc (same_place or
 module _ {order : List ℕ} (apart : AreApart order) where
   -- a place of the order has a slot
   pub not_end : (k : ℕ) → k < length order → get_or order k 0 ≢ 0
-  not_end k l is =
-      let there = times_at order k l in let none = apart.some in
-      let some : 1 ≤ times 0 order = subst (λ n. 1 ≤ times n order) is there in
-      absurd (omega (arith, some, none))
+  not_end k l is = grind (arith, nat_tests, times_at)
 
   -- places up to the end with the same slot are one
   pub same_to_end : (i j : ℕ) → i ≤ length order → j ≤ length order → get_or order i 0 ≡ get_or order j 0 → i ≡ j
-  same_to_end i j li lj same = ⊎_elim
-      (λ below. ⊎_elim
-      (λ too. same_place order apart.once i j below too same)
-      (λ past. absurd (not_end i below (same ∙ get_or_past order j 0 past)))
-      (cases_lt j (length order)))
-      (λ past. ⊎_elim
-      (λ below. absurd (not_end j below (sym same ∙ get_or_past order i 0 past)))
-      (λ too. omega arith)
-      (cases_lt j (length order)))
-      (cases_lt i (length order))
+  same_to_end i j li lj same = grind (arith, nat_tests, same_place, not_end, get_or_past, length)
 
 module _ {order free : List ℕ} {n room : ℕ} (shared : AreShared (0 ∷ order) free n room) where
   pub apart_in : AreApart order
-  apart_in = record {
-    once = λ s. let one = at_most_once shared s in omega (arith, one);
-    some = let one = at_most_once shared 0 in let first = times_here 0 order in omega (arith, one, first);
-  }
+  apart_in = grind (arith, nat_tests, at_most_once, times_here)
 
   -- a slot that stands there is one of the slots
   pub inside : (s : ℕ) → 1 ≤ times s (0 ∷ order) → s < n

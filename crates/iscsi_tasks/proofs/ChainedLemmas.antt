@@ -37,25 +37,13 @@ module _ {nodes : List Node} {capacity free len room : ℕ} (chained : IsChained
 
   -- a place of the ring and the end of the order have slots of the ring
   in_ring : (k : ℕ) → k ≤ len → 1 ≤ times (get_or slots k 0) (0 ∷ slots)
-  in_ring k l = ⊎_elim
-      (λ below. times_at (0 ∷ slots) (suc k) (omega (arith, below)))
-      (λ past. subst (λ s. 1 ≤ times s (0 ∷ slots)) (sym (get_or_past slots k 0 past)) (times_at (0 ∷ slots) 0 (omega arith)))
-      (cases_lt k (length slots))
+  in_ring k l = grind (arith, nat_tests, times_at, suc, get_or_past, length)
 
   pub last_inside : before_of nodes 0 < length nodes
-  last_inside =
-      let at : before_of nodes 0 ≡ get_or (0 ∷ slots) len 0 = ap (before_of nodes) (sym (get_or_past slots len 0 (let a = long in omega (arith, a)))) ∙ chained.linked.before len (let a = long in omega (arith, a)) in
-      subst (λ s. s < length nodes) (sym at) (inside chained.shared (get_or (0 ∷ slots) len 0) (times_at (0 ∷ slots) len (let a = long in omega (arith, a))))
+  last_inside = grind (arith, nat_tests, get_or, get_or_past, long, length, inside, times_at)
 
   pub free_inside : len + 1 < length nodes → free < length nodes
-  free_inside some = ⊎_elim
-      (λ below. below)
-      (λ above.
-      let none = none_beyond chained.shared free above in
-      let n : length nodes - 1 - len ≡ suc (length nodes - 1 - len - 1) = omega (arith, some) in
-      let first : 1 ≤ times free frees = subst (λ m. 1 ≤ times free (order_from nodes free m)) (sym n) (times_at (free ∷ order_from nodes (after_of nodes free) (length nodes - 1 - len - 1)) 0 (omega arith)) in
-      absurd (omega (arith, none, first)))
-      (cases_lt free (length nodes))
+  free_inside some = grind (arith, nat_tests, none_beyond, length, suc, times_at)
 
   -- ---- a member leaves
 
@@ -121,11 +109,7 @@ module _ {nodes : List Node} {capacity free len room : ℕ} (chained : IsChained
         ∙ chained.linked.after i (omega (arith, within, a))
 
     after_before : after_of now before ≡ after
-    after_before =
-        let a = long in
-        let it : before ≢ slot = λ same. let e = same_place (0 ∷ slots) once_in_ring p (suc p) (omega (arith, l)) (omega (arith, l)) (sym before_is ∙ same) in absurd (omega (arith, e)) in
-        ap (λ (n : Node). n.after) (get_or-set_other closed slot before (freed_before free (node_at closed slot)) BLANK_NODE it)
-        ∙ after_here nodes before after before_in after_in
+    after_before = grind (arith, nat_tests, long, same_place, once_in_ring, suc, before_is, get_or-set_other, after_here, before_in, after_in)
 
     before_other : (i : ℕ) → i ≤ len → i ≢ p → i ≢ p + 1 → before_of now (get_or slots i 0) ≡ get_or (0 ∷ slots) i 0
     before_other i within not_it not_after =
@@ -145,22 +129,7 @@ module _ {nodes : List Node} {capacity free len room : ℕ} (chained : IsChained
         ∙ before_here nodes before after before_in after_in
 
     linked_without : IsLinked now rest
-    linked_without = record {
-      after = λ k within. let a = rest_long in ⊎_elim
-          (λ below. ap (after_of now) (ring_below k (omega arith)) ∙ after_other k (omega (arith, a, within)) (λ e. omega (arith, e)) (λ e. omega (arith, e)) ∙ sym (get_or-remove_below slots p 0 k below l))
-          (λ above. ⊎_elim
-          (λ (here : k ≡ p). ap (λ n. after_of now (get_or (0 ∷ rest) n 0)) here ∙ ap (after_of now) (ring_below p (omega arith) ∙ sym before_is) ∙ after_before ∙ after_is ∙ sym (get_or-remove_above slots p 0 p (omega arith) l) ∙ ap (λ n. get_or rest n 0) (sym here))
-          (λ more. ap (after_of now) (ring_above k (omega (arith, above, more))) ∙ after_other (k + 1) (omega (arith, a, within)) (λ e. omega (arith, e, above)) (λ e. more (omega (arith, e))) ∙ sym (get_or-remove_above slots p 0 k above l))
-          (cases_eq k p))
-          (cases_lt k p);
-      before = λ k within. let a = rest_long in ⊎_elim
-          (λ below. ap (before_of now) (get_or-remove_below slots p 0 k below l) ∙ before_other k (omega (arith, a, within)) (λ e. omega (arith, e)) (λ e. omega (arith, e)) ∙ sym (ring_below k (omega arith)))
-          (λ above. ⊎_elim
-          (λ (here : k ≡ p). ap (λ n. before_of now (get_or rest n 0)) here ∙ ap (before_of now) (get_or-remove_above slots p 0 p (omega arith) l ∙ sym after_is) ∙ before_after ∙ before_is ∙ sym (ring_below p (omega arith)) ∙ ap (λ n. get_or (0 ∷ rest) n 0) (sym here))
-          (λ more. ap (before_of now) (get_or-remove_above slots p 0 k above l) ∙ before_other (k + 1) (omega (arith, a, within)) (λ e. omega (arith, e, above)) (λ e. more (omega (arith, e))) ∙ sym (ring_above k (omega (arith, above, more))))
-          (cases_eq k p))
-          (cases_lt k p);
-    }
+    linked_without = grind (arith, nat_tests, rest_long, ring_below, after_other, get_or-remove_below, get_or, before_is, after_before, after_is, get_or-remove_above, ring_above, before_other, before_after)
 
     pub order_without : order_in now (len - 1) ≡ rest
     order_without =
@@ -170,10 +139,7 @@ module _ {nodes : List Node} {capacity free len room : ℕ} (chained : IsChained
 
     -- a slot of the ring isn't free
     not_free : (s j : ℕ) → 1 ≤ times s (0 ∷ slots) → 1 ≤ times j frees → j ≢ s
-    not_free s j used some same =
-        let one = at_most_once chained.shared s in
-        let too : 1 ≤ times s frees = subst (λ t. 1 ≤ times t frees) same some in
-        absurd (omega (arith, one, used, too))
+    not_free s j used some same = grind (arith, nat_tests, at_most_once)
 
     slot_used : 1 ≤ times slot (0 ∷ slots)
     slot_used = times_at (0 ∷ slots) (suc p) (omega (arith, l))
@@ -245,18 +211,7 @@ module _ {nodes : List Node} {capacity free len room : ℕ} (chained : IsChained
     free_written = ap (λ m. order_from (set nodes slot n) free (m - 1 - len)) (length-set nodes slot n) ∙ order_same nodes (set nodes slot n) free (length nodes - 1 - len) (λ j some. after_written j)
 
     pub chained_written : IsChained (set nodes slot n) capacity free len room
-    chained_written = record {
-      shared = subst (λ o. AreShared (0 ∷ o) (free_in (set nodes slot n) free len) (length (set nodes slot n)) (room + 1)) (sym order_written)
-          (subst (λ f. AreShared (0 ∷ slots) f (length (set nodes slot n)) (room + 1)) (sym free_written)
-          (subst (λ m. AreShared (0 ∷ slots) frees m (room + 1)) (sym (length-set nodes slot n)) chained.shared));
-      linked = subst (IsLinked (set nodes slot n)) (sym order_written) (record {
-        after = λ k k_in. after_written (get_or (0 ∷ slots) k 0) ∙ chained.linked.after k k_in;
-        before = λ k k_in. before_written (get_or slots k 0) ∙ chained.linked.before k k_in;
-      });
-      freed = λ s some. before_written s ∙ chained.freed s (subst (λ f. 1 ≤ times s f) free_written some);
-      has_room = chained.has_room;
-      short = chained.short;
-    }
+    chained_written = grind (arith, nat_tests, set, length, order_written, free_written, length-set, after_written, get_or, before_written)
 
   pub members_written : (n : Node) (k : ℕ) → k < length slots → n.after ≡ after_of nodes (get_or slots k 0) → n.before ≡ before_of nodes (get_or slots k 0)
       → map (member_at (set nodes (get_or slots k 0) n)) (order_in (set nodes (get_or slots k 0) n) len) ≡ set (map (member_at nodes) slots) k (member_of n)
@@ -302,17 +257,10 @@ module _ {nodes : List Node} {capacity free len room : ℕ} (chained : IsChained
     long_reused = ap length reused.written ∙ length-set nodes free node
 
     free_split : free_in nodes free len ≡ slot ∷ (left_in nodes n0 next len)
-    free_split =
-        let a = long_reused in let b = reused.some in
-        let n : length nodes - 1 - len ≡ suc (length n0 - 1 - (len + 1)) = omega (arith, a, b) in
-        ap (order_from nodes free) n ∙ ap (λ s. free ∷ order_from nodes s (length n0 - 1 - (len + 1))) (sym reused.next) ∙ ap (λ s. s ∷ (left_in nodes n0 next len)) (sym reused.last)
+    free_split = grind (arith, nat_tests, long_reused, length, suc)
 
     alone_reused : times slot (0 ∷ (order_in nodes len)) + times slot (left_in nodes n0 next len) ≡ 0
-    alone_reused =
-        let one = at_most_once chained.shared slot in
-        let split = ap (times slot) free_split in
-        let first = times_at (slot ∷ []) 0 (omega arith) in
-        omega (arith, one, split, first)
+    alone_reused = grind (arith, nat_tests, at_most_once, free_split, times_at)
 
     fresh_reused : Fresh nodes n0 (order_in nodes len) (left_in nodes n0 next len) node slot
     fresh_reused = record {
@@ -326,11 +274,7 @@ module _ {nodes : List Node} {capacity free len room : ℕ} (chained : IsChained
     }
 
     shared_reused : AreShared (0 ∷ ((order_in nodes len) ++ slot ∷ [])) (left_in nodes n0 next len) (length n0) (room + 1)
-    shared_reused = subst (λ n. AreShared (0 ∷ ((order_in nodes len) ++ slot ∷ [])) (left_in nodes n0 next len) n (room + 1)) (sym long_reused) (record {
-      once = λ s. let is = chained.shared.once s in let a = times_append s (order_in nodes len) (slot ∷ []) in let b = ap (times s) free_split in omega (arith, is, a, b);
-      all = let is = chained.shared.all in let a = length_push (order_in nodes len) slot in let b = ap length free_split in omega (arith, is, a, b);
-      most = chained.shared.most;
-    })
+    shared_reused = grind (arith, nat_tests, long_reused, times_append, free_split, length_push, length)
 
   module _ (added : IsAdded nodes free len node n0 next slot) where
     long_added : length n0 ≡ length nodes + 1
@@ -355,14 +299,7 @@ module _ {nodes : List Node} {capacity free len room : ℕ} (chained : IsChained
     }
 
     shared_added : AreShared (0 ∷ ((order_in nodes len) ++ slot ∷ [])) (left_in nodes n0 next len) (length n0) (room + 1)
-    shared_added = record {
-      once = λ s.
-          let is = chained.shared.once s in let a = times_append s (order_in nodes len) (slot ∷ []) in
-          let b = ap (times s) none_free in let e = ap (times s) none_left in let new = added.new in let grown = long_added in
-          grind (arith, nat_tests);
-      all = let is = chained.shared.all in let a = length_push (order_in nodes len) slot in let b = ap length none_free in let e = ap length none_left in let grown = long_added in omega (arith, is, a, b, e, grown);
-      most = let a = long_added in let b = added.none in omega (arith, a, b, few_yet);
-    }
+    shared_added = grind (arith, nat_tests, times_append, none_free, none_left, long_added, nat_tests, length_push, length)
 
   fresh_slot : IsTaken nodes free len node n0 next slot → Fresh nodes n0 (order_in nodes len) (left_in nodes n0 next len) node slot
   fresh_slot taken = ⊎_elim fresh_reused fresh_added taken
@@ -372,10 +309,7 @@ module _ {nodes : List Node} {capacity free len room : ℕ} (chained : IsChained
 
   -- the slots that are free now were free before
   free_before : IsTaken nodes free len node n0 next slot → (s : ℕ) → 1 ≤ times s (left_in nodes n0 next len) → 1 ≤ times s (free_in nodes free len)
-  free_before taken s some = ⊎_elim
-      (λ reused. let b = ap (times s) (free_split reused) in omega (arith, b, some))
-      (λ added. let b = ap (times s) (none_left added) in absurd (omega (arith, b, some)))
-      taken
+  free_before taken s some = grind (arith, nat_tests, free_split, none_left)
 
   module _ (taken : IsTaken nodes free len node n0 next slot) where
     is : Fresh nodes n0 (order_in nodes len) (left_in nodes n0 next len) node slot
@@ -404,10 +338,7 @@ module _ {nodes : List Node} {capacity free len room : ℕ} (chained : IsChained
 
     -- a slot that was there or is free isn't the new one
     not_slot : (j : ℕ) → 1 ≤ times j (0 ∷ (order_in nodes len)) + times j (left_in nodes n0 next len) → j ≢ slot
-    not_slot j some same =
-        let none = is.none in
-        let too : 1 ≤ times slot (0 ∷ (order_in nodes len)) + times slot (left_in nodes n0 next len) = subst (λ s. 1 ≤ times s (0 ∷ (order_in nodes len)) + times s (left_in nodes n0 next len)) same some in
-        absurd (omega (arith, none, too))
+    not_slot j some same = grind (arith, nat_tests, is)
 
     ring_old : (k : ℕ) → k ≤ len → 1 ≤ times (get_or (0 ∷ (order_in nodes len)) k 0) (0 ∷ (order_in nodes len)) + times (get_or (0 ∷ (order_in nodes len)) k 0) (left_in nodes n0 next len)
     ring_old k k_in = let a = long chained in let there = times_at (0 ∷ (order_in nodes len)) k (omega (arith, k_in, a)) in omega (arith, there)
@@ -440,8 +371,7 @@ module _ {nodes : List Node} {capacity free len room : ℕ} (chained : IsChained
         ∙ after_here n0 (before_of nodes 0) slot last_fresh slot_fresh
 
     after_old : (j : ℕ) → 1 ≤ times j (0 ∷ (order_in nodes len)) + times j (left_in nodes n0 next len) → j ≢ (before_of nodes 0) → after_of (entered_in nodes n0 slot) j ≡ after_of nodes j
-    after_old j some other =
-        after_else (end_in nodes n0 slot) slot 0 slot_n1 zero_n1 j (not_slot j some) ∙ after_else n0 (before_of nodes 0) slot last_fresh slot_fresh j other ∙ ap (λ (n : Node). n.after) (is.same j some)
+    after_old j some other = grind (arith, nat_tests, after_else, slot_n1, zero_n1, not_slot, last_fresh, slot_fresh, is)
 
     before_zero : before_of (entered_in nodes n0 slot) 0 ≡ slot
     before_zero = before_here (end_in nodes n0 slot) slot 0 slot_n1 zero_n1
@@ -450,8 +380,7 @@ module _ {nodes : List Node} {capacity free len room : ℕ} (chained : IsChained
     before_new = before_else (end_in nodes n0 slot) slot 0 slot_n1 zero_n1 slot (λ e. not_slot 0 zero_old (sym e)) ∙ before_here n0 (before_of nodes 0) slot last_fresh slot_fresh
 
     before_old : (j : ℕ) → 1 ≤ times j (0 ∷ (order_in nodes len)) + times j (left_in nodes n0 next len) → j ≢ 0 → before_of (entered_in nodes n0 slot) j ≡ before_of nodes j
-    before_old j some other =
-        before_else (end_in nodes n0 slot) slot 0 slot_n1 zero_n1 j other ∙ before_else n0 (before_of nodes 0) slot last_fresh slot_fresh j (not_slot j some) ∙ ap (λ (n : Node). n.before) (is.same j some)
+    before_old j some other = grind (arith, nat_tests, before_else, slot_n1, zero_n1, last_fresh, slot_fresh, not_slot, is)
 
     member_old : (j : ℕ) → 1 ≤ times j (0 ∷ (order_in nodes len)) + times j (left_in nodes n0 next len) → member_at (entered_in nodes n0 slot) j ≡ member_at nodes j
     member_old j some = member_linked (end_in nodes n0 slot) slot 0 slot_n1 zero_n1 j ∙ member_linked n0 (before_of nodes 0) slot last_fresh slot_fresh j ∙ ap member_of (is.same j some)
@@ -496,30 +425,10 @@ module _ {nodes : List Node} {capacity free len room : ℕ} (chained : IsChained
         absurd (omega (arith, one, used, some, split))))
 
     pub chained_with : IsChained (entered_in nodes n0 slot) capacity next (len + 1) room
-    chained_with = record {
-      shared = subst (λ o. AreShared (0 ∷ o) (free_in (entered_in nodes n0 slot) next (len + 1)) (length (entered_in nodes n0 slot)) (room + 1)) (sym order_with)
-          (subst (λ f. AreShared (0 ∷ (order_in nodes len ++ slot ∷ [])) f (length (entered_in nodes n0 slot)) (room + 1)) (sym free_with)
-          (subst (λ m. AreShared (0 ∷ (order_in nodes len ++ slot ∷ [])) (left_in nodes n0 next len) m (room + 1)) (sym entered_long) (shared_with taken)));
-      linked = subst (IsLinked (entered_in nodes n0 slot)) (sym order_with) linked_with;
-      freed = λ s some.
-          let there : 1 ≤ times s (left_in nodes n0 next len) = subst (λ f. 1 ≤ times s f) free_with some in
-          let was = free_before taken s there in
-          before_old s (omega (arith, there)) (λ e.
-          let one = at_most_once chained.shared 0 in
-          let too : 1 ≤ times 0 (free_in nodes free len) = subst (λ t. 1 ≤ times t (free_in nodes free len)) e was in
-          let first = times_at (0 ∷ (order_in nodes len)) 0 (omega arith) in
-          absurd (omega (arith, one, too, first)))
-          ∙ chained.freed s was;
-      has_room = chained.has_room;
-      short = chained.short;
-    }
+    chained_with = grind (arith, nat_tests, length, order_with, free_with, entered_long, shared_with, linked_with, free_before, before_old, at_most_once, times_at)
 
     pub members_with : map (member_at (entered_in nodes n0 slot)) (order_in (entered_in nodes n0 slot) (len + 1)) ≡ map (member_at nodes) (order_in nodes len) ++ member_of node ∷ []
-    members_with =
-        ap (map (member_at (entered_in nodes n0 slot))) order_with
-        ∙ map-append (member_at (entered_in nodes n0 slot)) (order_in nodes len) (slot ∷ [])
-        ∙ ap (λ r. r ++ member_at (entered_in nodes n0 slot) slot ∷ []) (members_same nodes (entered_in nodes n0 slot) (order_in nodes len) (λ j some. member_old j (omega (arith, some))))
-        ∙ ap (λ m. map (member_at nodes) (order_in nodes len) ++ m ∷ []) (member_linked (end_in nodes n0 slot) slot 0 slot_n1 zero_n1 slot ∙ member_linked n0 (before_of nodes 0) slot last_fresh slot_fresh slot ∙ ap member_of is.new)
+    members_with = grind (arith, nat_tests, map, order_with, map-append, members_same, member_old, member_linked, slot_n1, zero_n1, last_fresh, slot_fresh, is)
 
 -- ---- a member is written in place
 

@@ -1,6 +1,7 @@
 -- The oldest command that passes a test, by the place that a search along the set gave.
-use Rattle.std.proofs.Common.{◌≡◌, ◌∙◌, ℕ, Bool, false, Some, None, position, find, option_map, get_or, ap, sym}
+use Rattle.std.proofs.Common.{◌≡◌, ◌∙◌, ℕ, Bool, false, Some, None, position, find, option_map, get_or, ap, sym, arith}
 use Rattle.std.proofs.lemmas.List.Quantifiers.{position-Some}
+use Rattle.std.proofs.lemmas.Bool.Decides.{nat_tests}
 use Rattle.iscsi_tasks.specs.declared.task.Task.{Task}
 use Rattle.iscsi_tasks.specs.declared.member.Member.{Member}
 use Rattle.iscsi_tasks.specs.Sets.{Members, tasks_in}
@@ -11,9 +12,7 @@ use Rattle.iscsi_tasks.proofs.SearchLemmas.{find_place, find_nowhere}
 module _ (passes : Task → Bool) (s : Members) where
   -- none passes
   pub absent : position (λ m. passes m.task) s.list ≡ None → find passes (tasks_in s) ≡ None
-  absent none =
-      find-map passes (λ (m : Member). m.task) s.list
-      ∙ ap (option_map (λ (m : Member). m.task)) (find_nowhere (λ (m : Member). passes m.task) s.list (none_at_position (λ (m : Member). passes m.task) s.list none))
+  absent none = grind (arith, nat_tests, find-map, option_map, find_nowhere, none_at_position)
 
   -- the one at this place is the oldest that passes
   pub present : (at : ℕ) (task : Task) → position (λ m. passes m.task) s.list ≡ Some at → ((d : Member) → task ≡ (get_or s.list at d).task) → find passes (tasks_in s) ≡ Some task

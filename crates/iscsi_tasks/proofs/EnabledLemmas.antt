@@ -1,8 +1,9 @@
 -- A flag tells that there was a moment.
-use Rattle.std.proofs.Common.{◌≡◌, ◌↔◌, ℕ, ◌<◌, ◌==◌, ◌&&◌, Bool, IsTrue, true, false, List, [], ◌∷◌, ◌++◌, length, get_or, refl, ap, sym, ◌∙◌, arith, eq-eqb, ⊎_elim, subst}
+use Rattle.std.proofs.Common.{◌≡◌, ◌↔◌, ℕ, ◌<◌, ◌==◌, ◌&&◌, Bool, IsTrue, true, false, List, [], ◌∷◌, ◌++◌, length, get_or, ap, sym, ◌∙◌, arith, eq-eqb}
 use Rattle.std.proofs.lemmas.Bool.{or_cases, or_left, or_right, and_parts, and_from, eqb-true}
 use Rattle.std.proofs.lemmas.List.{length-map, get_or-map}
 use Rattle.std.proofs.lemmas.List.Folds.{Any-from_list_any, list_any_at}
+use Rattle.std.proofs.lemmas.Bool.Decides.{nat_tests}
 use Rattle.iscsi_tasks.specs.declared.task.Task.{Task}
 use Rattle.iscsi_tasks.specs.declared.member.Member.{Member}
 use Rattle.iscsi_tasks.specs.Sets.{Members, is_enabled_in}
@@ -14,14 +15,8 @@ WasFree-more task c h (later, earlier, parts, moment, free) = (c ∷ later, earl
 -- a flag that is set has its moment
 pub moment_of : (task : Task) (h : List Change) → was_free task h ≡ true → WasFree task h
 moment_of task [] was = cc
-moment_of task (Entered t ∷ h) was = ⊎_elim
-    (λ now. ([], Entered t ∷ h, refl, tt, now))
-    (λ before. WasFree-more task (Entered t) h (moment_of task h before))
-    (or_cases (is_free_in task (live (Entered t ∷ h))) (was_free task h) was)
-moment_of task (Left ticket ∷ h) was = ⊎_elim
-    (λ now. ([], Left ticket ∷ h, refl, tt, now))
-    (λ before. WasFree-more task (Left ticket) h (moment_of task h before))
-    (or_cases (is_free_in task (live (Left ticket ∷ h))) (was_free task h) was)
+moment_of task (Entered t ∷ h) was = grind (arith, nat_tests, moment_of task h, WasFree-more, or_cases)
+moment_of task (Left ticket ∷ h) was = grind (arith, nat_tests, moment_of task h, WasFree-more, or_cases)
 moment_of task (Gave ticket ∷ h) was = WasFree-more task (Gave ticket) h (moment_of task h was)
 
 at_moment : (task : Task) (h : List Change) → IsMoment h → is_free_in task (live h) ≡ true → was_free task h ≡ true
@@ -50,14 +45,7 @@ module _ (s : Members) (h : List Change) (st : StandsFor s h) where
   task_at k d within = ap (λ ts. get_or ts k d.task) (sym st.tasks) ∙ get_or-map (λ m. m.task) s.list k d d.task within
 
   pub enabled_told : (ticket : ℕ) → is_enabled_in ticket s.list ≡ true → IsEnabled ticket h
-  enabled_told ticket told =
-      let (k, m, within, read, test) = Any-from_list_any (λ x. x.task.ticket == ticket && x.enabled) s.list told in
-      let parts = and_parts (m.task.ticket == ticket) m.enabled test in
-      let task : (get_or s.list k m).task ≡ m.task = ap (λ (x : Member). x.task) read in
-      let in_live : get_or (live h) k m.task ≡ m.task = task_at k m within ∙ task in
-      let flag : was_free m.task h ≡ true = sym (subst (λ (x : Member). x.enabled ≡ was_free x.task h) read (st.enabled k m within)) ∙ parts.1 in
-      let inside : k < length (live h) = omega (arith, long) in
-      (m.task, eqb-true m.task.ticket ticket parts.0, (k, inside, in_live), moment_of m.task h flag)
+  enabled_told ticket told = grind (arith, nat_tests, Any-from_list_any, and_parts, get_or, task_at, true, length, long, eqb-true, moment_of)
 
   pub told_enabled : (ticket : ℕ) → IsEnabled ticket h → is_enabled_in ticket s.list ≡ true
   told_enabled ticket (task, same, (k, inside, in_live), was) =

@@ -1,35 +1,28 @@
 -- A command enters: it alone may become enabled.
 use Rattle.std.proofs.Common.{◌≡◌, ℕ, suc, ◌<◌, ◌==◌, ◌||◌, ◌&&◌, ◌≢◌, not, Bool, true, false, List, [], ◌∷◌, ◌++◌, length, get_or, All, refl, ap, sym, ◌∙◌, arith, ⊎_elim, ne_eqb, eq-eqb}
-use Rattle.std.specs.List.{list_any, position_or_len}
-use Rattle.std.proofs.lemmas.Bool.{cases_Bool, cases_eq, or_left, not-false, and_left, and_right, and_from}
+use Rattle.std.specs.List.{position_or_len}
+use Rattle.std.proofs.lemmas.Bool.{cases_eq, or_left, not-false, and_left, and_right, and_from}
 use Rattle.std.proofs.lemmas.List.{map-append, get_or_append_left, length_push, get_or_default}
 use Rattle.std.proofs.lemmas.List.Elements.{All-push}
 use Rattle.std.proofs.lemmas.List.Folds.{list_any-append, Any-from_list_any}
 use Rattle.std.proofs.lemmas.List.Sums.{fails_before_first, passes_at_first}
+use Rattle.std.proofs.lemmas.Bool.Decides.{nat_tests}
 use Rattle.iscsi_tasks.specs.declared.task.Attr.{Attr}
 use Rattle.iscsi_tasks.specs.declared.task.Attr.TheVariants.{Simple, Ordered, Head}
 use Rattle.iscsi_tasks.specs.declared.task.Task.{Task}
 use Rattle.iscsi_tasks.specs.declared.member.Member.{Member}
 use Rattle.iscsi_tasks.specs.Rules.{is_head_of}
-use Rattle.iscsi_tasks.specs.Sets.{queued, is_free, is_free_among, looked_at, after_moment}
+use Rattle.iscsi_tasks.specs.Sets.{queued, is_free, is_free_among, after_moment}
 use Rattle.iscsi_tasks.specs.Counted.{Counts, IsCounted, IsSettled, is_head_in, is_ordered_in, is_free_behind}
 use Rattle.iscsi_tasks.proofs.MomentLemmas.{bars_in, free_among, free_none, free_barred, free_head, head_bars, ordered_bars, older_bars, younger_passes, simple_passes, none_counted, some_counted, map-looked_same}
 use Rattle.iscsi_tasks.proofs.CountLemmas.{first-le}
 
 -- what barred the others bars them still
 still_barred : (task : Task) (list : List Member) (m : Member) → is_free_among task list ≡ false → is_free_among task (list ++ m ∷ []) ≡ false
-still_barred task list m barred =
-    let before : list_any (bars_in task) list ≡ true = not-false _ (sym (free_among task list) ∙ barred) in
-    free_among task (list ++ m ∷ []) ∙ ap not (list_any-append (bars_in task) list (m ∷ []) ∙ or_left _ _ before)
+still_barred task list m barred = grind (arith, nat_tests, bars_in, true, not-false, free_among, not, list_any-append, or_left)
 
 still_settled : (list : List Member) (m : Member) → IsSettled list → All (λ x. (x.enabled || is_free_among x.task (list ++ m ∷ [])) ≡ x.enabled) list
-still_settled list m settled k d l =
-    let x = get_or list k d in ⊎_elim
-    (λ on. or_left _ _ on ∙ sym on)
-    (λ off.
-    let barred : is_free_among x.task list ≡ false = ap (λ b. b || is_free_among x.task list) (sym off) ∙ settled k d l ∙ off in
-    ap (λ b. b || is_free_among x.task (list ++ m ∷ [])) off ∙ still_barred x.task list m barred ∙ sym off)
-    (cases_Bool x.enabled)
+still_settled list m settled k d l = grind (arith, nat_tests, get_or, or_left, false, still_barred)
 
 module _ (c : Counts) (task : Task) where
   -- ORDERED is free where it is alone
@@ -74,11 +67,7 @@ module _ (c : Counts) (task : Task) where
 
   -- the set after the moment: the command stands last, enabled where it is free
   pub moment_entered : (list : List Member) → IsCounted c list → IsSettled list → All (λ m. m.task.ticket < task.ticket) list → after_moment (list ++ record { task = task; enabled = false; given = false } ∷ []) ≡ list ++ record { task = task; enabled = is_free_behind c (length list) task.attr; given = false } ∷ []
-  moment_entered list counted settled newest =
-      let last : Member = record { task = task; enabled = false; given = false } in
-      map-append (looked_at (list ++ last ∷ [])) list (last ∷ [])
-      ∙ ap (λ xs. xs ++ looked_at (list ++ last ∷ []) last ∷ []) (map-looked_same (list ++ last ∷ []) list (still_settled list last settled))
-      ∙ ap (λ b. list ++ record { task = task; enabled = b; given = false } ∷ []) (free_last task.attr list counted refl newest)
+  moment_entered list counted settled newest = grind (arith, nat_tests, false, map-append, map-looked_same, still_settled, free_last)
 
   -- and every command that is free is enabled still
   pub settled_entered : (list : List Member) → IsCounted c list → IsSettled list → All (λ m. m.task.ticket < task.ticket) list → (enabled given : Bool) → enabled ≡ is_free_behind c (length list) task.attr → IsSettled (list ++ record { task = task; enabled = enabled; given = given } ∷ [])

@@ -6,6 +6,7 @@ use Rattle.std.proofs.lemmas.List.{get_or-map, length-map, length-take-le, take_
 use Rattle.std.proofs.lemmas.List.Elements.{All-push, All-nil, All-filter}
 use Rattle.std.proofs.lemmas.List.Kept.{AllPairs-filter}
 use Rattle.std.proofs.lemmas.List.Quantifiers.{all_pairs_push}
+use Rattle.std.proofs.lemmas.Bool.Decides.{nat_tests}
 use Rattle.iscsi_tasks.specs.declared.task.Task.{Task}
 use Rattle.iscsi_tasks.specs.declared.member.Member.{Member}
 use Rattle.iscsi_tasks.specs.Sets.{uncovered, without, after_moment, given_in, list_staying}
@@ -26,12 +27,7 @@ module _ (xs ys : List Member) (same : map (λ m. m.task) ys ≡ map (λ m. m.ta
       sym (get_or-map (λ (m : Member). m.task) ys k d d.task within) ∙ ap (λ (ts : List Task). get_or ts k d.task) same ∙ get_or-map (λ (m : Member). m.task) xs k d d.task inside
 
   pub ascending_alike : (most : ℤ) → IsAscendingTo most xs → IsAscendingTo most ys
-  ascending_alike most up = record {
-    ascending = λ i j d below within.
-        subst (λ (t : Task). covered_from t ≤ℤ covered_from (get_or ys j d).task) (sym (task_alike i d (omega arith)))
-        (subst (λ (t : Task). covered_from (get_or xs i d).task ≤ℤ covered_from t) (sym (task_alike j d within)) (up.ascending i j d below (omega (arith, long_alike))));
-    within = λ k d l. subst (λ (t : Task). covered_from t ≤ℤ most) (sym (task_alike k d l)) (up.within k d (omega (arith, long_alike)));
-  }
+  ascending_alike most up = grind (arith, nat_tests, get_or, task_alike, long_alike)
 
 -- ---- a set that changes
 
@@ -64,12 +60,7 @@ ascending_given most list up = ascending_alike list (given_in list) (tasks-given
 
 -- a command enters
 pub ascending_push : (ascends : Bool) (most : ℤ) (list : List Member) (m : Member) → (ascends ≡ true → IsAscendingTo most list) → ascends_with ascends most (length list) m.task ≡ true → IsAscendingTo (covered_from m.task) (list ++ m ∷ [])
-ascending_push ascends most [] m kept up =
-    let P : Member → Type 0 = λ x. covered_from x.task ≤ℤ covered_from m.task in
-    record {
-      ascending = λ i j d below within. absurd (omega arith);
-      within = All-push P [] m (All-nil P) (omega (arith, ints));
-    }
+ascending_push ascends most [] m kept up = grind (arith, nat_tests, All-push, All-nil, ints)
 ascending_push ascends most (x ∷ xs) m kept up =
     let P : Member → Type 0 = λ y. covered_from y.task ≤ℤ covered_from m.task in
     let parts = and_parts ascends (not (int_lt (covered_from m.task) most)) (sym (ap (λ b. b || (ascends && not (int_lt (covered_from m.task) most))) (ne_eqb (suc (length xs)) 0 (λ e. omega arith))) ∙ up) in

@@ -1,5 +1,5 @@
 -- Tickets that are given: each once, the oldest first.
-use Rattle.std.proofs.Common.{◌≡◌, ℕ, zero, suc, ◌<◌, ◌==◌, ◌||◌, ◌&&◌, not, cond, Bool, true, false, List, [], ◌∷◌, length, map, find, get_or, set, refl, ap, sym, ◌∙◌, arith, All, eq-eqb, Option, Some, None, option_map, subst, ⊎_elim}
+use Rattle.std.proofs.Common.{◌≡◌, ℕ, zero, suc, ◌<◌, ◌==◌, ◌||◌, not, cond, Bool, true, false, List, [], ◌∷◌, length, map, find, get_or, set, refl, ap, sym, ◌∙◌, arith, All, eq-eqb, Option, Some, None, option_map, subst, ⊎_elim}
 use Rattle.std.proofs.lemmas.Bool.{cases_Bool}
 use Rattle.std.proofs.lemmas.Bool.Decides.{nat_tests}
 use Rattle.std.proofs.lemmas.List.Elements.{All-cons, All-head, All-tail, All-nil}
@@ -33,10 +33,7 @@ InOrder-head m ms order k d within = order 0 (suc k) d (omega arith) (omega arit
 -- giving leaves the commands as they are
 pub tasks-given : (list : List Member) → map (λ m. m.task) (given_in list) ≡ map (λ m. m.task) list
 tasks-given [] = refl
-tasks-given (m ∷ ms) = ⊎_elim
-    (λ new. ap (map (λ k. k.task)) (given_in_new m ms new))
-    (λ old. ap (map (λ k. k.task)) (given_in_old m ms old) ∙ ap (λ r. m.task ∷ r) (tasks-given ms))
-    (cases_Bool (is_new m))
+tasks-given (m ∷ ms) = grind (arith, nat_tests, tasks-given ms, map, given_in_new, given_in_old)
 
 pub enabled-given : (e : Task → Bool) (list : List Member) → All (λ m. m.enabled ≡ e m.task) list → All (λ m. m.enabled ≡ e m.task) (given_in list)
 enabled-given e [] all = all
@@ -92,12 +89,7 @@ option_map-map None = refl
 option_map-map (Some m) = refl
 
 pub next_from_history : (s : Members) (h : List Change) → StandsFor s h → next_in s.list ≡ next_after h
-next_from_history s h st =
-    let is_due : Task → Bool = λ t. was_free t h && not (was_given t.ticket h) in
-    let same : find is_new s.list ≡ find (λ m. is_due m.task) s.list = find-agree is_new (λ m. is_due m.task) s.list
-    (λ k d l. ap (λ b. b && not (get_or s.list k d).given) (st.enabled k d l) ∙ ap (λ b. was_free (get_or s.list k d).task h && not b) (st.given k d l)) in
-    ap (option_map (λ m. m.task.ticket)) same ∙ option_map-map (find (λ m. is_due m.task) s.list)
-    ∙ ap (option_map (λ t. t.ticket)) (sym (find-map is_due (λ m. m.task) s.list)) ∙ ap (λ ts. option_map (λ t. t.ticket) (find is_due ts)) st.tasks
+next_from_history s h st = grind (arith, nat_tests, Bool, not, find, find-agree, get_or, option_map, option_map-map, find-map)
 
 StandsFor-giving_of : (s : Members) (next : Option ℕ) (h : List Change) → next_in s.list ≡ next → InOrder s.list → StandsFor s h → StandsFor (given_by s) (after_giving next h)
 StandsFor-giving_of s None h none order st = subst (λ (l : List Member). StandsFor (record s { list = l }) h) (sym (given_in_none s.list none)) st

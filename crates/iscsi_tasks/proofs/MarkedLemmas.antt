@@ -4,6 +4,7 @@ use Rattle.std.specs.List.{position_or_len, remove}
 use Rattle.std.proofs.lemmas.Bool.{cases_Bool, cases_eq, cases_lt}
 use Rattle.std.proofs.lemmas.List.{get_or_past, get_or_push, get_or_append_left, length_push, length-set}
 use Rattle.std.proofs.lemmas.List.Edits.{length-remove, get_or-remove_below, get_or-remove_above}
+use Rattle.std.proofs.lemmas.Bool.Decides.{nat_tests}
 use Rattle.iscsi_slots.specs.Slots.{times}
 use Rattle.iscsi_slots.proofs.SlotLemmas.{times_at, times_remove}
 use Rattle.iscsi_tasks.specs.declared.task.Attr.{Attr}
@@ -59,24 +60,14 @@ module _ (slots : List ℕ) (s : ℕ) (apart : AreApart slots) where
   bumped p = cond (nat_lt p (length slots)) p (length slots + 1)
 
   bumped_cases : (P : ℕ → Type 0) (p : ℕ) → (p < length slots → P p) → (length slots ≤ p → P (length slots + 1)) → P (bumped p)
-  bumped_cases P p below past = ⊎_elim
-      (λ l. subst P (sym (ap (λ b. cond b p (length slots + 1)) (lt-ltb p (length slots) l))) (below l))
-      (λ l. subst P (sym (ap (λ b. cond b p (length slots + 1)) (le-ltb p (length slots) l))) (past l))
-      (cases_lt p (length slots))
+  bumped_cases P p below past = grind (arith, nat_tests, cond, length, lt-ltb, le-ltb)
 
   -- a mark that is the end moves to the new slot
   mark_new : (p mark : ℕ) → mark ≡ get_or slots p 0 → cond (mark == 0) s mark ≡ get_or (slots ++ s ∷ []) (min p (length slots)) 0
-  mark_new p mark is = ⊎_elim
-      (λ below. ap (λ t. cond t s mark) (ne_eqb mark 0 (λ e. not_end apart p below (sym is ∙ e))) ∙ is
-      ∙ sym (ap (λ n. get_or (slots ++ s ∷ []) n 0) (let e : min p (length slots) ≡ p = omega (arith, below) in e) ∙ at_old p below))
-      (λ past. ap (λ t. cond t s mark) (eq-eqb mark 0 (is ∙ get_or_past slots p 0 past))
-      ∙ sym (ap (λ n. get_or (slots ++ s ∷ []) n 0) (let e : min p (length slots) ≡ length slots = omega (arith, past) in e) ∙ at_new))
-      (cases_lt p (length slots))
+  mark_new p mark is = grind (arith, nat_tests, cond, ne_eqb, not_end, get_or, min, length, at_old, eq-eqb, get_or_past, at_new)
 
   mark_stays : (p mark : ℕ) → mark ≡ get_or slots p 0 → mark ≡ get_or (slots ++ s ∷ []) (bumped p) 0
-  mark_stays p mark is = bumped_cases (λ n. mark ≡ get_or (slots ++ s ∷ []) n 0) p
-      (λ below. is ∙ sym (at_old p below))
-      (λ past. is ∙ get_or_past slots p 0 past ∙ sym (at_end (length slots + 1) (omega arith)))
+  mark_stays p mark is = grind (arith, nat_tests, bumped_cases, get_or, at_old, get_or_past, at_end, length)
 
 twice_not : (b : Bool) → not (not b) ≡ b
 twice_not true = refl
@@ -138,10 +129,7 @@ marked_push {m} {slots} {list} marked one s apart newest head =
 
 module _ (slots : List ℕ) (apart : AreApart slots) (p : ℕ) (l : p < length slots) (slot next : ℕ) (slot_is : get_or slots p 0 ≡ slot) (next_is : next ≡ get_or slots (p + 1) 0) where
   pub apart_left : AreApart (remove slots p)
-  apart_left = record {
-    once = λ s. let one = apart.once s in let a = times_remove s slots p l in omega (arith, one, a);
-    some = let none = apart.some in let a = times_remove 0 slots p l in omega (arith, none, a);
-  }
+  apart_left = grind (arith, nat_tests, times_remove)
 
   pub mark_left : (at mark : ℕ) → mark ≡ get_or slots at 0 → moved_off mark slot next ≡ get_or (remove slots p) (shifted_by p at) 0
   mark_left at mark is = ⊎_elim
@@ -157,10 +145,7 @@ module _ (slots : List ℕ) (apart : AreApart slots) (p : ℕ) (l : p < length s
     where
       -- a mark of another place is another slot
       other : (at mark : ℕ) → mark ≡ get_or slots at 0 → at ≢ p → mark ≢ slot
-      other at mark is apart_from same = ⊎_elim
-          (λ below. apart_from (same_to_end apart at p (omega (arith, below)) (omega (arith, l)) (sym is ∙ same ∙ sym slot_is)))
-          (λ past. not_end apart p l (slot_is ∙ sym same ∙ is ∙ get_or_past slots at 0 past))
-          (cases_lt at (length slots))
+      other at mark is apart_from same = grind (arith, nat_tests, same_to_end, not_end, get_or_past, length)
 
 module _ {m : Marks} {slots : List ℕ} {list : List Member} (marked : IsMarked m slots list) (p : ℕ) (l : p < length slots) (slot next : ℕ) (slot_is : get_or slots p 0 ≡ slot) (next_is : next ≡ get_or slots (p + 1) 0) where
   in_list : p < length list
@@ -211,14 +196,7 @@ span_to_end slots p mark is = record {
 
 module _ {m : Marks} {slots : List ℕ} {list : List Member} (marked : IsMarked m slots list) where
   pub none_marked : is_none_marked m ≡ true → All (λ x. is_new x ≡ false) list
-  none_marked none k d l = ⊎_elim
-      (λ new.
-      let at = marked.counted.new k d l new in
-      let most = marked.counted.new_to in let long = marked.long in
-      let same = same_to_end marked.apart marked.counts.new_from marked.counts.new_to (omega (arith, at.0, l, long)) (omega (arith, most, long)) (sym marked.new_from ∙ eqb-true m.new_from m.new_to none ∙ marked.new_to) in
-      absurd (omega (arith, at.0, at.1, same)))
-      (λ old. old)
-      (cases_Bool (is_new (get_or list k d)))
+  none_marked none k d l = grind (arith, nat_tests, same_to_end, eqb-true, get_or)
 
   pub marked_enabled_first : is_none_marked m ≡ true → (to end : ℕ) → marked.counts.enabled_to < to → to ≤ length list → end ≡ get_or slots to 0 → IsMarked (enabled_by m end m.dormant end) slots (enabled_up_to to list)
   marked_enabled_first none to end more within end_is =

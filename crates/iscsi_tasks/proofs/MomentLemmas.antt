@@ -6,6 +6,7 @@ use Rattle.std.proofs.lemmas.List.{get_or_default}
 use Rattle.std.proofs.lemmas.List.Elements.{All-map, All-head, All-tail, All-nil, All-cons}
 use Rattle.std.proofs.lemmas.List.Folds.{list_any_at, list_any_none, Any-from_list_any}
 use Rattle.std.proofs.lemmas.List.Sums.{fails_before_first, passes_at_first, sum_by-cons}
+use Rattle.std.proofs.lemmas.Bool.Decides.{nat_tests}
 use Rattle.iscsi_tasks.specs.declared.task.Attr.{Attr}
 use Rattle.iscsi_tasks.specs.declared.task.Attr.TheVariants.{Simple, Ordered, Head}
 use Rattle.iscsi_tasks.specs.declared.task.Task.{Task}
@@ -193,12 +194,4 @@ map_parts f g (x ∷ xs) (suc n) below above = ap (λ y. y ∷ map f xs) (below 
 
 -- otherwise the first ones are enabled
 pub moment_without_heads : (list : List Member) (n : ℕ) → InOrder list → count_by is_head_in list ≡ 0 → n ≡ min (length list) (max 1 (position_or_len is_ordered_in list)) → after_moment list ≡ map enabled_now (take n list) ++ drop n list
-moment_without_heads list n order none is =
-    let plain = none_counted is_head_in list none in
-    map_parts (looked_at list) enabled_now list n
-    (λ k d l below. let m = get_or list k d in
-    ap (λ b. record { task = m.task; enabled = m.enabled || b; given = m.given }) (free_below list order plain k d l (omega arith))
-    ∙ ap (λ b. record { task = m.task; enabled = b; given = m.given }) (or_right m.enabled true refl))
-    (λ k d l above. let m = get_or list k d in
-    ap (λ b. record { task = m.task; enabled = m.enabled || b; given = m.given }) (free_above list order plain k d l (omega arith))
-    ∙ ap (λ b. record { task = m.task; enabled = b; given = m.given }) (or_false m.enabled))
+moment_without_heads list n order none is = grind (arith, nat_tests, none_counted, map_parts, get_or, free_below, or_right, true, free_above, or_false)

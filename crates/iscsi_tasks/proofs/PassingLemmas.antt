@@ -1,9 +1,9 @@
 -- Commands that are covered leave, from the oldest on.
-use Rattle.std.proofs.Common.{◌≡◌, ◌∙◌, ℕ, zero, suc, ◌+◌, ◌<◌, not, cond, Bool, true, false, List, [], ◌∷◌, ◌++◌, length, map, filter, take, drop, get_or, All, refl, ap, sym, arith, ⊎_elim}
+use Rattle.std.proofs.Common.{◌≡◌, ◌∙◌, ℕ, zero, suc, ◌+◌, ◌<◌, not, cond, Bool, true, false, List, [], ◌∷◌, ◌++◌, length, map, filter, take, drop, get_or, All, refl, ap, sym, arith}
 use Rattle.std.specs.List.{remove}
-use Rattle.std.proofs.lemmas.Bool.{cases_Bool}
 use Rattle.std.proofs.lemmas.List.{take_more, take-append-drop, map-append, append-nil}
 use Rattle.std.proofs.lemmas.List.Elements.{filter-append, All-head, All-tail}
+use Rattle.std.proofs.lemmas.Bool.Decides.{nat_tests}
 use Rattle.iscsi_tasks.specs.declared.task.Task.{Task}
 use Rattle.iscsi_tasks.specs.declared.member.Member.{Member}
 use Rattle.iscsi_tasks.specs.Marked.{covered_tickets}
@@ -34,52 +34,24 @@ module _ {X : Type 0} (covers : X → Bool) where
   pub yet_at : (xs : List X) (k : ℕ) (d : X) → k < length xs → get_or (kept_yet xs k) (passed xs k) d ≡ get_or xs k d
   yet_at [] k d l = absurd (omega arith)
   yet_at (x ∷ xs) zero d l = refl
-  yet_at (x ∷ xs) (suc k) d l =
-      let more = yet_at xs k d (omega arith) in ⊎_elim
-      (λ yes. ap (λ ys. get_or ys (passed (x ∷ xs) (suc k)) d) (list_goes x xs k yes) ∙ ap (λ n. get_or (kept_yet xs k) n d) (count_goes x xs k yes) ∙ more)
-      (λ no. ap (λ ys. get_or ys (passed (x ∷ xs) (suc k)) d) (list_stays x xs k no) ∙ ap (λ n. get_or (x ∷ kept_yet xs k) n d) (count_stays x xs k no) ∙ more)
-      (cases_Bool (covers x))
+  yet_at (x ∷ xs) (suc k) d l = grind (arith, nat_tests, yet_at xs k d (omega arith), get_or, list_goes, count_goes, list_stays, count_stays)
 
   pub yet_inside : (xs : List X) (k : ℕ) → k < length xs → passed xs k < length (kept_yet xs k)
   yet_inside [] k l = absurd (omega arith)
   yet_inside (x ∷ xs) zero l = omega arith
-  yet_inside (x ∷ xs) (suc k) l =
-      let more = yet_inside xs k (omega arith) in ⊎_elim
-      (λ yes. let a = ap length (list_goes x xs k yes) in let b = count_goes x xs k yes in omega (arith, a, b, more))
-      (λ no. let a = ap length (list_stays x xs k no) in let b = count_stays x xs k no in omega (arith, a, b, more))
-      (cases_Bool (covers x))
+  yet_inside (x ∷ xs) (suc k) l = grind (arith, nat_tests, yet_inside xs k (omega arith), length, list_goes, count_goes, list_stays, count_stays)
 
   -- it leaves
   pub yet_without : (xs : List X) (k : ℕ) (d : X) → k < length xs → covers (get_or xs k d) ≡ true → (remove (kept_yet xs k) (passed xs k) ≡ kept_yet xs (suc k)) × (passed xs (suc k) ≡ passed xs k)
   yet_without [] k d l goes = absurd (omega arith)
   yet_without (x ∷ xs) zero d l goes = (sym (list_goes x xs 0 goes), count_goes x xs 0 goes)
-  yet_without (x ∷ xs) (suc k) d l goes =
-      let more = yet_without xs k d (omega arith) goes in ⊎_elim
-      (λ yes. (
-        ap (λ ys. remove ys (passed (x ∷ xs) (suc k))) (list_goes x xs k yes) ∙ ap (remove (kept_yet xs k)) (count_goes x xs k yes) ∙ more.0 ∙ sym (list_goes x xs (suc k) yes),
-        count_goes x xs (suc k) yes ∙ more.1 ∙ sym (count_goes x xs k yes),
-      ))
-      (λ no. (
-        ap (λ ys. remove ys (passed (x ∷ xs) (suc k))) (list_stays x xs k no) ∙ ap (remove (x ∷ kept_yet xs k)) (count_stays x xs k no) ∙ ap (λ ys. x ∷ ys) more.0 ∙ sym (list_stays x xs (suc k) no),
-        count_stays x xs (suc k) no ∙ ap suc more.1 ∙ sym (count_stays x xs k no),
-      ))
-      (cases_Bool (covers x))
+  yet_without (x ∷ xs) (suc k) d l goes = grind (arith, nat_tests, yet_without xs k d (omega arith) goes, list_goes, count_goes, list_stays, count_stays)
 
   -- or it stays
   pub yet_with : (xs : List X) (k : ℕ) (d : X) → k < length xs → covers (get_or xs k d) ≡ false → (kept_yet xs k ≡ kept_yet xs (suc k)) × (passed xs (suc k) ≡ suc (passed xs k))
   yet_with [] k d l stays = absurd (omega arith)
   yet_with (x ∷ xs) zero d l stays = (sym (list_stays x xs 0 stays), count_stays x xs 0 stays)
-  yet_with (x ∷ xs) (suc k) d l stays =
-      let more = yet_with xs k d (omega arith) stays in ⊎_elim
-      (λ yes. (
-        list_goes x xs k yes ∙ more.0 ∙ sym (list_goes x xs (suc k) yes),
-        count_goes x xs (suc k) yes ∙ more.1 ∙ ap suc (sym (count_goes x xs k yes)),
-      ))
-      (λ no. (
-        list_stays x xs k no ∙ ap (λ ys. x ∷ ys) more.0 ∙ sym (list_stays x xs (suc k) no),
-        count_stays x xs (suc k) no ∙ ap suc more.1 ∙ ap suc (sym (count_stays x xs k no)),
-      ))
-      (cases_Bool (covers x))
+  yet_with (x ∷ xs) (suc k) d l stays = grind (arith, nat_tests, yet_with xs k d (omega arith) stays, list_goes, count_goes, list_stays, count_stays)
 
   none_filtered : (xs : List X) → All (λ x. covers x ≡ false) xs → filter (λ x. not (covers x)) xs ≡ xs
   none_filtered [] none = refl
@@ -93,10 +65,7 @@ module _ {X : Type 0} (covers : X → Bool) where
 
 module _ (covers : Task → Bool) where
   tickets_append : (xs ys : List Member) → covered_tickets covers (xs ++ ys) ≡ covered_tickets covers xs ++ covered_tickets covers ys
-  tickets_append xs ys =
-      ap (λ ts. map (λ (t : Task). t.ticket) (filter covers ts)) (map-append (λ (m : Member). m.task) xs ys)
-      ∙ ap (map (λ (t : Task). t.ticket)) (filter-append covers (map (λ (m : Member). m.task) xs) (map (λ (m : Member). m.task) ys))
-      ∙ map-append (λ (t : Task). t.ticket) (filter covers (map (λ (m : Member). m.task) xs)) (filter covers (map (λ (m : Member). m.task) ys))
+  tickets_append xs ys = grind (arith, nat_tests, map, filter, map-append, filter-append)
 
   tickets_one : (m : Member) (b : Bool) → covers m.task ≡ b → covered_tickets covers (m ∷ []) ≡ cond b (m.task.ticket ∷ []) []
   tickets_one m b is = ap (λ c. map (λ (t : Task). t.ticket) (cond c (m.task ∷ []) [])) is ∙ both b

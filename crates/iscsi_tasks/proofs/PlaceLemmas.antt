@@ -1,9 +1,10 @@
 -- The first place that passes a test, and places that are filled up to one.
-use Rattle.std.proofs.Common.{◌≡◌, ℕ, zero, suc, ◌<◌, ◌≤◌, nat_lt, cond, Bool, true, false, List, [], ◌∷◌, ◌++◌, length, map, take, drop, get_or, position, Some, None, All, refl, ap, sym, ◌∙◌, arith, ⊎_elim}
-use Rattle.std.proofs.lemmas.Bool.{lt-ltb, le-ltb, cases_lt}
+use Rattle.std.proofs.Common.{◌≡◌, ℕ, zero, suc, ◌<◌, ◌≤◌, nat_lt, cond, Bool, true, false, List, [], ◌∷◌, ◌++◌, length, map, take, drop, get_or, position, Some, None, All, refl, ap, sym, ◌∙◌, arith}
+use Rattle.std.proofs.lemmas.Bool.{lt-ltb, le-ltb}
 use Rattle.std.proofs.lemmas.List.{take-append-drop}
 use Rattle.std.proofs.lemmas.List.Sums.{position_or_len_is, fails_before_first}
 use Rattle.std.specs.List.{position_or_len}
+use Rattle.std.proofs.lemmas.Bool.Decides.{nat_tests}
 use Rattle.iscsi_tasks.specs.declared.member.Member.{Member}
 use Rattle.iscsi_tasks.specs.Counted.{enabled_now}
 
@@ -33,7 +34,4 @@ enabled_so_far xs n within enabled = sym (ap (λ r. r ++ drop n xs) (map-enabled
 
 -- where no place is answered, none passes
 pub none_at_position : {X : Type 0} (p : X → Bool) (xs : List X) → position p xs ≡ None → All (λ x. p x ≡ false) xs
-none_at_position p xs none k d within = ⊎_elim
-    (λ inside. let found : Some (position_or_len p xs) ≡ None = position_of p xs (position_or_len p xs) refl inside ∙ none in cc)
-    (λ past. fails_before_first p xs k d (omega arith))
-    (cases_lt (position_or_len p xs) (length xs))
+none_at_position p xs none k d within = grind (arith, nat_tests, Some, None, position_of, fails_before_first, length)
