@@ -4,6 +4,7 @@ use Rattle.std.proofs.lemmas.Int.{ints}
 use Rattle.std.proofs.lemmas.Bool.{cases_eq}
 use Rattle.std.proofs.lemmas.List.{get_or_default, get_or-drop, length-drop, append_assoc, append-nil}
 use Rattle.std.proofs.lemmas.List.Edits.{get_or-remove_above}
+use Rattle.std.proofs.lemmas.Grind.{common_steps}
 use Rattle.iscsi_slots.specs.Slots.{times}
 use Rattle.iscsi_tasks.specs.declared.task.Task.{Task}
 use Rattle.iscsi_tasks.specs.declared.member.Member.{Member}
@@ -40,19 +41,13 @@ none_behind covers list k m l read up past j d j_in =
     (cases_eq j 0))
 
 pub at-requires : goal.at-requires
-at-requires c =
-    let inv = c.loop.invariant in
-    slot_in (λ m. is_covered c.args.cover.now m.task) c.args.chain.now.members c.loop.chain.members c.loop.chain.slots c.loop.counter c.loop.slot (let a = c.len-end.ensures.len in omega (arith, a)) inv.members inv.marked.long inv.there
+at-requires c = grind (arith, common_steps, slot_in)
 
 pub after-next-requires : goal.after-next-requires
-after-next-requires c =
-    let inv = c.loop.invariant in
-    slot_in (λ m. is_covered c.args.cover.now m.task) c.args.chain.now.members c.loop.chain.members c.loop.chain.slots c.loop.counter c.loop.slot (let a = c.len-end.ensures.len in omega (arith, a)) inv.members inv.marked.long inv.there
+after-next-requires c = grind (arith, common_steps, slot_in)
 
 pub remove-requires-clause-there : goal.remove-requires-clause-there
-remove-requires-clause-there c =
-    let inv = c.loop.invariant in
-    slot_in (λ m. is_covered c.args.cover.now m.task) c.args.chain.now.members c.loop.chain.members c.loop.chain.slots c.loop.counter c.loop.slot (let a = c.len-end.ensures.len in omega (arith, a)) inv.members inv.marked.long inv.there
+remove-requires-clause-there c = grind (arith, common_steps, slot_in)
 
 -- from here on none is covered
 rest : (c : goal.Then-is_past) → All (λ (x : Member). is_covered c.args.cover.now x.task ≡ false) (drop c.loop.counter c.args.chain.now.members)

@@ -1,5 +1,6 @@
 use Rattle.std.proofs.Common.{◌≡◌, ◌∙◌, ◌+◌, ◌<◌, ◌≤◌, ℕ, List, length, get_or, position, None, false, ap, sym, arith, ⊎_elim}
 use Rattle.std.proofs.lemmas.Bool.{cases_lt, cases_Bool}
+use Rattle.std.proofs.lemmas.Grind.{common_steps}
 use Rattle.iscsi_tasks.specs.declared.member.Member.{Member}
 use Rattle.iscsi_tasks.specs.declared.marks.Marks.{Marks}
 use Rattle.iscsi_tasks.specs.Sets.{is_new}
@@ -42,9 +43,7 @@ returns-then-slot-marks c =
     c.then-slot-marks.either
 
 pub at-requires : goal.at-requires
-at-requires c =
-    let inv = c.loop.invariant in
-    some_at c.args.chain.now.slots inv.place c.loop.slot (within_some c.args.chain.now.slots inv.place c.loop.slot inv.there c.if-slot-eq-ENDS.false) (sym inv.there)
+at-requires c = grind (arith, common_steps, some_at, within_some)
 
 pub returns-then-is_new : goal.returns-then-is_new
 returns-then-is_new c =
@@ -65,9 +64,7 @@ returns-then-is_new c =
     }
 
 pub after-slot-requires : goal.after-slot-requires
-after-slot-requires c =
-    let inv = c.loop.invariant in
-    some_at c.args.chain.now.slots inv.place c.loop.slot (within_some c.args.chain.now.slots inv.place c.loop.slot inv.there c.if-slot-eq-ENDS.false) (sym inv.there)
+after-slot-requires c = grind (arith, common_steps, some_at, within_some)
 
 pub loop-preserved : goal.loop-preserved
 loop-preserved c =
@@ -87,7 +84,4 @@ loop-preserved c =
     }
 
 pub returns : goal.returns
-returns c =
-    let inv = c.loop.invariant in
-    let far = inv.far in let end = c.loop-test.false in let a = c.len-end.ensures.len in
-    none_past c.args.chain.now.members inv.place (omega (arith, far, end, a)) inv.none
+returns c = grind (arith, common_steps, none_past)

@@ -1,6 +1,7 @@
 use Rattle.std.proofs.Common.{◌≡◌, ◌∙◌, ◌<◌, ℕ, List, Some, position, length, get_or, set, true, false, ap, sym, subst, arith}
 use Rattle.std.proofs.lemmas.List.{get_or_default}
 use Rattle.std.proofs.lemmas.List.Quantifiers.{position-Some}
+use Rattle.std.proofs.lemmas.Grind.{common_steps}
 use Rattle.iscsi_tasks.specs.declared.member.Member.{Member}
 use Rattle.iscsi_tasks.specs.Sets.{is_new}
 use Rattle.iscsi_tasks.specs.Counted.{given_now}
@@ -16,9 +17,7 @@ pub returns-in_default-clause-ticket : goal.returns-in_default-clause-ticket
 returns-in_default-clause-ticket c = sym (next_in_none c.args.chain.now.members (none_at_position is_new c.args.chain.now.members c.in_default.ensures))
 
 pub returns-in_default-clause-state : goal.returns-in_default-clause-state
-returns-in_default-clause-state c =
-    let none = none_at_position is_new c.args.chain.now.members c.in_default.ensures in
-    ap (λ ms. chained c.args.chain.now.slots ms c.args.chain.now.room) (sym (given_in_none c.args.chain.now.members (next_in_none c.args.chain.now.members none)))
+returns-in_default-clause-state c = grind (arith, common_steps, none_at_position, given_in_none, next_in_none)
 
 pub returns-in_default-clause-marked : goal.returns-in_default-clause-marked
 returns-in_default-clause-marked c = marked_none c.requires (none_at_position is_new c.args.chain.now.members c.in_default.ensures)

@@ -2,6 +2,7 @@ use Rattle.std.proofs.Common.{◌≡◌, ◌∙◌, ◌+◌, ◌<◌, ◌≤◌,
 use Rattle.std.specs.List.{position_or_len}
 use Rattle.std.proofs.lemmas.Bool.{cases_lt}
 use Rattle.std.proofs.lemmas.List.{get_or_past}
+use Rattle.std.proofs.lemmas.Grind.{common_steps}
 use Rattle.iscsi_tasks.specs.declared.member.Member.{Member}
 use Rattle.iscsi_tasks.specs.Counted.{is_ordered_in}
 use Rattle.iscsi_tasks.specs.Marked.{IsPastNone}
@@ -13,17 +14,13 @@ use Rattle.iscsi_tasks.proofs.linked_queue.next_ordered.Goals as goal
 
 -- where none is ORDERED up to the end
 none_to_end : (slots : List ℕ) (list : List Member) (slot : ℕ) (past : IsPastNone slots list slot) → length slots ≡ length list → length list ≤ past.place → 0 ≡ get_or slots (position_or_len is_ordered_in list) 0
-none_to_end slots list slot past long far =
-    let end = no_place is_ordered_in list (λ j d l. past.none j d (omega (arith, l, far))) in
-    sym (get_or_past slots (position_or_len is_ordered_in list) 0 (omega (arith, end, long)))
+none_to_end slots list slot past long far = grind (arith, common_steps, no_place, get_or_past)
 
 inside : (slots : List ℕ) (list : List Member) (slot : ℕ) (past : IsPastNone slots list slot) → (slot ≡ 0 → ⊥) → past.place < length slots
 inside slots list slot past some = within_some slots past.place slot past.there some
 
 pub at-requires : goal.at-requires
-at-requires c =
-    let past = c.loop.invariant.past in
-    some_at c.args.chain.now.slots past.place c.loop.slot (inside c.args.chain.now.slots c.args.chain.now.members c.loop.slot past c.if-slot-eq-ENDS.false) (sym past.there)
+at-requires c = grind (arith, common_steps, some_at, inside)
 
 pub returns-then-slot-eq-ENDS : goal.returns-then-slot-eq-ENDS
 returns-then-slot-eq-ENDS c =
@@ -46,9 +43,7 @@ returns-then-slot-eq-ENDS c =
     ]
 
 pub after-slot-requires : goal.after-slot-requires
-after-slot-requires c =
-    let past = c.loop.invariant.past in
-    some_at c.args.chain.now.slots past.place c.loop.slot (inside c.args.chain.now.slots c.args.chain.now.members c.loop.slot past c.if-slot-eq-ENDS.false) (sym past.there)
+after-slot-requires c = grind (arith, common_steps, some_at, inside)
 
 pub loop-preserved : goal.loop-preserved
 loop-preserved c =

@@ -1,5 +1,6 @@
 use Rattle.std.proofs.Common.{◌≡◌, ◌∙◌, ◌<◌, ◌+◌, ◌++◌, ◌∷◌, [], ℕ, List, length, map, get_or, ap, sym, subst, arith}
 use Rattle.std.proofs.lemmas.List.{get_or_default}
+use Rattle.std.proofs.lemmas.Grind.{common_steps}
 use Rattle.iscsi_tasks.specs.declared.member.Member.{Member}
 use Rattle.iscsi_tasks.specs.declared.node.Node.{Node}
 use Rattle.iscsi_tasks.specs.Chains.{Chained, chained, BLANK_NODE, before_of, member_at, order_in, linked_to, IsChained}
@@ -37,8 +38,7 @@ link-requires-2-clause-first c =
 
 -- the nodes, once the member entered
 nodes_are : (c : goal.After-self-1) → c.link-2.new.nodes.items ≡ entered_in c.self.inside.nodes.items c.take-slot.new.nodes.items c.take-slot.result
-nodes_are c =
-    c.link-2.ensures.nodes ∙ ap (λ ns. linked_to ns c.take-slot.result 0) (c.link.ensures.nodes ∙ ap (λ l. linked_to c.take-slot.new.nodes.items l c.take-slot.result) (last_is c.self.invariant c.from.result c.index.result.now c.from.ensures c.index.ensures))
+nodes_are c = grind (arith, common_steps, last_is)
 
 pub invariant_of-self : goal.invariant_of-self
 invariant_of-self c =

@@ -1,6 +1,7 @@
 use Rattle.std.proofs.Common.{◌≡◌, ◌∙◌, ◌<◌, ◌≤◌, ◌-◌, ℕ, List, length, map, get_or, set, ap, sym, subst, arith}
 use Rattle.std.specs.List.{remove}
 use Rattle.std.proofs.lemmas.List.{get_or_default}
+use Rattle.std.proofs.lemmas.Grind.{common_steps}
 use Rattle.iscsi_slots.specs.Slots.{times}
 use Rattle.iscsi_slots.proofs.SlotLemmas.{StandsAt, stands}
 use Rattle.iscsi_tasks.specs.declared.node.Node.{Node}
@@ -48,9 +49,7 @@ left : (c : goal.After-self-2-1) → Read c.self.inside.nodes.items c.self.insid
 left c = read_is c.self.invariant c.args.self.now c.self.view_is c.args.slot c.from.result c.requires c.from.ensures c.index.result.now c.index.ensures
 
 nodes_are : (c : goal.After-self-2-1) → c.give_back.new.nodes.items ≡ without c.self.inside.nodes.items c.self.inside.free c.args.slot
-nodes_are c =
-    c.give_back.ensures.nodes
-    ∙ ap (λ ns. set ns c.args.slot (freed_before c.self.inside.free (node_at ns c.args.slot))) (c.link.ensures.nodes ∙ ap (λ (n : Node). linked_to c.self.inside.nodes.items n.before n.after) (left c).node)
+nodes_are c = grind (arith, common_steps, left)
 
 pub invariant_of-self : goal.invariant_of-self
 invariant_of-self c =

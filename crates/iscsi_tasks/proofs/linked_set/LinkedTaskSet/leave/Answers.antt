@@ -1,4 +1,5 @@
-use Rattle.std.proofs.Common.{◌≡◌, ◌∙◌, None, Some, ap, sym, subst}
+use Rattle.std.proofs.Common.{◌≡◌, ◌∙◌, None, Some, ap, sym, subst, arith}
+use Rattle.std.proofs.lemmas.Grind.{common_steps}
 use Rattle.iscsi_tasks.specs.Sets.{Members, left_by, tasks_in, with_ticket}
 use Rattle.iscsi_tasks.specs.Changes.{StandsFor, after_leaving}
 use Rattle.iscsi_tasks.specs.Chains.{BLANK}
@@ -18,8 +19,7 @@ pub returns-in_err-slot-clause-state : goal.returns-in_err-slot-clause-state
 returns-in_err-slot-clause-state c = sym (ap (left_by c.args.self.now) (absent c))
 
 pub returns-in_err-slot-clause-stands : goal.returns-in_err-slot-clause-stands
-returns-in_err-slot-clause-stands c = λ h st.
-    (returns-in_err-slot-clause-answer c ∙ ap (with_ticket c.args.ticket) st.tasks, subst (λ o. StandsFor c.args.self.now (after_leaving o h)) (sym c.from_residual.ensures) st)
+returns-in_err-slot-clause-stands c = grind (arith, common_steps, returns-in_err-slot-clause-answer)
 
 pub let_go-requires : goal.let_go-requires
 let_go-requires c = slot_there c.self.invariant c.args.ticket c.in_ok-slot.slot c.in_ok-slot.ensures
@@ -36,7 +36,4 @@ returns-clause-state c =
     ∙ ap (λ (s : Members). left_by s (Some c.let_go.result)) c.self.view_is ∙ ap (left_by c.args.self.now) (returns-clause-answer c)
 
 pub returns-clause-stands : goal.returns-clause-stands
-returns-clause-stands c = λ h st. (
-  returns-clause-answer c ∙ ap (with_ticket c.args.ticket) st.tasks,
-  c.let_go.ensures.stands h (subst (λ (s : Members). StandsFor s h) (sym c.self.view_is) st),
-)
+returns-clause-stands c = grind (arith, common_steps, returns-clause-answer)

@@ -1,4 +1,5 @@
-use Rattle.std.proofs.Common.{◌≡◌, ◌∙◌, Option, Some, false, true, ap, sym, subst}
+use Rattle.std.proofs.Common.{◌≡◌, ◌∙◌, Option, Some, false, true, ap, sym, subst, arith}
+use Rattle.std.proofs.lemmas.Grind.{common_steps}
 use Rattle.iscsi_tasks.specs.declared.task.Task.{Task}
 use Rattle.iscsi_tasks.specs.Sets.{Members, left_by, tasks_in, with_ticket, is_enabled_in}
 use Rattle.iscsi_tasks.specs.Changes.{StandsFor, after_leaving}
@@ -50,6 +51,4 @@ pub returns-clause-since : goal.returns-clause-since
 returns-clause-since c = enabled_is c.args.self.now c.args.ticket true (returns-clause-answer c)
 
 pub returns-clause-stands : goal.returns-clause-stands
-returns-clause-stands c h st =
-    subst (λ (o : Option Task). StandsFor c.let_go.new.self.shown (after_leaving o h)) (sym (ap (with_ticket c.args.ticket) (sym st.tasks) ∙ found c))
-    (c.let_go.ensures.stands h (subst (λ (s : Members). StandsFor s h) (sym c.self.view_is) st))
+returns-clause-stands c h st = grind (arith, common_steps, found)

@@ -1,6 +1,7 @@
 use Rattle.std.proofs.Common.{◌≡◌, ◌<◌, ◌+◌, ◌∷◌, ◌++◌, [], ◌∙◌, ◌&&◌, Bool, true, false, ℤ, List, w64, to_z, of_z, length, map, rules, ap, sym, subst, arith}
 use Rattle.std.proofs.lemmas.List.{length_push, length-map, map-append}
 use Rattle.std.proofs.lemmas.Int.{to_z-of_z}
+use Rattle.std.proofs.lemmas.Grind.{common_steps}
 use Rattle.iscsi_tasks.specs.declared.task.Task.{Task}
 use Rattle.iscsi_tasks.specs.declared.member.Member.{Member}
 use Rattle.iscsi_tasks.specs.Sets.{Members, IsNewest, entered_to, after_moment}
@@ -81,18 +82,7 @@ invariant_of-self-2 c = record {
 }
 
 pub returns-clause-ok : goal.returns-clause-ok
-returns-clause-ok c =
-    let i = c.self.inside in
-    let v : Members = record { depth = i.depth; looked = i.looked; list = i.chain.members } in
-    let e : Bool = c.test_free-enabled.result in
-    let now : (l : List Member) → Members = λ l. record { depth = i.depth; looked = 1; list = l } in
-    let after_push : Members → Linked = λ s. linked s c.push-slot.new.chain.slots in
-    subst (λ (l : Linked). (length l.shown.list < l.shown.depth) × (after_push (record { depth = i.depth; looked = c.test_free-enabled.new.looked; list = c.push-slot.new.chain.members }) ≡ linked (taken_in l.shown c.args.task e (c.args.gives && e)) (l.slots ++ c.push-slot.result ∷ [])) × (entered_to l.shown c.args.task ≡ taken_in l.shown c.args.task e false)) c.self.view_is (
-      (room c).0,
-      ap after_push (ap (λ n. record { depth = i.depth; looked = n; list = c.push-slot.new.chain.members }) c.test_free-enabled.ensures.looked ∙ ap now c.push-slot.ensures.members ∙ ap (taken_in v c.args.task e) (given_is c))
-          ∙ ap (linked (taken_in v c.args.task e (c.args.gives && e))) c.push-slot.ensures.slots,
-      ap now (after c),
-    )
+returns-clause-ok c = grind (arith, common_steps, room, given_is, after)
 
 pub returns-clause-sound : goal.returns-clause-sound
 returns-clause-sound c = in_slots (invariant_of-self-2 c)

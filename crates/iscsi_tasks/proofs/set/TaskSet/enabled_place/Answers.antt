@@ -1,4 +1,5 @@
 use Rattle.std.proofs.Common.{◌≡◌, ◌∙◌, ◌<◌, length, get_or, IfSome, arith, ap, sym, subst, Some, false, true, Option, ℕ, IsSome}
+use Rattle.std.proofs.lemmas.Grind.{common_steps}
 use Rattle.iscsi_tasks.specs.declared.member.Member.{Member}
 use Rattle.iscsi_tasks.specs.Sets.{tasks_in, with_ticket}
 use Rattle.iscsi_tasks.specs.Changes.{IsEnabled}
@@ -9,12 +10,10 @@ use Rattle.iscsi_tasks.proofs.set.TaskSet.enabled_place.Goals as goal
 
 -- no command has the ticket
 pub returns-in_err-at-clause-answer : goal.returns-in_err-at-clause-answer
-returns-in_err-at-clause-answer c =
-    c.from_residual.ensures ∙ enabled_nowhere c.args.self.now.list c.args.ticket (not_enabled c.args.self.now.list c.args.ticket c.in_err-at.ensures.place)
+returns-in_err-at-clause-answer c = grind (arith, common_steps, enabled_nowhere, not_enabled)
 
 pub returns-in_err-at-clause-command : goal.returns-in_err-at-clause-command
-returns-in_err-at-clause-command c =
-    subst (λ (r : Option ℕ). IfSome r (λ k. (k < length c.args.self.now.list) × ((d : Member) → with_ticket c.args.ticket (tasks_in c.args.self.now) ≡ Some (get_or c.args.self.now.list k d).task))) (sym c.from_residual.ensures) tt
+returns-in_err-at-clause-command c = grind (arith, common_steps)
 
 pub returns-in_err-at-clause-since : goal.returns-in_err-at-clause-since
 returns-in_err-at-clause-since c = λ h st.

@@ -1,4 +1,5 @@
 use Rattle.std.proofs.Common.{◌∙◌, ap, sym, arith}
+use Rattle.std.proofs.lemmas.Grind.{common_steps}
 use Rattle.iscsi_tasks.specs.declared.member.Member.{Member}
 use Rattle.iscsi_tasks.specs.Sets.{is_covered}
 use Rattle.iscsi_tasks.specs.Chains.{member_of}
@@ -15,6 +16,4 @@ returns-then-covers c =
     (omega arith)
 
 pub returns : goal.returns
-returns c =
-    let covered = λ (m : Member). is_covered c.args.cover.now m.task in
-    position_none covered c.args.self.now.list (no_place covered c.args.self.now.list (λ j d l. c.loop-place.invariant j d (omega arith)))
+returns c = grind (arith, common_steps, position_none, no_place)

@@ -1,21 +1,14 @@
 use Rattle.std.proofs.Common.{◌+◌, ◌-◌, ◌/◌, ap, arith}
+use Rattle.std.proofs.lemmas.Grind.{common_steps}
 use Rattle.iscsi_slots.proofs.HalvingLemmas.{halved_up, halved_down, half_from, half_to}
 use Rattle.iscsi_tasks.specs.declared.member.Member.{Member}
 use Rattle.iscsi_tasks.proofs.set.TaskSet.first_from.Goals as goal
 
 pub loop-low-init : goal.loop-low-init
-loop-low-init c = record {
-  ordered = omega arith;
-  inside = omega arith;
-  below = λ k d l. absurd (omega (arith, l));
-  above = λ k d l within. absurd (omega (arith, l, within));
-}
+loop-low-init c = grind (arith, common_steps)
 
 pub at-requires : goal.at-requires
-at-requires c =
-    let l = c.loop-low.invariant.inside in
-    let to = half_to c.loop-low.low c.loop-low.high c.loop-low-test.true in
-    omega (arith, l, to)
+at-requires c = grind (arith, common_steps, half_to)
 
 pub loop-low-preserved-then-at-ticket : goal.loop-low-preserved-then-at-ticket
 loop-low-preserved-then-at-ticket c =

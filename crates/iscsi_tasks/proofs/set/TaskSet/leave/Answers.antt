@@ -1,4 +1,5 @@
-use Rattle.std.proofs.Common.{◌∙◌, Some, ap, sym, subst}
+use Rattle.std.proofs.Common.{◌∙◌, Some, ap, sym, subst, arith}
+use Rattle.std.proofs.lemmas.Grind.{common_steps}
 use Rattle.iscsi_tasks.specs.Sets.{left_by, with_ticket}
 use Rattle.iscsi_tasks.specs.Changes.{StandsFor, after_leaving}
 use Rattle.iscsi_tasks.specs.Chains.{BLANK}
@@ -13,8 +14,7 @@ pub returns-in_err-at-clause-state : goal.returns-in_err-at-clause-state
 returns-in_err-at-clause-state c = sym (ap (left_by c.args.self.now) (not_found c.args.self.now.list c.args.ticket c.in_err-at.ensures.place))
 
 pub returns-in_err-at-clause-stands : goal.returns-in_err-at-clause-stands
-returns-in_err-at-clause-stands c = λ h st.
-    (returns-in_err-at-clause-answer c ∙ ap (with_ticket c.args.ticket) st.tasks, subst (λ o. StandsFor c.args.self.now (after_leaving o h)) (sym c.from_residual.ensures) st)
+returns-in_err-at-clause-stands c = grind (arith, common_steps, returns-in_err-at-clause-answer)
 
 pub returns-in_err-at-clause-stays_free : goal.returns-in_err-at-clause-stays_free
 returns-in_err-at-clause-stays_free c = stays_free

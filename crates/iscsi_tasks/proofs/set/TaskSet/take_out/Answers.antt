@@ -1,5 +1,6 @@
 use Rattle.std.proofs.Common.{◌≡◌, ◌∙◌, ◌<◌, Some, ℕ, List, length, get_or, ap, sym, subst, arith}
 use Rattle.std.specs.List.{remove}
+use Rattle.std.proofs.lemmas.Grind.{common_steps}
 use Rattle.iscsi_slots.specs.Queued.{Queued}
 use Rattle.iscsi_tasks.specs.Sets.{Members, left_by}
 use Rattle.iscsi_tasks.specs.Changes.{StandsFor}
@@ -10,18 +11,13 @@ use Rattle.iscsi_tasks.proofs.set.TaskSet.take_out.Goals as goal
 
 -- the slot at a place
 within : {l : Linked} {order : List ℕ} {order_room left_room : ℕ} (s : Members) (at : ℕ) → IsPlaced l order order_room left_room → l.shown ≡ s → at < length s.list → at < length l.slots
-within {l} s at placed same inside =
-    let long = placed.in_slots.long in
-    let here : at < length l.shown.list = subst (λ (x : Members). at < length x.list) (sym same) inside in
-    omega (arith, long, here)
+within {l} s at placed same inside = grind (arith, common_steps)
 
 there : {l : Linked} {order : List ℕ} {order_room left_room : ℕ} (at slot : ℕ) → IsPlaced l order order_room left_room → slot ≡ get_or order at 0 → get_or l.slots at 0 ≡ slot
 there at slot placed is = sym (is ∙ ap (λ o. get_or o at 0) placed.same)
 
 pub let_go-requires : goal.let_go-requires
-let_go-requires c =
-    some_at c.self.inside.tasks.slots c.args.at c.at-slot.result (within c.args.self.now c.args.at c.self.invariant c.self.view_is c.requires)
-    (there c.args.at c.at-slot.result c.self.invariant c.at-slot.ensures)
+let_go-requires c = grind (arith, common_steps, some_at, within, there)
 
 left : (c : goal.After-let_go) → c.let_go.new.self ≡ linked (left_by c.self.inside.tasks.shown (Some c.let_go.result)) (remove c.self.inside.tasks.slots c.args.at)
 left c = (c.let_go.ensures.state c.args.at BLANK (within c.args.self.now c.args.at c.self.invariant c.self.view_is c.requires) (there c.args.at c.at-slot.result c.self.invariant c.at-slot.ensures)).1
