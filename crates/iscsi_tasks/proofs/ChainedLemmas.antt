@@ -96,37 +96,25 @@ module _ {nodes : List Node} {capacity free len room : ℕ} (chained : IsChained
     ring_above : (k : ℕ) → p < k → get_or (0 ∷ rest) k 0 ≡ get_or (0 ∷ slots) (k + 1) 0
     ring_above k a = get_or-remove_above (0 ∷ slots) (suc p) 0 k (omega arith) (omega (arith, l))
 
+    ring_apart : (i j : ℕ) → i ≤ len → j ≤ p + 1 → i ≢ j → get_or (0 ∷ slots) i 0 ≢ get_or (0 ∷ slots) j 0
+    ring_apart i j i_in j_in other same = other (same_place (0 ∷ slots) once_in_ring i j (omega (arith, i_in, long)) (omega (arith, j_in, l)) same)
+
     -- what the nodes of others tell
     after_other : (i : ℕ) → i ≤ len → i ≢ p → i ≢ p + 1 → after_of now (get_or (0 ∷ slots) i 0) ≡ get_or slots i 0
     after_other i within not_before not_it =
-        let a = long in
         let j : ℕ = get_or (0 ∷ slots) i 0 in
-        let there : i < length (0 ∷ slots) = omega (arith, within, a) in
-        let it : j ≢ slot = λ same. let e = same_place (0 ∷ slots) once_in_ring i (suc p) there (omega (arith, l)) same in not_it (omega (arith, e)) in
-        let first : j ≢ before = λ same. let e = same_place (0 ∷ slots) once_in_ring i p there (omega (arith, l)) (same ∙ before_is) in not_before e in
-        ap (λ (n : Node). n.after) (get_or-set_other closed slot j (freed_before free (node_at closed slot)) BLANK_NODE it)
-        ∙ after_else nodes before after before_in after_in j first
-        ∙ chained.linked.after i (omega (arith, within, a))
+        ap (λ (n : Node). n.after) (get_or-set_other closed slot j (freed_before free (node_at closed slot)) BLANK_NODE (ring_apart i (suc p) within (omega arith) (λ e. not_it (omega arith))))
+        ∙ after_else nodes before after before_in after_in j (λ same. ring_apart i p within (omega arith) not_before (same ∙ before_is))
+        ∙ chained.linked.after i (omega (arith, within, long))
 
     after_before : after_of now before ≡ after
     after_before = grind (arith, nat_tests, long, same_place, once_in_ring, suc, before_is, get_or-set_other, after_here, before_in, after_in)
 
     before_other : (i : ℕ) → i ≤ len → i ≢ p → i ≢ p + 1 → before_of now (get_or slots i 0) ≡ get_or (0 ∷ slots) i 0
-    before_other i within not_it not_after =
-        let a = long in
-        let j : ℕ = get_or slots i 0 in
-        let it : j ≢ slot = λ same. not_it (same_to_end apart i p (omega (arith, within, a)) (omega (arith, l)) same) in
-        let second : j ≢ after = λ same. not_after (same_to_end apart i (p + 1) (omega (arith, within, a)) (omega (arith, l)) (same ∙ after_is)) in
-        ap (λ (n : Node). n.before) (get_or-set_other closed slot j (freed_before free (node_at closed slot)) BLANK_NODE it)
-        ∙ before_else nodes before after before_in after_in j second
-        ∙ chained.linked.before i (omega (arith, within, a))
+    before_other i within not_it not_after = grind (arith, nat_tests, long, same_to_end apart i, after_is, get_or-set_other, before_else nodes before after before_in after_in)
 
     before_after : before_of now after ≡ before
-    before_after =
-        let a = long in
-        let it : after ≢ slot = λ same. let e = same_to_end apart (p + 1) p (omega (arith, l)) (omega (arith, l)) (sym after_is ∙ same) in absurd (omega (arith, e)) in
-        ap (λ (n : Node). n.before) (get_or-set_other closed slot after (freed_before free (node_at closed slot)) BLANK_NODE it)
-        ∙ before_here nodes before after before_in after_in
+    before_after = grind (arith, nat_tests, long, same_to_end apart (p + 1) p, after_is, get_or-set_other, before_here nodes before after before_in after_in)
 
     linked_without : IsLinked now rest
     linked_without = grind (arith, nat_tests, rest_long, ring_below, after_other, get_or-remove_below, get_or, before_is, after_before, after_is, get_or-remove_above, ring_above, before_other, before_after)
@@ -385,44 +373,29 @@ module _ {nodes : List Node} {capacity free len room : ℕ} (chained : IsChained
     member_old : (j : ℕ) → 1 ≤ times j (0 ∷ (order_in nodes len)) + times j (left_in nodes n0 next len) → member_at (entered_in nodes n0 slot) j ≡ member_at nodes j
     member_old j some = member_linked (end_in nodes n0 slot) slot 0 slot_n1 zero_n1 j ∙ member_linked n0 (before_of nodes 0) slot last_fresh slot_fresh j ∙ ap member_of (is.same j some)
 
+    old_after : (k : ℕ) → k < len → after_of (entered_in nodes n0 slot) (get_or (0 ∷ (order_in nodes len)) k 0) ≡ get_or (order_in nodes len) k 0
+    old_after k below =
+        after_old (get_or (0 ∷ (order_in nodes len)) k 0) (ring_old k (omega arith))
+        (λ same. let e = same_place (0 ∷ (order_in nodes len)) (once_in_ring chained) k len (omega (arith, below, long chained)) (omega (arith, long chained)) (same ∙ last_is) in omega (arith, below, e))
+        ∙ chained.linked.after k (omega (arith, below, long chained))
+
+    old_before : (k : ℕ) → k < len → before_of (entered_in nodes n0 slot) (get_or (order_in nodes len) k 0) ≡ get_or (0 ∷ (order_in nodes len)) k 0
+    old_before k below = grind (arith, nat_tests, before_old (get_or (order_in nodes len) k 0), ring_old (suc k), not_end (apart chained) k, long chained)
+
     linked_with : IsLinked (entered_in nodes n0 slot) (order_in nodes len ++ slot ∷ [])
-    linked_with = record {
-      after = λ k within. let a = order_long in ⊎_elim
-          (λ below. ap (after_of (entered_in nodes n0 slot)) (same_ring k (omega (arith, below)))
-          ∙ after_old (get_or (0 ∷ (order_in nodes len)) k 0) (ring_old k (omega (arith, below)))
-          (λ same. let b = long chained in let e = same_place (0 ∷ (order_in nodes len)) (once_in_ring chained) k len (omega (arith, below, b)) (omega (arith, b)) (same ∙ last_is) in omega (arith, below, e))
-          ∙ chained.linked.after k (let b = long chained in omega (arith, below, b)) ∙ sym (same_order k below))
-          (λ above. ⊎_elim
-          (λ (here : k ≡ len). ap (λ n. after_of (entered_in nodes n0 slot) (get_or (0 ∷ (order_in nodes len ++ slot ∷ [])) n 0)) here ∙ ap (after_of (entered_in nodes n0 slot)) (same_ring len (omega arith) ∙ sym last_is) ∙ after_last ∙ sym (ap (λ n. get_or (order_in nodes len ++ slot ∷ []) n 0) here ∙ order_last))
-          (λ more. let end : k ≡ len + 1 = omega (arith, above, more, within, a) in
-          ap (λ n. after_of (entered_in nodes n0 slot) (get_or (0 ∷ (order_in nodes len ++ slot ∷ [])) n 0)) end ∙ ap (after_of (entered_in nodes n0 slot)) ring_last ∙ after_new ∙ sym (ap (λ n. get_or (order_in nodes len ++ slot ∷ []) n 0) end ∙ order_past))
-          (cases_eq k len))
-          (cases_lt k len);
-      before = λ k within. let a = order_long in ⊎_elim
-          (λ below. let b = long chained in
-          ap (before_of (entered_in nodes n0 slot)) (same_order k below)
-          ∙ before_old (get_or (order_in nodes len) k 0) (ring_old (suc k) (omega (arith, below))) (not_end (apart chained) k (omega (arith, below, b)))
-          ∙ chained.linked.before k (omega (arith, below, b)) ∙ sym (same_ring k (omega (arith, below))))
-          (λ above. ⊎_elim
-          (λ (here : k ≡ len). ap (λ n. before_of (entered_in nodes n0 slot) (get_or (order_in nodes len ++ slot ∷ []) n 0)) here ∙ ap (before_of (entered_in nodes n0 slot)) order_last ∙ before_new ∙ last_is ∙ sym (ap (λ n. get_or (0 ∷ (order_in nodes len ++ slot ∷ [])) n 0) here ∙ same_ring len (omega arith)))
-          (λ more. let end : k ≡ len + 1 = omega (arith, above, more, within, a) in
-          ap (λ n. before_of (entered_in nodes n0 slot) (get_or (order_in nodes len ++ slot ∷ []) n 0)) end ∙ ap (before_of (entered_in nodes n0 slot)) order_past ∙ before_zero ∙ sym (ap (λ n. get_or (0 ∷ (order_in nodes len ++ slot ∷ [])) n 0) end ∙ ring_last))
-          (cases_eq k len))
-          (cases_lt k len);
-    }
+    linked_with = grind (arith, nat_tests, order_long, same_ring, same_order, old_after, old_before, last_is, after_last, after_new, order_last, order_past, ring_last, before_new, before_zero)
 
     pub order_with : order_in (entered_in nodes n0 slot) (len + 1) ≡ (order_in nodes len ++ slot ∷ [])
     order_with = ap (order_in (entered_in nodes n0 slot)) (sym order_long) ∙ order_is (entered_in nodes n0 slot) 0 (order_in nodes len ++ slot ∷ []) (λ k k_in. linked_with.after k (omega (arith, k_in)))
 
+    -- a slot that is free isn't the last one
+    not_last : (j : ℕ) → 1 ≤ times j (left_in nodes n0 next len) → j ≢ (before_of nodes 0)
+    not_last j some same = grind (arith, nat_tests, at_most_once (shared_with taken) j, times_at (0 ∷ (order_in nodes len)) len, last_is, long chained, times_append)
+
     free_with : free_in (entered_in nodes n0 slot) next (len + 1) ≡ (left_in nodes n0 next len)
-    free_with = ap (λ m. order_from (entered_in nodes n0 slot) next (m - 1 - (len + 1))) entered_long
-        ∙ order_same nodes (entered_in nodes n0 slot) next (length n0 - 1 - (len + 1)) (λ j some. after_old j (omega (arith, some))
-        (λ same.
-        let one = at_most_once (shared_with taken) j in
-        let there = ring_old len (omega arith) in
-        let used : 1 ≤ times j (0 ∷ (order_in nodes len)) = subst (λ s. 1 ≤ times s (0 ∷ (order_in nodes len))) (sym (same ∙ last_is)) (times_at (0 ∷ (order_in nodes len)) len (let b = long chained in omega (arith, b))) in
-        let split = times_append j (order_in nodes len) (slot ∷ []) in
-        absurd (omega (arith, one, used, some, split))))
+    free_with =
+        ap (λ m. order_from (entered_in nodes n0 slot) next (m - 1 - (len + 1))) entered_long
+        ∙ order_same nodes (entered_in nodes n0 slot) next (length n0 - 1 - (len + 1)) (λ j some. after_old j (omega (arith, some)) (not_last j some))
 
     pub chained_with : IsChained (entered_in nodes n0 slot) capacity next (len + 1) room
     chained_with = grind (arith, nat_tests, length, order_with, free_with, entered_long, shared_with, linked_with, free_before, before_old, at_most_once, times_at)

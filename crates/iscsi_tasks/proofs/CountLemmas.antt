@@ -59,32 +59,26 @@ module _ (c : Counts) (list : List Member) (counted : IsCounted c list) (m : Mem
   pub at_push : (P : Member → Type 0) (k : ℕ) (d : Member) → k < length list + 1 → (k < length list → P (get_or list k d)) → (k ≡ length list → P m) → P (get_or (list ++ m ∷ []) k d)
   at_push P k d within before last = grind (arith, nat_tests, get_or_append_left, get_or_push, length)
 
-  pub counted_push : (from to : ℕ) → to ≤ length list + 1 → ((k : ℕ) (d : Member) → k < length list + 1 → is_new (get_or (list ++ m ∷ []) k d) ≡ true → (from ≤ k) × (k < to)) → IsCounted (with_last c (length list) m from to) (list ++ m ∷ [])
-  counted_push from to upto between =
-      let len : ℕ = length list in
-      let long : length (list ++ m ∷ []) ≡ len + 1 = length_push list m in
-      record {
-        order = all_pairs_push (λ a b. a.task.ticket < b.task.ticket) list m counted.order newest;
-        heads = ap (plus_one_if (is_head_in m)) counted.heads ∙ sym (count_push is_head_in list m);
-        ordered_at = first_push is_ordered_in list m c.ordered_at counted.ordered_at;
-        enabled_to = subst (λ n. plus_one_if (c.enabled_to == len && m.enabled) c.enabled_to ≤ n) (sym long) (moved_on c.enabled_to len m.enabled counted.enabled_to);
-        enabled = λ k d l. ⊎_elim
-            (λ yes. let parts = and_parts (c.enabled_to == len) m.enabled yes in
-            let end : c.enabled_to ≡ len = eqb-true _ _ parts.0 in
-            let below : k < c.enabled_to + 1 = subst (λ b. k < plus_one_if b c.enabled_to) yes l in
-            at_push (λ x. x.enabled ≡ true) k d (omega arith) (λ b. counted.enabled k d (omega arith)) (λ e. parts.1))
-            (λ no. let below : k < c.enabled_to = subst (λ b. k < plus_one_if b c.enabled_to) no l in
-            at_push (λ x. x.enabled ≡ true) k d (omega (arith, counted.enabled_to)) (λ b. counted.enabled k d below) (λ e. absurd (omega (arith, counted.enabled_to))))
-            (cases_Bool (c.enabled_to == len && m.enabled));
-        heads_enabled = All-push (λ k. is_head_in k ≡ true → k.enabled ≡ true) list m counted.heads_enabled head;
-        new_to = omega (arith, long, upto);
-        new = λ k d l. between k d (omega (arith, l, long));
-      }
+  pub counted_push : (from to : ℕ) → to ≤ length list + 1 → ((k : ℕ) (d : Member) → k < length list → is_new (get_or list k d) ≡ true → (from ≤ k) × (k < to)) → (is_new m ≡ true → (from ≤ length list) × (length list < to)) → IsCounted (with_last c (length list) m from to) (list ++ m ∷ [])
+  counted_push from to upto old new = record {
+    order = all_pairs_push (λ a b. a.task.ticket < b.task.ticket) list m counted.order newest;
+    heads = grind (arith, count_push);
+    ordered_at = first_push is_ordered_in list m c.ordered_at counted.ordered_at;
+    enabled_to = grind (arith, nat_tests, length_push);
+    enabled = grind (arith, nat_tests, get_or_append_left, get_or_push);
+    heads_enabled = All-push (λ k. is_head_in k ≡ true → k.enabled ≡ true) list m counted.heads_enabled head;
+    new_to = omega (arith, length_push list m, upto);
+    new = grind (arith, nat_tests, length_push, get_or_append_left, get_or_push);
+  }
 
 -- ---- a command leaves
 
 pub shifted_cases : (at place : ℕ) → ((at < place) × (shifted_by at place ≡ place - 1)) ⊎ ((place ≤ at) × (shifted_by at place ≡ place))
 shifted_cases at place = grind (arith, nat_tests, inl, cond, lt-ltb, inr, le-ltb)
+
+-- a place between two others is between them still
+shifted_within : (at from to k j : ℕ) → ((k < at) × (j ≡ k)) ⊎ ((at ≤ k) × (j ≡ k + 1)) → from ≤ j → j < to → (shifted_by at from ≤ k) × (k < shifted_by at to)
+shifted_within at from to k j place low high = grind (arith, nat_tests)
 
 module _ (list : List Member) (at : ℕ) (within : at < length list) where
   at_remove : (P : Member → Type 0) (k : ℕ) (d : Member) → (k < at → P (get_or list k d)) → (at ≤ k → P (get_or list (k + 1) d)) → P (get_or (remove list at) k d)
@@ -94,14 +88,11 @@ module _ (list : List Member) (at : ℕ) (within : at < length list) where
   shorter = length-remove list at within
 
   shifted-le : (place : ℕ) → place ≤ length list → shifted_by at place ≤ length (remove list at)
-  shifted-le place inside = ⊎_elim (λ case. omega (arith, shorter, case.0, case.1)) (λ case. omega (arith, shorter, case.0, case.1)) (shifted_cases at place)
+  shifted-le place inside = grind (arith, nat_tests, shorter)
 
   -- what is below a shifted place was below the place
   below_shifted : (P : Member → Type 0) (place : ℕ) → ((k : ℕ) (d : Member) → k < place → P (get_or list k d)) → (k : ℕ) (d : Member) → k < shifted_by at place → P (get_or (remove list at) k d)
-  below_shifted P place before k d below = ⊎_elim
-      (λ case. at_remove P k d (λ b. before k d (omega (arith, case.0, case.1))) (λ a. before (k + 1) d (omega (arith, case.0, case.1))))
-      (λ case. at_remove P k d (λ b. before k d (omega (arith, case.0, case.1))) (λ a. absurd (omega (arith, case.0, case.1))))
-      (shifted_cases at place)
+  below_shifted P place before k d below = grind (arith, nat_tests, get_or-remove_below, get_or-remove_above)
 
   pub ordered_shifted : (place : ℕ) → place ≡ position_or_len is_ordered_in list → (shifted_by at place ≤ length (remove list at)) × ((k : ℕ) (d : Member) → k < shifted_by at place → is_ordered_in (get_or (remove list at) k d) ≡ false)
   ordered_shifted place is = (
@@ -114,15 +105,7 @@ module _ (list : List Member) (at : ℕ) (within : at < length list) where
 
   -- HEAD OF QUEUE is counted, so there is one less
   pub one_less : (c : Counts) (d : Member) (attr : Attr) → c.heads ≡ count_by is_head_in list → attr ≡ (get_or list at d).task.attr → (is_head_of attr ≡ true → 0 < c.heads) × (cond {A = ℕ} (is_head_of attr) (c.heads - 1) c.heads ≡ count_by is_head_in (remove list at))
-  one_less c d attr counted is =
-      let sum = heads_less d in ⊎_elim
-      (λ head.
-      let one : cond {A = ℕ} (is_head_in (get_or list at d)) 1 0 ≡ 1 = ap (λ a. cond {A = ℕ} (is_head_of a) 1 0) (sym is) ∙ ap (λ b. cond {A = ℕ} b 1 0) head in
-      (λ h. omega (arith, sum, one, counted), ap (λ b. cond {A = ℕ} b (c.heads - 1) c.heads) head ∙ omega (arith, sum, one, counted)))
-      (λ other.
-      let none : cond {A = ℕ} (is_head_in (get_or list at d)) 1 0 ≡ 0 = ap (λ a. cond {A = ℕ} (is_head_of a) 1 0) (sym is) ∙ ap (λ b. cond {A = ℕ} b 1 0) other in
-      (λ h. absurd (true≢false (sym h ∙ other)), ap (λ b. cond {A = ℕ} b (c.heads - 1) c.heads) other ∙ omega (arith, sum, none, counted)))
-      (cases_Bool (is_head_of attr))
+  one_less c d attr counted is = grind (arith, nat_tests, heads_less d)
 
   pub counted_remove : (c : Counts) (d : Member) (attr : Attr) (ordered_at : ℕ) → IsCounted c list → attr ≡ (get_or list at d).task.attr → ordered_at ≡ position_or_len is_ordered_in (remove list at) → IsCounted (without_one c at attr ordered_at) (remove list at)
   counted_remove c d attr ordered_at counted is first = record {
@@ -134,14 +117,8 @@ module _ (list : List Member) (at : ℕ) (within : at < length list) where
     heads_enabled = λ k e l. at_remove (λ m. is_head_in m ≡ true → m.enabled ≡ true) k e (λ b. counted.heads_enabled k e (omega arith)) (λ a. counted.heads_enabled (k + 1) e (omega (arith, shorter)));
     new_to = shifted-le c.new_to counted.new_to;
     new = λ k e l. at_remove (λ m. is_new m ≡ true → (shifted_by at c.new_from ≤ k) × (k < shifted_by at c.new_to)) k e
-        (λ b new. let was = counted.new k e (omega arith) new in (
-          ⊎_elim (λ case. omega (arith, was.0, case.0, case.1)) (λ case. omega (arith, was.0, case.0, case.1)) (shifted_cases at c.new_from),
-          ⊎_elim (λ case. omega (arith, was.1, case.0, case.1)) (λ case. omega (arith, was.1, case.0, case.1)) (shifted_cases at c.new_to),
-        ))
-        (λ a new. let was = counted.new (k + 1) e (omega (arith, shorter)) new in (
-          ⊎_elim (λ case. omega (arith, was.0, case.0, case.1)) (λ case. omega (arith, was.0, case.0, case.1)) (shifted_cases at c.new_from),
-          ⊎_elim (λ case. omega (arith, was.1, case.0, case.1)) (λ case. omega (arith, was.1, case.0, case.1)) (shifted_cases at c.new_to),
-        ));
+        (λ b new. let was = counted.new k e (omega arith) new in shifted_within at c.new_from c.new_to k k (inl (b, refl)) was.0 was.1)
+        (λ a new. let was = counted.new (k + 1) e (omega (arith, shorter)) new in shifted_within at c.new_from c.new_to k (k + 1) (inr (a, refl)) was.0 was.1);
   }
 
 -- ---- the first commands are enabled

@@ -35,22 +35,20 @@ pub tasks-given : (list : List Member) → map (λ m. m.task) (given_in list) �
 tasks-given [] = refl
 tasks-given (m ∷ ms) = grind (arith, nat_tests, tasks-given ms, map, given_in_new, given_in_old)
 
+-- what holds of the members holds still, where it holds of one that is given
+all-given : (P : Member → Type 0) (list : List Member) → ((m : Member) → P m → P (given_now m)) → All P list → All P (given_in list)
+all-given P [] kept all = all
+all-given P (m ∷ ms) kept all =
+    let rest = all-given P ms kept (All-tail P m ms all) in
+    grind (arith, nat_tests, given_in_new, given_in_old, All-cons P (given_now m) ms, All-cons P m (given_in ms) (all 0 m (omega arith)) rest, kept m (all 0 m (omega arith)), All-tail P m ms all)
+
 pub enabled-given : (e : Task → Bool) (list : List Member) → All (λ m. m.enabled ≡ e m.task) list → All (λ m. m.enabled ≡ e m.task) (given_in list)
-enabled-given e [] all = all
-enabled-given e (m ∷ ms) all =
-    let P : Member → Type 0 = λ k. k.enabled ≡ e k.task in
-    let here = All-head P m ms all in let rest = All-tail P m ms all in ⊎_elim
-    (λ new. subst (λ (l : List Member). All P l) (sym (given_in_new m ms new)) (All-cons P (record { task = m.task; enabled = m.enabled; given = true }) ms here rest))
-    (λ old. subst (λ (l : List Member). All P l) (sym (given_in_old m ms old)) (All-cons P m (given_in ms) here (enabled-given e ms rest)))
-    (cases_Bool (is_new m))
+enabled-given e list all = all-given (λ m. m.enabled ≡ e m.task) list (λ m here. here) all
 
 -- the ticket that comes next is that of a member
 pub next_in_above : (a t : ℕ) (list : List Member) → All (λ m. a < m.task.ticket) list → next_in list ≡ Some t → a < t
 next_in_above a t [] all next = cc
-next_in_above a t (m ∷ ms) all next = ⊎_elim
-    (λ new. let same : Some m.task.ticket ≡ Some t = sym (next_in_new m ms new) ∙ next in let e : m.task.ticket ≡ t = cc in subst (λ n. a < n) e (All-head (λ k. a < k.task.ticket) m ms all))
-    (λ old. next_in_above a t ms (All-tail (λ k. a < k.task.ticket) m ms all) (sym (next_in_old m ms old) ∙ next))
-    (cases_Bool (is_new m))
+next_in_above a t (m ∷ ms) all next = grind (arith, nat_tests, next_in_above a t ms (All-tail (λ k. a < k.task.ticket) m ms all), all 0 m (omega arith), next_in_new m ms, next_in_old m ms)
 
 -- after it is given, the flags tell so
 pub flags-given : (g : ℕ → Bool) (t : ℕ) (list : List Member) → InOrder list → next_in list ≡ Some t → All (λ m. m.given ≡ g m.task.ticket) list → All (λ m. m.given ≡ (t == m.task.ticket || g m.task.ticket)) (given_in list)
@@ -77,10 +75,7 @@ flags-given g t (m ∷ ms) order next all =
 -- where nothing is new, nothing changes
 pub given_in_none : (list : List Member) → next_in list ≡ None → given_in list ≡ list
 given_in_none [] next = refl
-given_in_none (m ∷ ms) next = ⊎_elim
-    (λ new. let found : Some m.task.ticket ≡ None = sym (next_in_new m ms new) ∙ next in cc)
-    (λ old. given_in_old m ms old ∙ ap (λ r. m ∷ r) (given_in_none ms (sym (next_in_old m ms old) ∙ next)))
-    (cases_Bool (is_new m))
+given_in_none (m ∷ ms) next = grind (arith, nat_tests, given_in_none ms, next_in_new m ms, next_in_old m ms, given_in_old m ms)
 
 -- ---- the history
 
@@ -93,11 +88,7 @@ next_from_history s h st = grind (arith, nat_tests, Bool, not, find, find-agree,
 
 StandsFor-giving_of : (s : Members) (next : Option ℕ) (h : List Change) → next_in s.list ≡ next → InOrder s.list → StandsFor s h → StandsFor (given_by s) (after_giving next h)
 StandsFor-giving_of s None h none order st = subst (λ (l : List Member). StandsFor (record s { list = l }) h) (sym (given_in_none s.list none)) st
-StandsFor-giving_of s (Some t) h next order st = record {
-  tasks = tasks-given s.list ∙ st.tasks;
-  enabled = enabled-given (λ k. was_free k h) s.list st.enabled;
-  given = flags-given (λ k. was_given k h) t s.list order next st.given;
-}
+StandsFor-giving_of s (Some t) h next order st = grind (arith, tasks-given s.list, enabled-given (λ k. was_free k h) s.list st.enabled, flags-given (λ k. was_given k h) t s.list order next st.given)
 
 pub StandsFor-giving : (s : Members) (h : List Change) → InOrder s.list → StandsFor s h → (next_in s.list ≡ next_after h) × StandsFor (given_by s) (after_giving (next_in s.list) h)
 StandsFor-giving s h order st = (next_from_history s h st, StandsFor-giving_of s (next_in s.list) h refl order st)
@@ -121,13 +112,7 @@ given_in_at (m ∷ ms) zero d within before here = given_in_new m ms here
 given_in_at (m ∷ ms) (suc at) d within before here = given_in_old m ms (before 0 (omega arith)) ∙ ap (λ r. m ∷ r) (given_in_at ms at d (omega arith) (λ k l. before (suc k) (omega arith)) here)
 
 free-given : (f : Task → Bool) (list : List Member) → All (λ m. (m.enabled || f m.task) ≡ m.enabled) list → All (λ m. (m.enabled || f m.task) ≡ m.enabled) (given_in list)
-free-given f [] all = All-nil (λ m. (m.enabled || f m.task) ≡ m.enabled)
-free-given f (m ∷ ms) all =
-    let P : Member → Type 0 = λ k. (k.enabled || f k.task) ≡ k.enabled in
-    let here = All-head P m ms all in let rest = All-tail P m ms all in ⊎_elim
-    (λ new. subst (λ (l : List Member). All P l) (sym (given_in_new m ms new)) (All-cons P (given_now m) ms here rest))
-    (λ old. subst (λ (l : List Member). All P l) (sym (given_in_old m ms old)) (All-cons P m (given_in ms) here (free-given f ms rest)))
-    (cases_Bool (is_new m))
+free-given f list all = all-given (λ m. (m.enabled || f m.task) ≡ m.enabled) list (λ m here. here) all
 
 -- giving keeps a set in which every command that is free is enabled
 pub settled-given : (list : List Member) → IsSettled list → IsSettled (given_in list)

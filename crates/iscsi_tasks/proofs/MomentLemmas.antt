@@ -4,7 +4,7 @@ use Rattle.std.specs.List.{list_any, position_or_len}
 use Rattle.std.proofs.lemmas.Bool.{cases_lt, cases_eq, cases_Bool, or_left, or_right, or_from, and_left, and_right, and_from}
 use Rattle.std.proofs.lemmas.List.{get_or_default}
 use Rattle.std.proofs.lemmas.List.Elements.{All-map, All-head, All-tail, All-nil, All-cons}
-use Rattle.std.proofs.lemmas.List.Folds.{list_any_at, list_any_none, Any-from_list_any}
+use Rattle.std.proofs.lemmas.List.Folds.{map_fixed, list_any_at, list_any_none, Any-from_list_any}
 use Rattle.std.proofs.lemmas.List.Sums.{fails_before_first, passes_at_first, sum_by-cons}
 use Rattle.std.proofs.lemmas.Bool.Decides.{nat_tests}
 use Rattle.iscsi_tasks.specs.declared.task.Attr.{Attr}
@@ -21,25 +21,13 @@ pub queued-looked : (list xs : List Member) → map (λ m. queued m.task) (map (
 queued-looked list [] = refl
 queued-looked list (x ∷ xs) = ap (λ r. queued x.task ∷ r) (queued-looked list xs)
 
-or_again : (e f : Bool) → ((e || f) || f) ≡ (e || f)
-or_again true f = refl
-or_again false true = refl
-or_again false false = refl
-
 -- after a moment every command that is free is enabled
 pub settled_after : (list : List Member) → IsSettled (after_moment list)
-settled_after list =
-    All-map (λ m. (m.enabled || is_free_among m.task (after_moment list)) ≡ m.enabled) (looked_at list) list
-    (λ k d l. let m = get_or list k d in
-    ap (λ qs. (m.enabled || is_free_among m.task list) || is_free (queued m.task) qs) (queued-looked list list)
-    ∙ or_again m.enabled (is_free_among m.task list))
+settled_after list = All-map (λ m. (m.enabled || is_free_among m.task (after_moment list)) ≡ m.enabled) (looked_at list) list (grind (arith, nat_tests, queued-looked list list))
 
 -- a moment at which nothing becomes enabled
 pub map-looked_same : (list xs : List Member) → All (λ m. (m.enabled || is_free_among m.task list) ≡ m.enabled) xs → map (looked_at list) xs ≡ xs
-map-looked_same list [] same = refl
-map-looked_same list (x ∷ xs) same =
-    ap (λ b. record { task = x.task; enabled = b; given = x.given } ∷ map (looked_at list) xs) (All-head (λ m. (m.enabled || is_free_among m.task list) ≡ m.enabled) x xs same)
-    ∙ ap (λ r. x ∷ r) (map-looked_same list xs (All-tail (λ m. (m.enabled || is_free_among m.task list) ≡ m.enabled) x xs same))
+map-looked_same list xs same = map_fixed (looked_at list) xs (λ k d l. ap (λ b. record (get_or xs k d) { enabled = b }) (same k d l))
 
 -- ---- what bars a command, by its attribute
 
@@ -114,60 +102,46 @@ ordered_of Simple ordered = cc
 
 -- without HEAD OF QUEUE: those before the oldest ORDERED, and the oldest of all
 module _ (list : List Member) (order : InOrder list) (plain : All (λ m. is_head_in m ≡ false) list) where
+  passes_below : (k j : ℕ) (d e : Member) → k < length list → j < length list → k < max 1 (position_or_len is_ordered_in list) → bars_in (get_or list k d).task (get_or list j e) ≡ false
+  passes_below k j d e within l below =
+      let m = get_or list k d in let o = get_or list j e in
+      grind (arith, nat_tests, simple_passes m.task o, simple_of m.task.attr, plain k d, plain j e, fails_before_first is_ordered_in list k d, fails_before_first is_ordered_in list j e, younger_passes m.task.attr m.task o refl, order k j d, get_or_default list j d e l)
+
   pub free_below : (k : ℕ) (d : Member) → k < length list → k < max 1 (position_or_len is_ordered_in list) → is_free_among (get_or list k d).task list ≡ true
-  free_below k d within below =
-      let m = get_or list k d in
-      free_none m.task list (λ j e l. ⊎_elim
-      (λ older. let first : k < position_or_len is_ordered_in list = omega arith in
-      simple_passes m.task (get_or list j e) (simple_of m.task.attr (plain k d within) (fails_before_first is_ordered_in list k d first)) (plain j e l) (fails_before_first is_ordered_in list j e (omega arith)))
-      (λ younger. younger_passes m.task.attr m.task (get_or list j e) refl (plain j e l)
-      (⊎_elim
-      (λ same. subst (λ n. m.task.ticket ≤ (get_or list n e).task.ticket) same (let one : get_or list k d ≡ get_or list k e = get_or_default list k d e within in subst (λ (x : Member). m.task.ticket ≤ x.task.ticket) one (omega arith)))
-      (λ apart. let up : (get_or list k e).task.ticket < (get_or list j e).task.ticket = order k j e (omega arith) l in let one : (get_or list k d).task.ticket ≡ (get_or list k e).task.ticket = ap (λ (x : Member). x.task.ticket) (get_or_default list k d e within) in omega arith)
-      (cases_eq k j)))
-      (cases_lt j k))
+  free_below k d within below = free_none (get_or list k d).task list (λ j e l. passes_below k j d e within l below)
 
   pub free_above : (k : ℕ) (d : Member) → k < length list → max 1 (position_or_len is_ordered_in list) ≤ k → is_free_among (get_or list k d).task list ≡ false
   free_above k d within above =
-      let m = get_or list k d in
-      let p = position_or_len is_ordered_in list in
-      ⊎_elim
-      (λ ordered. free_barred m.task list 0 d (omega arith) (older_bars m.task (get_or list 0 d) (ordered_of m.task.attr ordered) (order 0 k d (omega arith) within)))
-      (λ unordered.
-      let inside : p < length list = omega arith in
-      let first : is_ordered_in (get_or list p d) ≡ true = passes_at_first is_ordered_in list d inside in
-      let apart : p ≢ k = λ same. true≢false (sym first ∙ ap (λ n. is_ordered_in (get_or list n d)) same ∙ unordered) in
-      free_barred m.task list p d inside (ordered_bars m.task.attr m.task (get_or list p d) refl (plain k d within) first (order p k d (omega arith) within)))
-      (cases_Bool (is_ordered_in m))
+      let m = get_or list k d in let p = position_or_len is_ordered_in list in
+      grind (
+        arith,
+        nat_tests,
+        free_barred m.task list 0 d,
+        free_barred m.task list p d,
+        older_bars m.task (get_or list 0 d),
+        ordered_of m.task.attr,
+        order 0 k d,
+        order p k d,
+        passes_at_first is_ordered_in list d,
+        ordered_bars m.task.attr m.task (get_or list p d) refl,
+        plain k d,
+      )
 
 -- with HEAD OF QUEUE: no other one
 pub barred_by_head : (list : List Member) (h k : ℕ) (d : Member) → InOrder list → h < length list → k < length list → is_head_in (get_or list h d) ≡ true → is_head_in (get_or list k d) ≡ false → is_free_among (get_or list k d).task list ≡ false
 barred_by_head list h k d order inside within head plain =
-    let m = get_or list k d in
-    let apart : (get_or list h d).task.ticket ≢ m.task.ticket = λ same. ⊎_elim
-    (λ one. true≢false (sym head ∙ ap (λ n. is_head_in (get_or list n d)) one ∙ plain))
-    (λ two. ⊎_elim
-    (λ below. let up : (get_or list h d).task.ticket < m.task.ticket = order h k d below within in omega arith)
-    (λ above. let up : m.task.ticket < (get_or list h d).task.ticket = order k h d (omega arith) inside in omega arith)
-    (cases_lt h k))
-    (cases_eq h k) in
-    free_barred m.task list h d inside (head_bars m.task.attr m.task (get_or list h d) refl plain head apart)
+    let m = get_or list k d in let o = get_or list h d in
+    grind (arith, nat_tests, free_barred m.task list h d, head_bars m.task.attr m.task o refl, order h k d, order k h d)
 
 -- ---- counts
 
 pub none_counted : (p : Member → Bool) (xs : List Member) → count_by p xs ≡ 0 → All (λ m. p m ≡ false) xs
 none_counted p [] zero_all = All-nil (λ m. p m ≡ false)
-none_counted p (x ∷ xs) zero_all = ⊎_elim
-    (λ yes. absurd (let e : cond {A = ℕ} (p x) 1 0 ≡ 1 = ap (λ b. cond b 1 0) yes in omega (arith, zero_all, e, sum_by-cons (λ (m : Member). cond {A = ℕ} (p m) 1 0) x xs)))
-    (λ no. let e : cond {A = ℕ} (p x) 1 0 ≡ 0 = ap (λ b. cond b 1 0) no in All-cons (λ m. p m ≡ false) x xs no (none_counted p xs (omega (arith, zero_all, e, sum_by-cons (λ (m : Member). cond {A = ℕ} (p m) 1 0) x xs))))
-    (cases_Bool (p x))
+none_counted p (x ∷ xs) zero_all = grind (arith, nat_tests, none_counted p xs, All-cons (λ m. p m ≡ false) x xs, sum_by-cons (λ (m : Member). cond {A = ℕ} (p m) 1 0) x xs)
 
 pub some_counted : (p : Member → Bool) (xs : List Member) → 0 < count_by p xs → list_any p xs ≡ true
 some_counted p [] some = absurd (omega arith)
-some_counted p (x ∷ xs) some = ⊎_elim
-    (λ yes. or_left _ _ yes)
-    (λ no. or_right _ _ (some_counted p xs (let e : cond {A = ℕ} (p x) 1 0 ≡ 0 = ap (λ b. cond b 1 0) no in omega (arith, some, e, sum_by-cons (λ (m : Member). cond {A = ℕ} (p m) 1 0) x xs))))
-    (cases_Bool (p x))
+some_counted p (x ∷ xs) some = grind (arith, nat_tests, some_counted p xs, sum_by-cons (λ (m : Member). cond {A = ℕ} (p m) 1 0) x xs)
 
 -- ---- moments
 
