@@ -49,9 +49,7 @@ free_fewer task ts set there free =
     (ap (is_free (queued task)) (sym (filter-map stays queued set)) ∙ stays_free (queued task) (map queued set) stays (and_parts (is_live task set) _ free).1)
 
 absorb : (e m w : Bool) → (m ≡ true → e ≡ true) → (e || (m || w)) ≡ (e || w)
-absorb true m w h = refl
-absorb false true w h = absurd (true≢false (sym (h refl)))
-absorb false false w h = refl
+absorb e m w h = grind (arith, nat_tests)
 
 -- the moments between tell nothing of those that stay
 was-all_left : (task x : Task) (xs : List Task) (h : List Change) → is_live task (live (after_all_left (x ∷ xs) h)) ≡ true → was_free task (after_all_left (x ∷ xs) h) ≡ (is_free_in task (live (after_all_left (x ∷ xs) h)) || was_free task h)
@@ -114,8 +112,7 @@ module _ (s : Members) (covers : Task → Bool) (h : List Change) (order : InOrd
       ∙ list_any-map (λ t. covers t && true) (λ (m : Member). m.task) s.list ∙ any_alike s.list ∙ some
     where
       and_true : (b : Bool) → (b && true) ≡ b
-      and_true true = refl
-      and_true false = refl
+      and_true b = grind (arith, nat_tests)
 
       any_alike : (list : List Member) → list_any (λ m. covers m.task && true) list ≡ list_any (λ m. covers m.task) list
       any_alike [] = refl

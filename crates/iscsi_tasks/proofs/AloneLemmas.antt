@@ -1,7 +1,8 @@
 -- A command enters a set in which none waits for its ticket to be given, and its own is given at once if it is enabled.
-use Rattle.std.proofs.Common.{◌≡◌, ◌∙◌, ◌++◌, ◌<◌, cond, Bool, true, false, List, [], ◌∷◌, All, Some, None, Option, ℕ, refl, ap, sym, subst}
+use Rattle.std.proofs.Common.{◌≡◌, ◌∙◌, ◌++◌, ◌<◌, cond, Bool, true, false, List, [], ◌∷◌, All, Some, None, Option, ℕ, refl, ap, sym, subst, arith}
 use Rattle.std.proofs.lemmas.List.Elements.{All-head, All-tail}
 use Rattle.std.proofs.lemmas.List.Quantifiers.{all_pairs_push}
+use Rattle.std.proofs.lemmas.Bool.Decides.{nat_tests}
 use Rattle.iscsi_tasks.specs.declared.task.Task.{Task}
 use Rattle.iscsi_tasks.specs.declared.member.Member.{Member}
 use Rattle.iscsi_tasks.specs.Sets.{Members, InOrder, IsNewest, entered_to, is_new, given_in, given_by, next_in}
@@ -22,12 +23,10 @@ next_last (x ∷ xs) m none =
 
 module _ (s : Members) (task : Task) (none : All (λ m. is_new m ≡ false) s.list) where
   taken_given : (e : Bool) → given_by (taken_in s task e false) ≡ taken_in s task e e
-  taken_given true = ap (λ l. let t : Members = record { depth = s.depth; looked = 1; list = l } in t) (given_last s.list (record { task = task; enabled = true; given = false }) none)
-  taken_given false = ap (λ l. let t : Members = record { depth = s.depth; looked = 1; list = l } in t) (given_last s.list (record { task = task; enabled = false; given = false }) none)
+  taken_given e = grind (arith, nat_tests, given_last)
 
   taken_next : (e : Bool) → next_in (taken_in s task e false).list ≡ cond e (Some task.ticket) None
-  taken_next true = next_last s.list (record { task = task; enabled = true; given = false }) none
-  taken_next false = next_last s.list (record { task = task; enabled = false; given = false }) none
+  taken_next e = grind (arith, nat_tests, next_last)
 
   module _ (e : Bool) (entered : entered_to s task ≡ taken_in s task e false) where
     -- the set, once it is given

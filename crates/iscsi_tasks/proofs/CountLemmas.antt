@@ -19,8 +19,7 @@ pub first-le : {X : Type 0} (p : X → Bool) (xs : List X) → position_or_len p
 first-le p xs = prefix_len-le-length (λ x. not (p x)) xs
 
 plus_one : (b : Bool) (n : ℕ) → n + cond b 1 0 ≡ plus_one_if b n
-plus_one true n = refl
-plus_one false n = omega arith
+plus_one b n = grind (arith, nat_tests)
 
 count_push : (p : Member → Bool) (xs : List Member) (y : Member) → count_by p (xs ++ y ∷ []) ≡ plus_one_if (p y) (count_by p xs)
 count_push p xs y = sum_by_push (λ m. cond (p m) 1 0) xs y ∙ plus_one (p y) (count_by p xs)
@@ -30,8 +29,7 @@ moved_on : (at len : ℕ) (b : Bool) → at ≤ len → plus_one_if (at == len &
 moved_on at len b within = grind (arith, nat_tests)
 
 last_one : (at : ℕ) (b : Bool) → plus_one_if (true && not b) at ≡ at + cond b 0 1
-last_one at true = omega arith
-last_one at false = refl
+last_one at b = grind (arith, nat_tests)
 
 -- the place of the first one, with one more at the end
 first_push : (p : Member → Bool) (xs : List Member) (y : Member) (at : ℕ) → at ≡ position_or_len p xs → plus_one_if (at == length xs && not (p y)) at ≡ position_or_len p (xs ++ y ∷ [])
@@ -135,10 +133,8 @@ parts-task (x ∷ xs) (suc n) zero d = refl
 parts-task (x ∷ xs) (suc n) (suc k) d = parts-task xs n k d
 
 parts-below : (xs : List Member) (n k : ℕ) (d : Member) → k < length xs → k < n → get_or (enabled_up_to n xs) k d ≡ enabled_now (get_or xs k d)
-parts-below [] n k d l b = absurd (omega arith)
-parts-below (x ∷ xs) zero k d l b = absurd (omega arith)
-parts-below (x ∷ xs) (suc n) zero d l b = refl
 parts-below (x ∷ xs) (suc n) (suc k) d l b = parts-below xs n k d (omega arith) (omega arith)
+parts-below xs n k d l b = grind (arith, nat_tests)
 
 parts-above : (xs : List Member) (n k : ℕ) (d : Member) → n ≤ k → get_or (enabled_up_to n xs) k d ≡ get_or xs k d
 parts-above [] zero k d a = refl

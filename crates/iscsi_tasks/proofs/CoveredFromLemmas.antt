@@ -24,15 +24,11 @@ not_lower t at event le apart = grind (arith, nat_tests, or_from, false_from_ne_
 
 -- no function with a number below that of the command covers it
 none_below : (t : Task) (cover : Cover) → is_below (covered_from t) cover ≡ true → is_covered cover t ≡ false
-none_below t AllOfThem below = cc
-none_below t (Conn cid) below = cc
-none_below t (Below at event) below = grind (arith, nat_tests, int_lt, true, cond, pos, not_lower, ints, and_right, false_from_ne_true, Decides-int_eq, clamps, and_left)
+none_below t cover below = grind (arith, nat_tests, not_lower, ints, and_right, false_from_ne_true, Decides-int_eq, clamps, and_left)
 
 -- where a number serves, each lower one does
 is_below-le : (a b : ℤ) (cover : Cover) → a ≤ℤ b → is_below a cover ≡ true → is_below b cover ≡ true
-is_below-le a b AllOfThem le below = cc
-is_below-le a b (Conn cid) le below = cc
-is_below-le a b (Below at event) le below = true_from_ne_false (int_lt at b) (λ no. omega (arith, ints))
+is_below-le a b cover le below = grind (arith, nat_tests, true_from_ne_false, ints)
 
 -- a command entered
 pub covered_from_push : (number : ℤ) (list : List Task) (t : Task) → IsCoveredFrom number list → IsCoveredFrom (covered_from_with number (length list) t) (list ++ t ∷ [])

@@ -20,10 +20,7 @@ moment_of task (Left ticket ∷ h) was = grind (arith, nat_tests, moment_of task
 moment_of task (Gave ticket ∷ h) was = WasFree-more task (Gave ticket) h (moment_of task h was)
 
 at_moment : (task : Task) (h : List Change) → IsMoment h → is_free_in task (live h) ≡ true → was_free task h ≡ true
-at_moment task [] moment free = absurd moment
-at_moment task (Entered t ∷ h) moment free = or_left _ _ free
-at_moment task (Left ticket ∷ h) moment free = or_left _ _ free
-at_moment task (Gave ticket ∷ h) moment free = absurd moment
+at_moment task h moment free = grind (arith, nat_tests, or_left)
 
 stays : (task : Task) (later earlier : List Change) → was_free task earlier ≡ true → was_free task (later ++ earlier) ≡ true
 stays task [] earlier was = was

@@ -61,9 +61,7 @@ module _ (c : Counts) (task : Task) where
       (cases_eq c.heads 0)
 
   free_last : (a : Attr) (list : List Member) → IsCounted c list → task.attr ≡ a → All (λ m. m.task.ticket < task.ticket) list → is_free_among task (list ++ record { task = task; enabled = false; given = false } ∷ []) ≡ is_free_behind c (length list) a
-  free_last Head list counted is newest = free_head Head task _ is refl
-  free_last Ordered list counted is newest = free_ordered list is newest
-  free_last Simple list counted is newest = free_simple list counted is newest
+  free_last a list counted is newest = grind (arith, nat_tests, free_head, free_ordered, free_simple)
 
   -- the set after the moment: the command stands last, enabled where it is free
   pub moment_entered : (list : List Member) → IsCounted c list → IsSettled list → All (λ m. m.task.ticket < task.ticket) list → after_moment (list ++ record { task = task; enabled = false; given = false } ∷ []) ≡ list ++ record { task = task; enabled = is_free_behind c (length list) task.attr; given = false } ∷ []
@@ -80,5 +78,4 @@ module _ (c : Counts) (task : Task) where
       All-push (λ x. (x.enabled || is_free_among x.task (list ++ m ∷ [])) ≡ x.enabled) list m (still_settled list m settled) (ap (λ b. enabled || b) free ∙ or_same enabled)
     where
       or_same : (b : Bool) → (b || b) ≡ b
-      or_same true = refl
-      or_same false = refl
+      or_same b = grind (arith, nat_tests)

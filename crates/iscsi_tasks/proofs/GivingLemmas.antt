@@ -80,8 +80,7 @@ given_in_none (m ∷ ms) next = grind (arith, nat_tests, given_in_none ms, next_
 -- ---- the history
 
 option_map-map : (o : Option Member) → option_map (λ m. m.task.ticket) o ≡ option_map (λ (t : Task). t.ticket) (option_map (λ m. m.task) o)
-option_map-map None = refl
-option_map-map (Some m) = refl
+option_map-map o = grind (arith, nat_tests)
 
 pub next_from_history : (s : Members) (h : List Change) → StandsFor s h → next_in s.list ≡ next_after h
 next_from_history s h st = grind (arith, nat_tests, Bool, not, find, find-agree, get_or, option_map, option_map-map, find-map)
@@ -102,14 +101,12 @@ next_in_none (m ∷ ms) none = next_in_old m ms (All-head (λ k. is_new k ≡ fa
 
 -- else the first one is
 pub next_in_at : (list : List Member) (at : ℕ) (d : Member) → at < length list → ((k : ℕ) → k < at → is_new (get_or list k d) ≡ false) → is_new (get_or list at d) ≡ true → next_in list ≡ Some (get_or list at d).task.ticket
-next_in_at [] at d within before here = absurd (omega arith)
-next_in_at (m ∷ ms) zero d within before here = next_in_new m ms here
 next_in_at (m ∷ ms) (suc at) d within before here = next_in_old m ms (before 0 (omega arith)) ∙ next_in_at ms at d (omega arith) (λ k l. before (suc k) (omega arith)) here
+next_in_at list at d within before here = grind (arith, nat_tests, next_in_new)
 
 pub given_in_at : (list : List Member) (at : ℕ) (d : Member) → at < length list → ((k : ℕ) → k < at → is_new (get_or list k d) ≡ false) → is_new (get_or list at d) ≡ true → given_in list ≡ set list at (given_now (get_or list at d))
-given_in_at [] at d within before here = absurd (omega arith)
-given_in_at (m ∷ ms) zero d within before here = given_in_new m ms here
 given_in_at (m ∷ ms) (suc at) d within before here = given_in_old m ms (before 0 (omega arith)) ∙ ap (λ r. m ∷ r) (given_in_at ms at d (omega arith) (λ k l. before (suc k) (omega arith)) here)
+given_in_at list at d within before here = grind (arith, nat_tests, given_in_new)
 
 free-given : (f : Task → Bool) (list : List Member) → All (λ m. (m.enabled || f m.task) ≡ m.enabled) list → All (λ m. (m.enabled || f m.task) ≡ m.enabled) (given_in list)
 free-given f list all = all-given (λ m. (m.enabled || f m.task) ≡ m.enabled) list (λ m here. here) all

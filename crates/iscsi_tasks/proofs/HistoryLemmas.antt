@@ -16,10 +16,7 @@ tasks-looked list [] = refl
 tasks-looked list (x ∷ xs) = ap (λ r. x.task ∷ r) (tasks-looked list xs)
 
 or_comm' : (a b : Bool) → (a || b) ≡ (b || a)
-or_comm' true true = refl
-or_comm' true false = refl
-or_comm' false true = refl
-or_comm' false false = refl
+or_comm' a b = grind (arith, nat_tests)
 
 pub queued-tasks : (xs : List Member) → map queued (map (λ m. m.task) xs) ≡ map (λ m. queued m.task) xs
 queued-tasks [] = refl

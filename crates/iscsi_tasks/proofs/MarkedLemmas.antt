@@ -52,8 +52,7 @@ module _ (slots : List ℕ) (s : ℕ) (apart : AreApart slots) where
       (cases_lt at (length slots))
     where
       last : (at mark : ℕ) (b : Bool) → at ≡ length slots → mark ≡ 0 → cond (true && b) s mark ≡ get_or (slots ++ s ∷ []) (plus_one_if (true && not b) at) 0
-      last at mark true end none = sym (ap (λ n. get_or (slots ++ s ∷ []) n 0) end ∙ at_new)
-      last at mark false end none = none ∙ sym (at_end (at + 1) (omega (arith, end)))
+      last at mark b end none = grind (arith, nat_tests, at_new, at_end)
 
   -- a place, where those at the end or behind it stay behind all
   abbrev bumped : ℕ → ℕ

@@ -1,5 +1,5 @@
 -- A moment: which commands are free, and what becomes enabled.
-use Rattle.std.proofs.Common.{◌≡◌, ℕ, zero, suc, ◌<◌, ◌≤◌, ◌==◌, ◌||◌, ◌&&◌, ◌≢◌, not, nat_lt, min, max, cond, Bool, true, false, List, [], ◌∷◌, ◌++◌, length, map, take, drop, get_or, All, count_by, refl, ap, sym, ◌∙◌, arith, subst, ⊎_elim, true≢false, ne_eqb, lt-ltb, le-ltb}
+use Rattle.std.proofs.Common.{◌≡◌, ℕ, zero, suc, ◌<◌, ◌≤◌, ◌==◌, ◌||◌, ◌&&◌, ◌≢◌, not, nat_lt, min, max, cond, Bool, true, false, List, [], ◌∷◌, ◌++◌, length, map, take, drop, get_or, All, count_by, refl, ap, sym, ◌∙◌, arith, subst, ⊎_elim, true≢false, ne_eqb, lt-ltb, le-ltb, rules}
 use Rattle.std.specs.List.{list_any, position_or_len}
 use Rattle.std.proofs.lemmas.Bool.{cases_lt, cases_eq, cases_Bool, or_left, or_right, or_from, and_left, and_right, and_from}
 use Rattle.std.proofs.lemmas.List.{get_or_default}
@@ -58,21 +58,15 @@ free_barred task list k d l here = free_among task list ∙ ap not (list_any_at 
 
 -- HEAD OF QUEUE is always free
 pub free_head : (a : Attr) (task : Task) (list : List Member) → task.attr ≡ a → is_head_of a ≡ true → is_free_among task list ≡ true
-free_head Head task list is head = free_none task list (λ k d l. ap (λ a. bars_as a task.ticket (queued (get_or list k d).task)) is ∙ bars_head task.ticket (queued (get_or list k d).task))
-free_head Ordered task list is head = cc
-free_head Simple task list is head = cc
+free_head a task list is head = grind (arith, nat_tests, free_none, bars_head)
 
 -- every other one is barred by HEAD OF QUEUE
 pub head_bars : (a : Attr) (task : Task) (m : Member) → task.attr ≡ a → is_head_of a ≡ false → is_head_in m ≡ true → m.task.ticket ≢ task.ticket → bars_in task m ≡ true
-head_bars Head task m is other head apart = cc
-head_bars Ordered task m is other head apart = ap (λ a. bars_as a task.ticket (queued m.task)) is ∙ bars_ordered task.ticket (queued m.task) ∙ or_right _ _ (and_from _ _ head (ap not (ne_eqb _ _ apart)))
-head_bars Simple task m is other head apart = ap (λ a. bars_as a task.ticket (queued m.task)) is ∙ bars_simple task.ticket (queued m.task) ∙ or_right _ _ head
+head_bars a task m is other head apart = grind (arith, nat_tests, bars_ordered, or_right, and_from, ne_eqb, bars_simple)
 
 -- an older ORDERED bars every other one
 pub ordered_bars : (a : Attr) (task : Task) (m : Member) → task.attr ≡ a → is_head_of a ≡ false → is_ordered_in m ≡ true → m.task.ticket < task.ticket → bars_in task m ≡ true
-ordered_bars Head task m is other ordered older = cc
-ordered_bars Ordered task m is other ordered older = ap (λ a. bars_as a task.ticket (queued m.task)) is ∙ bars_ordered task.ticket (queued m.task) ∙ or_left _ _ (lt-ltb _ _ older)
-ordered_bars Simple task m is other ordered older = ap (λ a. bars_as a task.ticket (queued m.task)) is ∙ bars_simple task.ticket (queued m.task) ∙ or_left _ _ (and_from _ _ ordered (lt-ltb _ _ older))
+ordered_bars a task m is other ordered older = grind (arith, nat_tests, bars_ordered, or_left, lt-ltb, bars_simple, and_from)
 
 -- every older one bars ORDERED
 pub older_bars : (task : Task) (m : Member) → task.attr ≡ Ordered → m.task.ticket < task.ticket → bars_in task m ≡ true
@@ -80,9 +74,8 @@ older_bars task m is older = ap (λ a. bars_as a task.ticket (queued m.task)) is
 
 -- one that isn't older and isn't HEAD OF QUEUE bars nothing
 pub younger_passes : (a : Attr) (task : Task) (m : Member) → task.attr ≡ a → is_head_in m ≡ false → task.ticket ≤ m.task.ticket → bars_in task m ≡ false
-younger_passes Head task m is plain younger = ap (λ a. bars_as a task.ticket (queued m.task)) is ∙ bars_head task.ticket (queued m.task)
 younger_passes Ordered task m is plain younger = ap (λ a. bars_as a task.ticket (queued m.task)) is ∙ bars_ordered task.ticket (queued m.task) ∙ or_from _ _ (le-ltb _ _ younger) (and_left _ _ plain)
-younger_passes Simple task m is plain younger = ap (λ a. bars_as a task.ticket (queued m.task)) is ∙ bars_simple task.ticket (queued m.task) ∙ or_from _ _ (and_right _ _ (le-ltb _ _ younger)) plain
+younger_passes a task m is plain younger = grind (arith, nat_tests, bars_head, bars_simple, or_from, and_right, le-ltb)
 
 -- one that is SIMPLE bars no SIMPLE
 pub simple_passes : (task : Task) (m : Member) → task.attr ≡ Simple → is_head_in m ≡ false → is_ordered_in m ≡ false → bars_in task m ≡ false
@@ -91,14 +84,10 @@ simple_passes task m is plain unordered = ap (λ a. bars_as a task.ticket (queue
 -- ---- which commands are free
 
 simple_of : (a : Attr) → is_head_of a ≡ false → is_ordered_of a ≡ false → a ≡ Simple
-simple_of Head plain unordered = cc
-simple_of Ordered plain unordered = cc
-simple_of Simple plain unordered = refl
+simple_of a plain unordered = grind (arith, nat_tests)
 
 ordered_of : (a : Attr) → is_ordered_of a ≡ true → a ≡ Ordered
-ordered_of Head ordered = cc
-ordered_of Ordered ordered = refl
-ordered_of Simple ordered = cc
+ordered_of a ordered = grind (arith, nat_tests)
 
 -- without HEAD OF QUEUE: those before the oldest ORDERED, and the oldest of all
 module _ (list : List Member) (order : InOrder list) (plain : All (λ m. is_head_in m ≡ false) list) where
@@ -146,8 +135,7 @@ some_counted p (x ∷ xs) some = grind (arith, nat_tests, some_counted p xs, sum
 -- ---- moments
 
 or_false : (b : Bool) → (b || false) ≡ b
-or_false true = refl
-or_false false = refl
+or_false b = grind (arith, nat_tests)
 
 -- while HEAD OF QUEUE is in the set, nothing becomes enabled
 pub moment_with_heads : (list : List Member) → InOrder list → 0 < count_by is_head_in list → All (λ m. is_head_in m ≡ true → m.enabled ≡ true) list → after_moment list ≡ list

@@ -32,26 +32,22 @@ module _ {X : Type 0} (covers : X → Bool) where
 
   -- the next one stands behind those that stay
   pub yet_at : (xs : List X) (k : ℕ) (d : X) → k < length xs → get_or (kept_yet xs k) (passed xs k) d ≡ get_or xs k d
-  yet_at [] k d l = absurd (omega arith)
-  yet_at (x ∷ xs) zero d l = refl
   yet_at (x ∷ xs) (suc k) d l = grind (arith, nat_tests, yet_at xs k d (omega arith), get_or, list_goes, count_goes, list_stays, count_stays)
+  yet_at xs k d l = grind (arith, nat_tests)
 
   pub yet_inside : (xs : List X) (k : ℕ) → k < length xs → passed xs k < length (kept_yet xs k)
-  yet_inside [] k l = absurd (omega arith)
-  yet_inside (x ∷ xs) zero l = omega arith
   yet_inside (x ∷ xs) (suc k) l = grind (arith, nat_tests, yet_inside xs k (omega arith), length, list_goes, count_goes, list_stays, count_stays)
+  yet_inside xs k l = grind (arith, nat_tests)
 
   -- it leaves
   pub yet_without : (xs : List X) (k : ℕ) (d : X) → k < length xs → covers (get_or xs k d) ≡ true → (remove (kept_yet xs k) (passed xs k) ≡ kept_yet xs (suc k)) × (passed xs (suc k) ≡ passed xs k)
-  yet_without [] k d l goes = absurd (omega arith)
-  yet_without (x ∷ xs) zero d l goes = (sym (list_goes x xs 0 goes), count_goes x xs 0 goes)
   yet_without (x ∷ xs) (suc k) d l goes = grind (arith, nat_tests, yet_without xs k d (omega arith) goes, list_goes, count_goes, list_stays, count_stays)
+  yet_without xs k d l goes = grind (arith, nat_tests, list_goes, count_goes)
 
   -- or it stays
   pub yet_with : (xs : List X) (k : ℕ) (d : X) → k < length xs → covers (get_or xs k d) ≡ false → (kept_yet xs k ≡ kept_yet xs (suc k)) × (passed xs (suc k) ≡ suc (passed xs k))
-  yet_with [] k d l stays = absurd (omega arith)
-  yet_with (x ∷ xs) zero d l stays = (sym (list_stays x xs 0 stays), count_stays x xs 0 stays)
   yet_with (x ∷ xs) (suc k) d l stays = grind (arith, nat_tests, yet_with xs k d (omega arith) stays, list_goes, count_goes, list_stays, count_stays)
+  yet_with xs k d l stays = grind (arith, nat_tests, list_stays, count_stays)
 
   none_filtered : (xs : List X) → All (λ x. covers x ≡ false) xs → filter (λ x. not (covers x)) xs ≡ xs
   none_filtered [] none = refl
@@ -71,8 +67,7 @@ module _ (covers : Task → Bool) where
   tickets_one m b is = ap (λ c. map (λ (t : Task). t.ticket) (cond c (m.task ∷ []) [])) is ∙ both b
     where
       both : (b : Bool) → map (λ (t : Task). t.ticket) (cond b (m.task ∷ []) []) ≡ cond b (m.task.ticket ∷ []) []
-      both true = refl
-      both false = refl
+      both b = grind (arith, nat_tests)
 
   -- one more is looked at
   pub tickets_more : (xs : List Member) (k : ℕ) (d : Member) (b : Bool) → k < length xs → covers (get_or xs k d).task ≡ b → covered_tickets covers (take (k + 1) xs) ≡ covered_tickets covers (take k xs) ++ cond b ((get_or xs k d).task.ticket ∷ []) []

@@ -23,11 +23,10 @@ position_none p xs is = sym (ap (λ n. cond (nat_lt n (length xs)) (Some n) None
 
 -- enabled members stay as they are
 pub map-enabled_now : (xs : List Member) (n : ℕ) → n ≤ length xs → ((k : ℕ) (d : Member) → k < n → (get_or xs k d).enabled ≡ true) → map enabled_now (take n xs) ≡ take n xs
-map-enabled_now xs zero within enabled = refl
-map-enabled_now [] (suc n) within enabled = refl
 map-enabled_now (x ∷ xs) (suc n) within enabled =
     ap (λ b. record { task = x.task; enabled = b; given = x.given } ∷ map enabled_now (take n xs)) (sym (enabled 0 x (omega arith)))
     ∙ ap (λ r. x ∷ r) (map-enabled_now xs n (omega arith) (λ k d l. enabled (suc k) d (omega arith)))
+map-enabled_now xs n within enabled = grind (arith, nat_tests)
 
 pub enabled_so_far : (xs : List Member) (n : ℕ) → n ≤ length xs → ((k : ℕ) (d : Member) → k < n → (get_or xs k d).enabled ≡ true) → xs ≡ map enabled_now (take n xs) ++ drop n xs
 enabled_so_far xs n within enabled = sym (ap (λ r. r ++ drop n xs) (map-enabled_now xs n within enabled) ∙ take-append-drop n xs)
