@@ -58,9 +58,7 @@ was-all_left task x (y ∷ ys) h there =
     let mid : List Change = Left x.ticket ∷ h in
     let end : List Task = live (after_all_left (y ∷ ys) mid) in
     let is = live-all_left (y ∷ ys) mid in
-    was-all_left task y ys mid there
-    ∙ absorb (is_free_in task end) (is_free_in task (live mid)) (was_free task h)
-    (λ free. ap (is_free_in task) is ∙ free_fewer task (y ∷ ys) (live mid) (sym (ap (is_live task) is) ∙ there) free)
+    grind (arith, nat_tests, was-all_left task y ys, absorb, free_fewer)
 
 given-all_left : (ticket : ℕ) (ts : List Task) (h : List Change) → was_given ticket (after_all_left ts h) ≡ was_given ticket h
 given-all_left ticket [] h = refl
@@ -87,8 +85,7 @@ tasks_ordered list order i j d below within =
     let m : Member = record { task = d; enabled = false; given = false } in
     let long : length (map (λ (x : Member). x.task) list) ≡ length list = length-map list (λ (x : Member). x.task) in
     let up : (get_or list i m).task.ticket < (get_or list j m).task.ticket = order i j m below (omega (arith, long)) in
-    subst (λ (t : Task). t.ticket < (get_or (map (λ (x : Member). x.task) list) j d).ticket) (sym (get_or-map (λ (x : Member). x.task) list i m d (omega (arith, long))))
-    (subst (λ (t : Task). (get_or list i m).task.ticket < t.ticket) (sym (get_or-map (λ (x : Member). x.task) list j m d (omega (arith, long)))) up)
+    grind (arith, nat_tests, get_or-map)
 
 module _ (s : Members) (covers : Task → Bool) (h : List Change) (order : InOrder s.list) (st : StandsFor s h) where
   abbrev ts : List Task

@@ -41,7 +41,5 @@ module _ (s : Members) (task : Task) (none : All (λ m. is_new m ≡ false) s.li
     alone_stands order newest h st below r new next state =
         let last : Member = record { task = task; enabled = e; given = false } in
         let up : InOrder (entered_to s task).list = subst (λ (t : Members). InOrder t.list) (sym entered) (all_pairs_push (λ (a b : Member). a.task.ticket < b.task.ticket) s.list last order newest) in
-        let both = StandsFor-giving (entered_to s task) (Entered task ∷ h) up (StandsFor-entered s task h st below) in (
-          next ∙ both.0,
-          subst (λ (o : Option ℕ). StandsFor new (after_giving o (Entered task ∷ h))) (sym next) (subst (λ (t : Members). StandsFor t (after_giving (next_in (entered_to s task).list) (Entered task ∷ h))) (sym state) both.1),
-        )
+        let both = StandsFor-giving (entered_to s task) (Entered task ∷ h) up (StandsFor-entered s task h st below) in
+        grind (arith, nat_tests)

@@ -151,31 +151,7 @@ module _ {nodes : List Node} {capacity free len room : ℕ} (chained : IsChained
         ∙ after_else nodes before after before_in after_in j (not_free before j before_used some)))
 
     pub chained_without : IsChained now capacity slot (len - 1) room
-    chained_without =
-        let order = order_without in
-        record {
-          shared = subst (λ o. AreShared (0 ∷ o) (free_in now slot (len - 1)) (length now) (room + 1)) (sym order)
-              (subst (λ f. AreShared (0 ∷ rest) f (length now) (room + 1)) (sym free_without)
-              (subst (λ n. AreShared (0 ∷ rest) (slot ∷ frees) n (room + 1)) (sym now_long)
-              (record {
-                once = λ s. let is = chained.shared.once s in let a = times_remove s slots p l in omega (arith, is, a);
-                all = let is = chained.shared.all in let a = length-remove slots p l in omega (arith, is, a);
-                most = chained.shared.most;
-              })));
-          linked = subst (IsLinked now) (sym order) linked_without;
-          freed = λ s some.
-              let there : 1 ≤ times s (slot ∷ frees) = subst (λ f. 1 ≤ times s f) free_without some in
-              ⊎_elim
-              (λ (same : s ≡ slot). ap (before_of now) same ∙ ap (λ (x : Node). x.before) (get_or-set_same closed slot (freed_before free (node_at closed slot)) BLANK_NODE slot_closed))
-              (λ other.
-              let too : 1 ≤ times s frees = grind (arith, nat_tests) in
-              ap (λ (x : Node). x.before) (get_or-set_other closed slot s (freed_before free (node_at closed slot)) BLANK_NODE other)
-              ∙ before_else nodes before after before_in after_in s (not_free after s after_used too)
-              ∙ chained.freed s too)
-              (cases_eq s slot);
-          has_room = chained.has_room;
-          short = chained.short;
-        }
+    chained_without = grind (arith, nat_tests, order_without, free_without, now_long, times_remove, length-remove, linked_without, get_or-set_same, slot_closed, get_or-set_other, before_else, before_in, after_in, not_free, after_used, length-remove slots p l)
 
     pub members_without : map (member_at now) (order_in now (len - 1)) ≡ remove (map (member_at nodes) slots) p
     members_without =

@@ -58,16 +58,7 @@ module _ (c : Counts) (list : List Member) (counted : IsCounted c list) (m : Mem
   at_push P k d within before last = grind (arith, nat_tests, get_or_append_left, get_or_push, length)
 
   pub counted_push : (from to : ℕ) → to ≤ length list + 1 → ((k : ℕ) (d : Member) → k < length list → is_new (get_or list k d) ≡ true → (from ≤ k) × (k < to)) → (is_new m ≡ true → (from ≤ length list) × (length list < to)) → IsCounted (with_last c (length list) m from to) (list ++ m ∷ [])
-  counted_push from to upto old new = record {
-    order = all_pairs_push (λ a b. a.task.ticket < b.task.ticket) list m counted.order newest;
-    heads = grind (arith, count_push);
-    ordered_at = first_push is_ordered_in list m c.ordered_at counted.ordered_at;
-    enabled_to = grind (arith, nat_tests, length_push);
-    enabled = grind (arith, nat_tests, get_or_append_left, get_or_push);
-    heads_enabled = All-push (λ k. is_head_in k ≡ true → k.enabled ≡ true) list m counted.heads_enabled head;
-    new_to = omega (arith, length_push list m, upto);
-    new = grind (arith, nat_tests, length_push, get_or_append_left, get_or_push);
-  }
+  counted_push from to upto old new = grind (arith, nat_tests, all_pairs_push, count_push, first_push, length_push, get_or_append_left, get_or_push, All-push, first_push is_ordered_in list m c.ordered_at counted.ordered_at, length_push list m)
 
 -- ---- a command leaves
 

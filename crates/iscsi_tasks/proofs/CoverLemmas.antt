@@ -19,6 +19,4 @@ module _ (passes : Task → Bool) (s : Members) where
   present at task place is =
       let d : Member = record { task = task; enabled = false; given = false } in
       let here = position-Some (λ (m : Member). passes m.task) s.list at d place in
-      find-map passes (λ (m : Member). m.task) s.list
-      ∙ ap (option_map (λ (m : Member). m.task)) (find_place (λ (m : Member). passes m.task) s.list at d (place_is (λ (m : Member). passes m.task) s.list at d here.0 here.2 here.1) here.0)
-      ∙ ap Some (sym (is d))
+      grind (arith, nat_tests, find-map, find_place, place_is)

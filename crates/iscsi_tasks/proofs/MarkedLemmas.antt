@@ -152,17 +152,7 @@ module _ {m : Marks} {slots : List ℕ} {list : List Member} (marked : IsMarked 
 
 -- a mark is the end, or a command before it
 pub span_to_end : (slots : List ℕ) (p mark : ℕ) → mark ≡ get_or slots p 0 → IsSpan slots mark 0
-span_to_end slots p mark is = record {
-  low = min p (length slots);
-  high = length slots;
-  ordered = omega arith;
-  within = omega arith;
-  from_is = ⊎_elim
-      (λ below. is ∙ ap (λ n. get_or slots n 0) (let e : p ≡ min p (length slots) = omega (arith, below) in e))
-      (λ past. is ∙ get_or_past slots p 0 past ∙ sym (get_or_past slots (min p (length slots)) 0 (omega (arith, past))))
-      (cases_lt p (length slots));
-  to_is = sym (get_or_past slots (length slots) 0 (omega arith));
-}
+span_to_end slots p mark is = grind (arith, nat_tests, get_or_past, get_or_past slots (length slots) 0 (omega arith))
 
 module _ {m : Marks} {slots : List ℕ} {list : List Member} (marked : IsMarked m slots list) where
   pub none_marked : is_none_marked m ≡ true → All (λ x. is_new x ≡ false) list

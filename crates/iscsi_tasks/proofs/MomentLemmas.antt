@@ -92,9 +92,7 @@ ordered_of a ordered = grind (arith, nat_tests)
 -- without HEAD OF QUEUE: those before the oldest ORDERED, and the oldest of all
 module _ (list : List Member) (order : InOrder list) (plain : All (λ m. is_head_in m ≡ false) list) where
   passes_below : (k j : ℕ) (d e : Member) → k < length list → j < length list → k < max 1 (position_or_len is_ordered_in list) → bars_in (get_or list k d).task (get_or list j e) ≡ false
-  passes_below k j d e within l below =
-      let m = get_or list k d in let o = get_or list j e in
-      grind (arith, nat_tests, simple_passes m.task o, simple_of m.task.attr, plain k d, plain j e, fails_before_first is_ordered_in list k d, fails_before_first is_ordered_in list j e, younger_passes m.task.attr m.task o refl, order k j d, get_or_default list j d e l)
+  passes_below k j d e within l below = grind (arith, nat_tests, simple_passes, simple_of, fails_before_first, younger_passes, get_or_default, fails_before_first is_ordered_in list k d, fails_before_first is_ordered_in list j e, get_or_default list j d e l)
 
   pub free_below : (k : ℕ) (d : Member) → k < length list → k < max 1 (position_or_len is_ordered_in list) → is_free_among (get_or list k d).task list ≡ true
   free_below k d within below = free_none (get_or list k d).task list (λ j e l. passes_below k j d e within l below)

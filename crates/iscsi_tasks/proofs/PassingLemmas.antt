@@ -55,9 +55,7 @@ module _ {X : Type 0} (covers : X → Bool) where
 
   -- from here on none is covered
   pub yet_all : (xs : List X) (k : ℕ) → All (λ x. covers x ≡ false) (drop k xs) → kept_yet xs k ≡ filter (λ x. not (covers x)) xs
-  yet_all xs k none =
-      ap (λ ys. filter (λ x. not (covers x)) (take k xs) ++ ys) (sym (none_filtered (drop k xs) none))
-      ∙ sym (filter-append (λ x. not (covers x)) (take k xs) (drop k xs)) ∙ ap (filter (λ x. not (covers x))) (take-append-drop k xs)
+  yet_all xs k none = grind (arith, nat_tests, none_filtered, filter-append, take-append-drop, none_filtered (drop k xs) none, take-append-drop k xs)
 
 module _ (covers : Task → Bool) where
   tickets_append : (xs ys : List Member) → covered_tickets covers (xs ++ ys) ≡ covered_tickets covers xs ++ covered_tickets covers ys
@@ -71,8 +69,7 @@ module _ (covers : Task → Bool) where
 
   -- one more is looked at
   pub tickets_more : (xs : List Member) (k : ℕ) (d : Member) (b : Bool) → k < length xs → covers (get_or xs k d).task ≡ b → covered_tickets covers (take (k + 1) xs) ≡ covered_tickets covers (take k xs) ++ cond b ((get_or xs k d).task.ticket ∷ []) []
-  tickets_more xs k d b l is =
-      ap (covered_tickets covers) (take_more xs k d l) ∙ tickets_append (take k xs) (get_or xs k d ∷ []) ∙ ap (λ r. covered_tickets covers (take k xs) ++ r) (tickets_one (get_or xs k d) b is)
+  tickets_more xs k d b l is = grind (arith, nat_tests, take_more xs k d l, tickets_append (take k xs) (get_or xs k d ∷ []), tickets_one (get_or xs k d) b is)
 
   tickets_none : (xs : List Member) → All (λ m. covers m.task ≡ false) xs → covered_tickets covers xs ≡ []
   tickets_none [] none = refl

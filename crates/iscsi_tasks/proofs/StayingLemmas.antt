@@ -57,6 +57,4 @@ staying_set covers s = grind (arith, nat_tests, cond)
 
 -- where none is covered, the set stays as it is
 pub set_stays : (covers : Task → Bool) (s : Members) → All (λ t. covers t ≡ false) (tasks_in s) → set_staying covers s ≡ s
-set_stays covers s none =
-    let nowhere : list_any (λ (m : Member). covers m.task) s.list ≡ false = sym (list_any-map covers (λ (m : Member). m.task) s.list) ∙ list_any_none covers (tasks_in s) none in
-    ap (λ b. cond b (record s { list = after_moment (uncovered covers s.list) }) s) nowhere
+set_stays covers s none = grind (arith, nat_tests, list_any-map, list_any_none, list_any_none covers (tasks_in s) none)
