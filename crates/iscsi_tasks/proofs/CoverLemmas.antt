@@ -1,5 +1,5 @@
 -- The oldest command that passes a test, by the place that a search along the set gave.
-use Rattle.std.proofs.Common.{◌≡◌, ◌∙◌, ℕ, Bool, false, Some, None, position, find, option_map, get_or, ap, sym, arith}
+use Rattle.std.proofs.Common.{◌≡◌, ℕ, Bool, false, Some, None, position, find, option_map, get_or, arith}
 use Rattle.std.proofs.lemmas.List.Quantifiers.{position-Some}
 use Rattle.std.proofs.lemmas.Bool.Decides.{nat_tests}
 use Rattle.iscsi_tasks.specs.declared.task.Task.{Task}

@@ -1,5 +1,5 @@
 -- From which number on functions may cover commands of a set.
-use Rattle.std.proofs.Common.{◌≡◌, ◌∙◌, ◌&&◌, ◌==◌, not, Bool, ℕ, zero, suc, ◌<◌, ℤ, pos, ◌≤ℤ◌, cond, true, false, nat_lt, int_lt, List, [], ◌∷◌, ◌++◌, length, map, get_or, All, ap, sym, subst, arith}
+use Rattle.std.proofs.Common.{◌≡◌, ◌∙◌, ◌&&◌, ◌==◌, not, Bool, ℕ, zero, suc, ◌<◌, ℤ, ◌≤ℤ◌, cond, true, false, nat_lt, int_lt, List, [], ◌∷◌, ◌++◌, length, map, get_or, All, ap, sym, subst, arith}
 use Rattle.std.specs.Int.{int_min}
 use Rattle.std.specs.List.{fold}
 use Rattle.std.specs.Ordering.{int_eq}
@@ -10,7 +10,7 @@ use Rattle.std.proofs.lemmas.List.Elements.{All-cons, All-filter, All-map, All-n
 use Rattle.std.proofs.lemmas.Bool.Decides.{nat_tests}
 use Rattle.iscsi_tasks.specs.declared.task.Task.{Task}
 use Rattle.iscsi_tasks.specs.declared.cover.Cover.{Cover}
-use Rattle.iscsi_tasks.specs.declared.cover.Cover.TheVariants.{All as AllOfThem, Conn, Below}
+use Rattle.iscsi_tasks.specs.declared.cover.Cover.TheVariants.{Below}
 use Rattle.iscsi_tasks.specs.declared.member.Member.{Member}
 use Rattle.iscsi_tasks.specs.Sets.{is_covered, after_moment, without, uncovered, list_staying}
 use Rattle.iscsi_tasks.specs.Counted.{IsCoveredFrom, is_below, covered_from, greatest_number, covered_from_with, covered_from_in, covered_from_first, IsAscending}

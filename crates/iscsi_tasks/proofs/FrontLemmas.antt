@@ -1,5 +1,5 @@
 -- Sets along which the numbers from which on functions may cover the commands go up.
-use Rattle.std.proofs.Common.{◌≡◌, ◌∙◌, ℕ, suc, ◌<◌, ◌+◌, ◌==◌, ◌||◌, ◌&&◌, not, ℤ, ◌≤ℤ◌, int_lt, Bool, true, false, List, [], ◌∷◌, ◌++◌, length, map, filter, take, get_or, All, ap, sym, subst, arith, ne_eqb, true≢false}
+use Rattle.std.proofs.Common.{◌≡◌, ◌∙◌, ℕ, suc, ◌<◌, ◌+◌, ◌==◌, ◌||◌, ◌&&◌, not, ℤ, ◌≤ℤ◌, int_lt, Bool, true, false, List, [], ◌∷◌, ◌++◌, length, map, filter, take, get_or, All, ap, sym, arith, ne_eqb, true≢false}
 use Rattle.std.proofs.lemmas.Int.{ints}
 use Rattle.std.proofs.lemmas.Bool.{and_parts, false_from_ne_true}
 use Rattle.std.proofs.lemmas.List.{get_or-map, length-map, length-take-le, take_more}

@@ -1,5 +1,5 @@
 -- Tickets that are given: each once, the oldest first.
-use Rattle.std.proofs.Common.{◌≡◌, ℕ, zero, suc, ◌<◌, ◌==◌, ◌||◌, not, cond, Bool, true, false, List, [], ◌∷◌, length, map, find, get_or, set, refl, ap, sym, ◌∙◌, arith, All, eq-eqb, Option, Some, None, option_map, subst, ⊎_elim}
+use Rattle.std.proofs.Common.{◌≡◌, ℕ, suc, ◌<◌, ◌==◌, ◌||◌, not, cond, Bool, true, false, List, [], ◌∷◌, length, map, find, get_or, set, refl, ap, sym, ◌∙◌, arith, All, eq-eqb, Option, Some, None, option_map, subst, ⊎_elim}
 use Rattle.std.proofs.lemmas.Bool.{cases_Bool}
 use Rattle.std.proofs.lemmas.Bool.Decides.{nat_tests}
 use Rattle.std.proofs.lemmas.List.Elements.{All-cons, All-head, All-tail, All-nil}

@@ -1,5 +1,5 @@
 -- The marks of a linked set stay right.
-use Rattle.std.proofs.Common.{◌≡◌, ◌≢◌, ℕ, ◌+◌, ◌-◌, ◌<◌, ◌≤◌, ◌==◌, ◌&&◌, not, nat_lt, lt-ltb, le-ltb, cond, max, min, Bool, true, false, List, [], ◌∷◌, ◌++◌, length, set, get_or, All, refl, ap, sym, subst, ◌∙◌, arith, ⊎_elim, eq-eqb, ne_eqb, eqb-true, true≢false}
+use Rattle.std.proofs.Common.{◌≡◌, ◌≢◌, ℕ, ◌+◌, ◌-◌, ◌<◌, ◌≤◌, ◌==◌, ◌&&◌, not, nat_lt, lt-ltb, le-ltb, cond, max, min, Bool, true, false, List, [], ◌∷◌, ◌++◌, length, set, get_or, All, refl, ap, sym, subst, ◌∙◌, arith, ⊎_elim, eq-eqb, ne_eqb, eqb-true}
 use Rattle.std.specs.List.{position_or_len, remove}
 use Rattle.std.proofs.lemmas.Bool.{cases_Bool, cases_eq, cases_lt}
 use Rattle.std.proofs.lemmas.List.{get_or_past, get_or_push, get_or_append_left, length_push, length-set}
@@ -16,7 +16,7 @@ use Rattle.iscsi_tasks.specs.Counted.{Counts, IsCounted, is_head_in, is_ordered_
 use Rattle.iscsi_tasks.specs.Chains.{AreApart}
 use Rattle.iscsi_tasks.specs.Marked.{IsMarked, IsPastNone, IsSpan, moved_off, pushed_by, left_by, enabled_by, is_none_marked}
 use Rattle.iscsi_tasks.proofs.ChainLemmas.{not_end, same_to_end}
-use Rattle.iscsi_tasks.proofs.CountLemmas.{first-le, counted_push, at_push, with_last, with_enabled, shifted_cases, ordered_shifted, one_less, counted_remove, enabled_up_to, parts-length, counted_enabled, counted_none, counted_given}
+use Rattle.iscsi_tasks.proofs.CountLemmas.{first-le, counted_push, with_last, with_enabled, shifted_cases, ordered_shifted, one_less, counted_remove, enabled_up_to, parts-length, counted_enabled, counted_none, counted_given}
 
 pub some_at : (slots : List ℕ) (k slot : ℕ) → k < length slots → get_or slots k 0 ≡ slot → 1 ≤ times slot slots
 some_at slots k slot l at = subst (λ s. 1 ≤ times s slots) at (times_at slots k l)

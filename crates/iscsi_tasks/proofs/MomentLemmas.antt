@@ -1,9 +1,9 @@
 -- A moment: which commands are free, and what becomes enabled.
-use Rattle.std.proofs.Common.{◌≡◌, ℕ, zero, suc, ◌<◌, ◌≤◌, ◌==◌, ◌||◌, ◌&&◌, ◌≢◌, not, nat_lt, min, max, cond, Bool, true, false, List, [], ◌∷◌, ◌++◌, length, map, take, drop, get_or, All, count_by, refl, ap, sym, ◌∙◌, arith, subst, ⊎_elim, true≢false, ne_eqb, lt-ltb, le-ltb, rules}
+use Rattle.std.proofs.Common.{◌≡◌, ℕ, zero, suc, ◌<◌, ◌≤◌, ◌==◌, ◌||◌, ◌&&◌, ◌≢◌, not, nat_lt, min, max, cond, Bool, true, false, List, [], ◌∷◌, ◌++◌, length, map, take, drop, get_or, All, count_by, refl, ap, sym, ◌∙◌, arith, ⊎_elim, ne_eqb, lt-ltb, le-ltb}
 use Rattle.std.specs.List.{list_any, position_or_len}
-use Rattle.std.proofs.lemmas.Bool.{cases_lt, cases_eq, cases_Bool, or_left, or_right, or_from, and_left, and_right, and_from}
+use Rattle.std.proofs.lemmas.Bool.{cases_Bool, or_left, or_right, or_from, and_left, and_right, and_from}
 use Rattle.std.proofs.lemmas.List.{get_or_default}
-use Rattle.std.proofs.lemmas.List.Elements.{All-map, All-head, All-tail, All-nil, All-cons}
+use Rattle.std.proofs.lemmas.List.Elements.{All-map, All-nil, All-cons}
 use Rattle.std.proofs.lemmas.List.Folds.{map_fixed, list_any_at, list_any_none, Any-from_list_any}
 use Rattle.std.proofs.lemmas.List.Sums.{fails_before_first, passes_at_first, sum_by-cons}
 use Rattle.std.proofs.lemmas.Bool.Decides.{nat_tests}
@@ -11,7 +11,7 @@ use Rattle.iscsi_tasks.specs.declared.task.Attr.{Attr}
 use Rattle.iscsi_tasks.specs.declared.task.Attr.TheVariants.{Simple, Ordered, Head}
 use Rattle.iscsi_tasks.specs.declared.task.Task.{Task}
 use Rattle.iscsi_tasks.specs.declared.member.Member.{Member}
-use Rattle.iscsi_tasks.specs.Rules.{Queued, is_head_of, is_ordered_of, bars_as, bars, is_free}
+use Rattle.iscsi_tasks.specs.Rules.{Queued, is_head_of, is_ordered_of, bars_as, bars}
 use Rattle.iscsi_tasks.specs.Sets.{queued, is_free_among, looked_at, after_moment, InOrder}
 use Rattle.iscsi_tasks.specs.Counted.{is_head_in, is_ordered_in, enabled_now, IsSettled}
 use Rattle.iscsi_tasks.proofs.ListLemmas.{list_any-map}

@@ -1,5 +1,4 @@
-use Rattle.std.proofs.Common.{◌≡◌, ◌≢◌, ◌∙◌, ◌+◌, ◌<◌, ◌≤◌, ℕ, List, length, get_or, set, refl, ⊎_elim, ap, sym, subst, arith}
-use Rattle.std.proofs.lemmas.Bool.{cases_eq}
+use Rattle.std.proofs.Common.{◌≡◌, ◌≢◌, ◌∙◌, ◌+◌, ◌<◌, ◌≤◌, ℕ, List, length, get_or, set, ap, sym, subst, arith}
 use Rattle.std.proofs.lemmas.List.{get_or_default}
 use Rattle.std.proofs.lemmas.List.Edits.{map_over_more}
 use Rattle.std.proofs.lemmas.Grind.{common_steps}
@@ -10,12 +9,8 @@ use Rattle.iscsi_tasks.specs.Counted.{enabled_now}
 use Rattle.iscsi_tasks.specs.Chains.{Chained, chained}
 use Rattle.iscsi_tasks.proofs.ChainLemmas.{same_to_end}
 use Rattle.iscsi_tasks.proofs.CountLemmas.{enabled_up_to, parts-length}
-use Rattle.iscsi_tasks.proofs.PlaceLemmas.{enabled_so_far}
 use Rattle.iscsi_tasks.proofs.MarkedLemmas.{some_at}
 use Rattle.iscsi_tasks.proofs.linked_queue.enable.Goals as goal
-
-pub loop-init : goal.loop-init
-loop-init c i j order within from to = grind (arith, common_steps, enabled_so_far, enabled_up_to)
 
 pub returns-then-slot-to : goal.returns-then-slot-to
 returns-then-slot-to c i j order within from to enabled =

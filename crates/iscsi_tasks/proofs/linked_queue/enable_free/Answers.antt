@@ -1,4 +1,4 @@
-use Rattle.std.proofs.Common.{◌≡◌, ◌∙◌, ◌<◌, ◌≤◌, ℕ, List, length, max, min, refl, ap, sym, subst, arith, ⊎_elim}
+use Rattle.std.proofs.Common.{◌≡◌, ◌∙◌, ◌<◌, ◌≤◌, ℕ, List, length, max, min, refl, ap, sym, arith, ⊎_elim}
 use Rattle.std.specs.List.{position_or_len}
 use Rattle.std.proofs.lemmas.Bool.{cases_lt}
 use Rattle.std.proofs.lemmas.Grind.{common_steps}
@@ -7,13 +7,13 @@ use Rattle.iscsi_tasks.specs.declared.member.Member.{Member}
 use Rattle.iscsi_tasks.specs.declared.marks.Marks.{Marks}
 use Rattle.iscsi_tasks.specs.Sets.{after_moment}
 use Rattle.iscsi_tasks.specs.Counted.{is_ordered_in}
-use Rattle.iscsi_tasks.specs.Chains.{Chained, chained}
+use Rattle.iscsi_tasks.specs.Chains.{chained}
 use Rattle.iscsi_tasks.specs.Marked.{IsMarked}
 use Rattle.iscsi_tasks.proofs.PlaceLemmas.{enabled_so_far}
 use Rattle.iscsi_tasks.proofs.MomentLemmas.{moment_with_heads, moment_without_heads}
 use Rattle.iscsi_tasks.proofs.CountLemmas.{first-le, enabled_up_to}
 use Rattle.iscsi_tasks.proofs.ChainLemmas.{not_end}
-use Rattle.iscsi_tasks.proofs.MarkedLemmas.{some_at, within_some, span_to_end}
+use Rattle.iscsi_tasks.proofs.MarkedLemmas.{some_at, within_some}
 use Rattle.iscsi_tasks.proofs.linked_queue.enable_free.Goals.{then-marks-gt0-via-then-marks-gt0, then-marks-gt0-via-else-marks-gt0+then-marks-eq-ENDS}
 use Rattle.iscsi_tasks.proofs.linked_queue.enable_free.Goals as goal
 
@@ -53,9 +53,6 @@ dormant_there m slots list marked some = some_at slots marked.counts.enabled_to 
 pub is_before-requires-clause-there : goal.is_before-requires-clause-there
 is_before-requires-clause-there c = dormant_there c.args.marks.now c.args.chain.now.slots c.args.chain.now.members c.requires c.if-marks-eq-ENDS.false
 
-pub is_before-requires-clause-end : goal.is_before-requires-clause-end
-is_before-requires-clause-end c = span_to_end c.args.chain.now.slots (max 1 (position_or_len is_ordered_in c.args.chain.now.members)) c.free_end-end.result c.free_end-end.ensures
-
 pub returns-then-not-is_before-clause-state : goal.returns-then-not-is_before-clause-state
 returns-then-not-is_before-clause-state c =
     let slots = c.args.chain.now.slots in let list = c.args.chain.now.members in
@@ -81,6 +78,3 @@ returns-clause-marked c = grind (arith, common_steps, enabled)
 
 pub with_enabled-enabled-requires-clause-there : goal.with_enabled-enabled-requires-clause-there
 with_enabled-enabled-requires-clause-there c = dormant_there c.args.marks.now c.args.chain.now.slots c.args.chain.now.members c.requires c.if-marks-eq-ENDS.false
-
-pub with_enabled-enabled-requires-clause-span : goal.with_enabled-enabled-requires-clause-span
-with_enabled-enabled-requires-clause-span c = span_to_end c.args.chain.now.slots (max 1 (position_or_len is_ordered_in c.args.chain.now.members)) c.free_end-end.result c.free_end-end.ensures

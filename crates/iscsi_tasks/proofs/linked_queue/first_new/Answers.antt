@@ -7,7 +7,7 @@ use Rattle.iscsi_tasks.specs.Sets.{is_new}
 use Rattle.iscsi_tasks.specs.Marked.{IsMarked}
 use Rattle.iscsi_tasks.proofs.PlaceLemmas.{place_is, no_place, position_of, position_none}
 use Rattle.iscsi_tasks.proofs.ChainLemmas.{not_end, same_to_end}
-use Rattle.iscsi_tasks.proofs.MarkedLemmas.{some_at, within_some}
+use Rattle.iscsi_tasks.proofs.MarkedLemmas.{within_some}
 use Rattle.iscsi_tasks.proofs.linked_queue.first_new.Goals as goal
 
 -- none is new before a place, and the place is the end of those that may be
@@ -42,9 +42,6 @@ returns-then-slot-marks c =
     (cases_lt inv.place (length slots))) inv.none)
     c.then-slot-marks.either
 
-pub at-requires : goal.at-requires
-at-requires c = grind (arith, common_steps, some_at, within_some)
-
 pub returns-then-is_new : goal.returns-then-is_new
 returns-then-is_new c =
     let inv = c.loop.invariant in
@@ -62,9 +59,6 @@ returns-then-is_new c =
           (sym (ap is_new (c.at.ensures inv.place d l (sym inv.there))) ∙ sym c.is_new.ensures ∙ c.if-is_new.true))
           inside);
     }
-
-pub after-slot-requires : goal.after-slot-requires
-after-slot-requires c = grind (arith, common_steps, some_at, within_some)
 
 pub loop-preserved : goal.loop-preserved
 loop-preserved c =

@@ -1,26 +1,15 @@
 use Rattle.std.proofs.Common.{◌≡◌, ◌∙◌, ◌<◌, ℕ, List, Some, position, length, get_or, set, true, false, ap, sym, subst, arith}
 use Rattle.std.proofs.lemmas.List.{get_or_default}
 use Rattle.std.proofs.lemmas.List.Quantifiers.{position-Some}
-use Rattle.std.proofs.lemmas.Grind.{common_steps}
 use Rattle.iscsi_tasks.specs.declared.member.Member.{Member}
 use Rattle.iscsi_tasks.specs.Sets.{is_new}
 use Rattle.iscsi_tasks.specs.Counted.{given_now}
 use Rattle.iscsi_tasks.specs.Chains.{BLANK}
 use Rattle.iscsi_tasks.specs.Chains.{Chained, chained}
 use Rattle.iscsi_tasks.specs.Marked.{IsMarked, IsFirstNew}
-use Rattle.iscsi_tasks.proofs.PlaceLemmas.{none_at_position}
-use Rattle.iscsi_tasks.proofs.GivingLemmas.{next_in_none, next_in_at, given_in_none, given_in_at}
-use Rattle.iscsi_tasks.proofs.MarkedLemmas.{some_at, marked_none, marked_given}
+use Rattle.iscsi_tasks.proofs.GivingLemmas.{next_in_at, given_in_at}
+use Rattle.iscsi_tasks.proofs.MarkedLemmas.{some_at, marked_given}
 use Rattle.iscsi_tasks.proofs.linked_queue.give_next.Goals as goal
-
-pub returns-in_default-clause-ticket : goal.returns-in_default-clause-ticket
-returns-in_default-clause-ticket c = sym (next_in_none c.args.chain.now.members (none_at_position is_new c.args.chain.now.members c.in_default.ensures))
-
-pub returns-in_default-clause-state : goal.returns-in_default-clause-state
-returns-in_default-clause-state c = grind (arith, common_steps, none_at_position, given_in_none, next_in_none)
-
-pub returns-in_default-clause-marked : goal.returns-in_default-clause-marked
-returns-in_default-clause-marked c = marked_none c.requires (none_at_position is_new c.args.chain.now.members c.in_default.ensures)
 
 -- where the first new one stands
 slot_in : {slots : List ℕ} {list : List Member} {slot : ℕ} → length slots ≡ length list → (is : IsFirstNew slots list slot) → is.place < length slots

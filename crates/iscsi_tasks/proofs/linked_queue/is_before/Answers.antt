@@ -1,17 +1,9 @@
-use Rattle.std.proofs.Common.{◌≡◌, ◌∙◌, ◌<◌, length, get_or, ap, sym, arith, ⊎_elim}
+use Rattle.std.proofs.Common.{◌≡◌, ◌<◌, get_or, ap, sym, arith, ⊎_elim}
 use Rattle.std.proofs.lemmas.Bool.{cases_eq, cases_lt, ltb-true, ltb-false}
-use Rattle.std.proofs.lemmas.Grind.{common_steps}
 use Rattle.iscsi_tasks.specs.declared.member.Member.{Member}
 use Rattle.iscsi_tasks.specs.Chains.{BLANK}
-use Rattle.iscsi_tasks.proofs.ChainLemmas.{not_end}
-use Rattle.iscsi_tasks.proofs.MarkedLemmas.{some_at, within_some}
+use Rattle.iscsi_tasks.proofs.MarkedLemmas.{within_some}
 use Rattle.iscsi_tasks.proofs.linked_queue.is_before.Goals as goal
-
-pub at-requires-else-end-eq-ENDS : goal.at-requires-else-end-eq-ENDS
-at-requires-else-end-eq-ENDS c = grind (arith, common_steps, some_at, within_some)
-
-pub returns-then-end-eq-ENDS-clause-yes : goal.returns-then-end-eq-ENDS-clause-yes
-returns-then-end-eq-ENDS-clause-yes c j k j_in k_in slot end is = grind (arith, common_steps, not_end)
 
 -- the tickets that were read, and where they stand
 pub returns-else-end-eq-ENDS-clause-yes : goal.returns-else-end-eq-ENDS-clause-yes

@@ -1,11 +1,10 @@
-use Rattle.std.proofs.Common.{◌≡◌, ◌∙◌, None, Some, ap, sym, subst, arith}
+use Rattle.std.proofs.Common.{◌≡◌, ◌∙◌, None, Some, ap, sym, arith}
 use Rattle.std.proofs.lemmas.Grind.{common_steps}
 use Rattle.iscsi_tasks.specs.Sets.{Members, left_by, tasks_in, with_ticket}
-use Rattle.iscsi_tasks.specs.Changes.{StandsFor, after_leaving}
 use Rattle.iscsi_tasks.specs.Chains.{BLANK}
 use Rattle.iscsi_tasks.specs.Linked.{Linked}
 use Rattle.iscsi_tasks.proofs.SearchLemmas.{not_found}
-use Rattle.iscsi_tasks.proofs.LinkedSetLemmas.{place_in, slot_there, task_found}
+use Rattle.iscsi_tasks.proofs.LinkedSetLemmas.{place_in, task_found}
 use Rattle.iscsi_tasks.proofs.linked_set.LinkedTaskSet.leave.Goals as goal
 
 -- no command has the ticket
@@ -20,9 +19,6 @@ returns-in_err-slot-clause-state c = sym (ap (left_by c.args.self.now) (absent c
 
 pub returns-in_err-slot-clause-stands : goal.returns-in_err-slot-clause-stands
 returns-in_err-slot-clause-stands c = grind (arith, common_steps, returns-in_err-slot-clause-answer)
-
-pub let_go-requires : goal.let_go-requires
-let_go-requires c = slot_there c.self.invariant c.args.ticket c.in_ok-slot.slot c.in_ok-slot.ensures
 
 pub returns-clause-answer : goal.returns-clause-answer
 returns-clause-answer c =

@@ -1,13 +1,11 @@
-use Rattle.std.proofs.Common.{◌≡◌, ◌∙◌, Option, Some, false, true, ap, sym, subst, arith}
+use Rattle.std.proofs.Common.{◌≡◌, ◌∙◌, Some, false, true, ap, sym, arith}
 use Rattle.std.proofs.lemmas.Grind.{common_steps}
-use Rattle.iscsi_tasks.specs.declared.task.Task.{Task}
 use Rattle.iscsi_tasks.specs.Sets.{Members, left_by, tasks_in, with_ticket, is_enabled_in}
-use Rattle.iscsi_tasks.specs.Changes.{StandsFor, after_leaving}
 use Rattle.iscsi_tasks.specs.Chains.{BLANK, member_of}
 use Rattle.iscsi_tasks.specs.Linked.{Linked}
 use Rattle.iscsi_tasks.proofs.EnabledLemmas.{enabled_is}
 use Rattle.iscsi_tasks.proofs.SearchLemmas.{not_enabled}
-use Rattle.iscsi_tasks.proofs.LinkedSetLemmas.{place_in, slot_there, task_found, enabled_found}
+use Rattle.iscsi_tasks.proofs.LinkedSetLemmas.{place_in, task_found, enabled_found}
 use Rattle.iscsi_tasks.proofs.linked_set.LinkedTaskSet.leave_enabled.Goals as goal
 
 pub returns-in_default-clause-answer : goal.returns-in_default-clause-answer
@@ -16,9 +14,6 @@ returns-in_default-clause-answer c = sym (not_enabled c.self.inside.tasks.shown.
 pub returns-in_default-clause-since : goal.returns-in_default-clause-since
 returns-in_default-clause-since c = enabled_is c.args.self.now c.args.ticket false (returns-in_default-clause-answer c)
 
-pub at-requires : goal.at-requires
-at-requires c = slot_there c.self.invariant c.args.ticket c.in-Some.slot c.in-Some.ensures
-
 pub returns-then-not-at-clause-answer : goal.returns-then-not-at-clause-answer
 returns-then-not-at-clause-answer c =
     sym c.if-not-at.true ∙ enabled_found c.self.invariant c.args.ticket c.in-Some.slot c.in-Some.ensures (member_of c.at.result.now) c.at.ensures
@@ -26,9 +21,6 @@ returns-then-not-at-clause-answer c =
 
 pub returns-then-not-at-clause-since : goal.returns-then-not-at-clause-since
 returns-then-not-at-clause-since c = enabled_is c.args.self.now c.args.ticket false (returns-then-not-at-clause-answer c)
-
-pub let_go-requires : goal.let_go-requires
-let_go-requires c = slot_there c.self.invariant c.args.ticket c.in-Some.slot c.in-Some.ensures
 
 pub returns-clause-answer : goal.returns-clause-answer
 returns-clause-answer c =

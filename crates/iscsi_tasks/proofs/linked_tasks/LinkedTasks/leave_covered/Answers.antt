@@ -1,11 +1,8 @@
-use Rattle.std.proofs.Common.{◌∙◌, ◌++◌, List, length, map, ap, sym, subst, arith}
-use Rattle.std.proofs.lemmas.List.{append-nil}
+use Rattle.std.proofs.Common.{List, length, map, ap, sym, subst, arith}
 use Rattle.std.proofs.lemmas.Grind.{common_steps}
-use Rattle.iscsi_tasks.proofs.PassingLemmas.{none_left}
-use Rattle.iscsi_tasks.specs.declared.task.Task.{Task}
 use Rattle.iscsi_tasks.specs.declared.member.Member.{Member}
-use Rattle.iscsi_tasks.specs.Sets.{Members, tasks_in, InOrder, is_covered, set_staying}
-use Rattle.iscsi_tasks.specs.Linked.{Linked, IsInSlots}
+use Rattle.iscsi_tasks.specs.Sets.{InOrder, is_covered}
+use Rattle.iscsi_tasks.specs.Linked.{Linked}
 use Rattle.iscsi_tasks.specs.Counted.{IsSettled, IsCoveredFrom, IsAscendingTo}
 use Rattle.iscsi_tasks.proofs.AllLeftLemmas.{StandsFor-staying}
 use Rattle.iscsi_tasks.proofs.CoveredFromLemmas.{covered_from_staying}
@@ -16,9 +13,6 @@ use Rattle.iscsi_tasks.proofs.linked_tasks.LinkedTasks.leave_covered.Goals as go
 
 pub returns-then-not-may_cover-clause-state : goal.returns-then-not-may_cover-clause-state
 returns-then-not-may_cover-clause-state c = sym (set_stays (is_covered c.args.cover.now) c.args.self.now.shown (c.may_cover.ensures c.if-not-may_cover.true))
-
-pub returns-then-not-may_cover-clause-left : goal.returns-then-not-may_cover-clause-left
-returns-then-not-may_cover-clause-left c = grind (arith, common_steps, none_left, append-nil)
 
 pub returns-then-not-may_cover-clause-stands : goal.returns-then-not-may_cover-clause-stands
 returns-then-not-may_cover-clause-stands c = λ h st. StandsFor-staying c.args.self.now.shown (is_covered c.args.cover.now) h (subst (λ (l : Linked). InOrder l.shown.list) c.self.view_is c.self.invariant.marked.counted.order) st _ (returns-then-not-may_cover-clause-state c)

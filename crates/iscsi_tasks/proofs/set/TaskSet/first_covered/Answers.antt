@@ -1,9 +1,8 @@
 use Rattle.std.proofs.Common.{◌∙◌, ap, sym, arith}
-use Rattle.std.proofs.lemmas.Grind.{common_steps}
 use Rattle.iscsi_tasks.specs.declared.member.Member.{Member}
 use Rattle.iscsi_tasks.specs.Sets.{is_covered}
 use Rattle.iscsi_tasks.specs.Chains.{member_of}
-use Rattle.iscsi_tasks.proofs.PlaceLemmas.{place_is, no_place, position_of, position_none}
+use Rattle.iscsi_tasks.proofs.PlaceLemmas.{place_is, position_of}
 use Rattle.iscsi_tasks.proofs.set.TaskSet.first_covered.Goals as goal
 
 pub returns-then-covers : goal.returns-then-covers
@@ -14,6 +13,3 @@ returns-then-covers c =
     (place_is covered c.args.self.now.list c.loop-place.place m (omega arith) (λ j l. c.loop-place.invariant j m l)
     (ap covered (sym (c.at.ensures.member m)) ∙ sym c.covers.ensures ∙ c.if-covers.true))
     (omega arith)
-
-pub returns : goal.returns
-returns c = grind (arith, common_steps, position_none, no_place)
