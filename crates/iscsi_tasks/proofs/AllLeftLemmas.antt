@@ -48,9 +48,6 @@ free_fewer task ts set there free =
     and_from _ _ there
     (ap (is_free (queued task)) (sym (filter-map stays queued set)) ∙ stays_free (queued task) (map queued set) stays (and_parts (is_live task set) _ free).1)
 
-absorb : (e m w : Bool) → (m ≡ true → e ≡ true) → (e || (m || w)) ≡ (e || w)
-absorb e m w h = grind (arith, nat_tests)
-
 -- the moments between tell nothing of those that stay
 was-all_left : (task x : Task) (xs : List Task) (h : List Change) → is_live task (live (after_all_left (x ∷ xs) h)) ≡ true → was_free task (after_all_left (x ∷ xs) h) ≡ (is_free_in task (live (after_all_left (x ∷ xs) h)) || was_free task h)
 was-all_left task x [] h there = refl
@@ -58,7 +55,7 @@ was-all_left task x (y ∷ ys) h there =
     let mid : List Change = Left x.ticket ∷ h in
     let end : List Task = live (after_all_left (y ∷ ys) mid) in
     let is = live-all_left (y ∷ ys) mid in
-    grind (arith, nat_tests, was-all_left task y ys, absorb, free_fewer)
+    grind (arith, nat_tests, was-all_left task y ys, free_fewer)
 
 given-all_left : (ticket : ℕ) (ts : List Task) (h : List Change) → was_given ticket (after_all_left ts h) ≡ was_given ticket h
 given-all_left ticket [] h = refl

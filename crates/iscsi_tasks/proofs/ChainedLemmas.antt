@@ -135,9 +135,6 @@ module _ {nodes : List Node} {capacity free len room : ℕ} (chained : IsChained
     before_used : 1 ≤ times before (0 ∷ slots)
     before_used = subst (λ s. 1 ≤ times s (0 ∷ slots)) (sym before_is) (times_at (0 ∷ slots) p (omega (arith, l)))
 
-    after_used : 1 ≤ times after (0 ∷ slots)
-    after_used = subst (λ s. 1 ≤ times s (0 ∷ slots)) (sym after_is) (in_ring (p + 1) (let a = long in omega (arith, a, l)))
-
     free_without : free_in now slot (len - 1) ≡ slot ∷ frees
     free_without =
         let a = now_long in let b = few in let e = long in
@@ -151,7 +148,7 @@ module _ {nodes : List Node} {capacity free len room : ℕ} (chained : IsChained
         ∙ after_else nodes before after before_in after_in j (not_free before j before_used some)))
 
     pub chained_without : IsChained now capacity slot (len - 1) room
-    chained_without = grind (arith, nat_tests, order_without, free_without, now_long, times_remove, length-remove, linked_without, get_or-set_same, slot_closed, get_or-set_other, before_else, before_in, after_in, not_free, after_used, length-remove slots p l)
+    chained_without = grind (arith, nat_tests, order_without, free_without, now_long, times_remove, length-remove, linked_without, get_or-set_same, slot_closed, get_or-set_other, before_else, before_in, after_in, not_free, after_is, in_ring, long, length-remove slots p l)
 
     pub members_without : map (member_at now) (order_in now (len - 1)) ≡ remove (map (member_at nodes) slots) p
     members_without =
@@ -171,11 +168,8 @@ module _ {nodes : List Node} {capacity free len room : ℕ} (chained : IsChained
     pub order_written : order_in (set nodes slot n) len ≡ slots
     order_written = ap (λ s. order_from (set nodes slot n) s len) (after_written 0) ∙ order_same nodes (set nodes slot n) (after_of nodes 0) len (λ j some. after_written j)
 
-    free_written : free_in (set nodes slot n) free len ≡ frees
-    free_written = ap (λ m. order_from (set nodes slot n) free (m - 1 - len)) (length-set nodes slot n) ∙ order_same nodes (set nodes slot n) free (length nodes - 1 - len) (λ j some. after_written j)
-
     pub chained_written : IsChained (set nodes slot n) capacity free len room
-    chained_written = grind (arith, nat_tests, set, length, order_written, free_written, length-set, after_written, get_or, before_written)
+    chained_written = grind (arith, nat_tests, set, length, order_written, order_same, length-set, after_written, get_or, before_written)
 
   pub members_written : (n : Node) (k : ℕ) → k < length slots → n.after ≡ after_of nodes (get_or slots k 0) → n.before ≡ before_of nodes (get_or slots k 0)
       → map (member_at (set nodes (get_or slots k 0) n)) (order_in (set nodes (get_or slots k 0) n) len) ≡ set (map (member_at nodes) slots) k (member_of n)
@@ -247,9 +241,6 @@ module _ {nodes : List Node} {capacity free len room : ℕ} (chained : IsChained
     none_left : (left_in nodes n0 next len) ≡ []
     none_left = let a = long_added in let b = added.none in let n : length n0 - 1 - (len + 1) ≡ 0 = omega (arith, a, b) in ap (order_from nodes next) n
 
-    none_free : free_in nodes free len ≡ []
-    none_free = let b = added.none in let n : length nodes - 1 - len ≡ 0 = omega (arith, b) in ap (order_from nodes free) n
-
     fresh_added : Fresh nodes n0 (order_in nodes len) (left_in nodes n0 next len) node slot
     fresh_added = record {
       here = let a = long_added in let b = added.new in omega (arith, a, b);
@@ -263,7 +254,7 @@ module _ {nodes : List Node} {capacity free len room : ℕ} (chained : IsChained
     }
 
     shared_added : AreShared (0 ∷ ((order_in nodes len) ++ slot ∷ [])) (left_in nodes n0 next len) (length n0) (room + 1)
-    shared_added = grind (arith, nat_tests, times_append, none_free, none_left, long_added, nat_tests, length_push, length)
+    shared_added = grind (arith, nat_tests, times_append, none_left, long_added, nat_tests, length_push, length)
 
   fresh_slot : IsTaken nodes free len node n0 next slot → Fresh nodes n0 (order_in nodes len) (left_in nodes n0 next len) node slot
   fresh_slot taken = ⊎_elim fresh_reused fresh_added taken
@@ -290,9 +281,6 @@ module _ {nodes : List Node} {capacity free len room : ℕ} (chained : IsChained
 
     zero_n1 : 0 < length (end_in nodes n0 slot)
     zero_n1 = let b = slot_n1 in omega (arith, b)
-
-    entered_long : length (entered_in nodes n0 slot) ≡ length n0
-    entered_long = length_linked (end_in nodes n0 slot) slot 0 ∙ length_linked n0 (before_of nodes 0) slot
 
     order_long : length (order_in nodes len ++ slot ∷ []) ≡ len + 1
     order_long = let a = length_push (order_in nodes len) slot in let b = long chained in omega (arith, a, b)
@@ -346,9 +334,6 @@ module _ {nodes : List Node} {capacity free len room : ℕ} (chained : IsChained
     before_old : (j : ℕ) → 1 ≤ times j (0 ∷ (order_in nodes len)) + times j (left_in nodes n0 next len) → j ≢ 0 → before_of (entered_in nodes n0 slot) j ≡ before_of nodes j
     before_old j some other = grind (arith, nat_tests, before_else, slot_n1, zero_n1, last_fresh, slot_fresh, not_slot, is)
 
-    member_old : (j : ℕ) → 1 ≤ times j (0 ∷ (order_in nodes len)) + times j (left_in nodes n0 next len) → member_at (entered_in nodes n0 slot) j ≡ member_at nodes j
-    member_old j some = member_linked (end_in nodes n0 slot) slot 0 slot_n1 zero_n1 j ∙ member_linked n0 (before_of nodes 0) slot last_fresh slot_fresh j ∙ ap member_of (is.same j some)
-
     old_after : (k : ℕ) → k < len → after_of (entered_in nodes n0 slot) (get_or (0 ∷ (order_in nodes len)) k 0) ≡ get_or (order_in nodes len) k 0
     old_after k below =
         after_old (get_or (0 ∷ (order_in nodes len)) k 0) (ring_old k (omega arith))
@@ -368,16 +353,11 @@ module _ {nodes : List Node} {capacity free len room : ℕ} (chained : IsChained
     not_last : (j : ℕ) → 1 ≤ times j (left_in nodes n0 next len) → j ≢ (before_of nodes 0)
     not_last j some same = grind (arith, nat_tests, at_most_once (shared_with taken) j, times_at (0 ∷ (order_in nodes len)) len, last_is, long chained, times_append)
 
-    free_with : free_in (entered_in nodes n0 slot) next (len + 1) ≡ (left_in nodes n0 next len)
-    free_with =
-        ap (λ m. order_from (entered_in nodes n0 slot) next (m - 1 - (len + 1))) entered_long
-        ∙ order_same nodes (entered_in nodes n0 slot) next (length n0 - 1 - (len + 1)) (λ j some. after_old j (omega (arith, some)) (not_last j some))
-
     pub chained_with : IsChained (entered_in nodes n0 slot) capacity next (len + 1) room
-    chained_with = grind (arith, nat_tests, length, order_with, free_with, entered_long, shared_with, linked_with, free_before, before_old, at_most_once, times_at)
+    chained_with = grind (arith, nat_tests, length, order_with, order_same, after_old, not_last, length_linked, shared_with, linked_with, free_before, before_old, at_most_once, times_at)
 
     pub members_with : map (member_at (entered_in nodes n0 slot)) (order_in (entered_in nodes n0 slot) (len + 1)) ≡ map (member_at nodes) (order_in nodes len) ++ member_of node ∷ []
-    members_with = grind (arith, nat_tests, map, order_with, map-append, members_same, member_old, member_linked, slot_n1, zero_n1, last_fresh, slot_fresh, is)
+    members_with = grind (arith, nat_tests, map, order_with, map-append, members_same, member_linked, slot_n1, zero_n1, last_fresh, slot_fresh, is)
 
 -- ---- a member is written in place
 

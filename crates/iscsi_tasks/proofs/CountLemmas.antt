@@ -18,22 +18,9 @@ use Rattle.iscsi_tasks.specs.Counted.{Counts, IsCounted, is_head_in, is_ordered_
 pub first-le : {X : Type 0} (p : X → Bool) (xs : List X) → position_or_len p xs ≤ length xs
 first-le p xs = prefix_len-le-length (λ x. not (p x)) xs
 
-plus_one : (b : Bool) (n : ℕ) → n + cond b 1 0 ≡ plus_one_if b n
-plus_one b n = grind (arith, nat_tests)
-
-count_push : (p : Member → Bool) (xs : List Member) (y : Member) → count_by p (xs ++ y ∷ []) ≡ plus_one_if (p y) (count_by p xs)
-count_push p xs y = sum_by_push (λ m. cond (p m) 1 0) xs y ∙ plus_one (p y) (count_by p xs)
-
--- a place that is the end moves on where it should
-moved_on : (at len : ℕ) (b : Bool) → at ≤ len → plus_one_if (at == len && b) at ≤ len + 1
-moved_on at len b within = grind (arith, nat_tests)
-
-last_one : (at : ℕ) (b : Bool) → plus_one_if (true && not b) at ≡ at + cond b 0 1
-last_one at b = grind (arith, nat_tests)
-
 -- the place of the first one, with one more at the end
 first_push : (p : Member → Bool) (xs : List Member) (y : Member) (at : ℕ) → at ≡ position_or_len p xs → plus_one_if (at == length xs && not (p y)) at ≡ position_or_len p (xs ++ y ∷ [])
-first_push p xs y at is = grind (arith, nat_tests, length, eqb-true, not, last_one, cond, position_or_len_push, cond-true, cond-false)
+first_push p xs y at is = grind (arith, nat_tests, length, eqb-true, not, cond, position_or_len_push, cond-true, cond-false)
 
 -- one command more, the last, with what is new between these places
 abbrev pub with_last : Counts → ℕ → Member → ℕ → ℕ → Counts
@@ -54,11 +41,8 @@ pub counted_none_yet : IsCounted (record { heads = 0; ordered_at = 0; enabled_to
 counted_none_yet = grind (arith, nat_tests)
 
 module _ (c : Counts) (list : List Member) (counted : IsCounted c list) (m : Member) (newest : All (λ x. x.task.ticket < m.task.ticket) list) (head : is_head_in m ≡ true → m.enabled ≡ true) where
-  pub at_push : (P : Member → Type 0) (k : ℕ) (d : Member) → k < length list + 1 → (k < length list → P (get_or list k d)) → (k ≡ length list → P m) → P (get_or (list ++ m ∷ []) k d)
-  at_push P k d within before last = grind (arith, nat_tests, get_or_append_left, get_or_push, length)
-
   pub counted_push : (from to : ℕ) → to ≤ length list + 1 → ((k : ℕ) (d : Member) → k < length list → is_new (get_or list k d) ≡ true → (from ≤ k) × (k < to)) → (is_new m ≡ true → (from ≤ length list) × (length list < to)) → IsCounted (with_last c (length list) m from to) (list ++ m ∷ [])
-  counted_push from to upto old new = grind (arith, nat_tests, all_pairs_push, count_push, first_push, length_push, get_or_append_left, get_or_push, All-push, first_push is_ordered_in list m c.ordered_at counted.ordered_at, length_push list m)
+  counted_push from to upto old new = grind (arith, nat_tests, all_pairs_push, sum_by_push, first_push, length_push, get_or_append_left, get_or_push, All-push, first_push is_ordered_in list m c.ordered_at counted.ordered_at, length_push list m)
 
 -- ---- a command leaves
 

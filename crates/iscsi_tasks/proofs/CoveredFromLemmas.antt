@@ -18,13 +18,9 @@ use Rattle.iscsi_tasks.proofs.HistoryLemmas.{tasks-looked}
 use Rattle.iscsi_tasks.proofs.ListLemmas.{filter-map}
 use Rattle.iscsi_tasks.proofs.StayingLemmas.{staying_cases}
 
--- a function doesn't cover a command of a greater number, nor a numbered one of its own
-not_lower : (t : Task) (at : ℤ) (event : ℕ) → at ≤ℤ t.pos → (t.immediate && int_eq t.pos at) ≡ false → is_covered (Below at event) t ≡ false
-not_lower t at event le apart = grind (arith, nat_tests, or_from, false_from_ne_true, int_lt, ints, nat_lt)
-
 -- no function with a number below that of the command covers it
 none_below : (t : Task) (cover : Cover) → is_below (covered_from t) cover ≡ true → is_covered cover t ≡ false
-none_below t cover below = grind (arith, nat_tests, not_lower, ints, and_right, false_from_ne_true, Decides-int_eq, clamps, and_left)
+none_below t cover below = grind (arith, nat_tests, or_from, ints, and_right, false_from_ne_true, Decides-int_eq, clamps, and_left)
 
 -- where a number serves, each lower one does
 is_below-le : (a b : ℤ) (cover : Cover) → a ≤ℤ b → is_below a cover ≡ true → is_below b cover ≡ true

@@ -17,12 +17,8 @@ use Rattle.iscsi_tasks.specs.Counted.{Counts, IsCounted, IsSettled, is_head_in, 
 use Rattle.iscsi_tasks.proofs.MomentLemmas.{bars_in, free_among, free_none, free_barred, free_head, head_bars, ordered_bars, older_bars, younger_passes, simple_passes, none_counted, some_counted, map-looked_same}
 use Rattle.iscsi_tasks.proofs.CountLemmas.{first-le}
 
--- what barred the others bars them still
-still_barred : (task : Task) (list : List Member) (m : Member) → is_free_among task list ≡ false → is_free_among task (list ++ m ∷ []) ≡ false
-still_barred task list m barred = grind (arith, nat_tests, bars_in, true, not-false, free_among, not, list_any-append, or_left)
-
 still_settled : (list : List Member) (m : Member) → IsSettled list → All (λ x. (x.enabled || is_free_among x.task (list ++ m ∷ [])) ≡ x.enabled) list
-still_settled list m settled k d l = grind (arith, nat_tests, get_or, or_left, false, still_barred)
+still_settled list m settled k d l = grind (arith, nat_tests, get_or, or_left, false, bars_in, not-false, free_among, list_any-append)
 
 module _ (c : Counts) (task : Task) where
   -- ORDERED is free where it is alone

@@ -79,11 +79,8 @@ given_in_none (m ∷ ms) next = grind (arith, nat_tests, given_in_none ms, next_
 
 -- ---- the history
 
-option_map-map : (o : Option Member) → option_map (λ m. m.task.ticket) o ≡ option_map (λ (t : Task). t.ticket) (option_map (λ m. m.task) o)
-option_map-map o = grind (arith, nat_tests)
-
 pub next_from_history : (s : Members) (h : List Change) → StandsFor s h → next_in s.list ≡ next_after h
-next_from_history s h st = grind (arith, nat_tests, Bool, not, find, find-agree, get_or, option_map, option_map-map, find-map)
+next_from_history s h st = grind (arith, nat_tests, Bool, not, find, find-agree, get_or, option_map, find-map)
 
 StandsFor-giving_of : (s : Members) (next : Option ℕ) (h : List Change) → next_in s.list ≡ next → InOrder s.list → StandsFor s h → StandsFor (given_by s) (after_giving next h)
 StandsFor-giving_of s None h none order st = subst (λ (l : List Member). StandsFor (record s { list = l }) h) (sym (given_in_none s.list none)) st

@@ -76,11 +76,3 @@ StandsFor-left s task h st =
       enabled = looked_at_enabled list (live (Left task.ticket ∷ h)) (λ t. was_free t h) same (All-filter (λ m. not (m.task.ticket == task.ticket)) (λ m. m.enabled ≡ was_free m.task h) s.list st.enabled);
       given = All-map (λ m. m.given ≡ was_given m.task.ticket h) (looked_at list) list (All-filter (λ m. not (m.task.ticket == task.ticket)) (λ m. m.given ≡ was_given m.task.ticket h) s.list st.given);
     }
-
--- the tickets that enter next are above the set's
-pub IsNewest-from_history : (s : Members) (ticket : ℕ) (h : List Change) → StandsFor s h → AllBelow ticket h → IsNewest ticket s
-IsNewest-from_history s ticket h st below k d l =
-    let long : length (live h) ≡ length s.list = ap length (sym st.tasks) ∙ length-map s.list (λ m. m.task) in
-    let fact : (get_or (live h) k d.task).ticket < ticket = live_below ticket h below k d.task (omega arith) in
-    let same : get_or (live h) k d.task ≡ (get_or s.list k d).task = ap (λ ts. get_or ts k d.task) (sym st.tasks) ∙ get_or-map (λ m. m.task) s.list k d d.task l in
-    subst (λ (t : Task). t.ticket < ticket) same fact

@@ -31,9 +31,6 @@ module _ (slots : List ℕ) (s : ℕ) (apart : AreApart slots) where
   at_old : (p : ℕ) → p < length slots → get_or (slots ++ s ∷ []) p 0 ≡ get_or slots p 0
   at_old p l = get_or_append_left slots (s ∷ []) 0 p l
 
-  at_new : get_or (slots ++ s ∷ []) (length slots) 0 ≡ s
-  at_new = get_or_push slots s 0 (length slots) refl
-
   at_end : (p : ℕ) → length slots < p → get_or (slots ++ s ∷ []) p 0 ≡ 0
   at_end p l = let long = length_push slots s in get_or_past (slots ++ s ∷ []) p 0 (omega (arith, l, long))
 
@@ -52,21 +49,18 @@ module _ (slots : List ℕ) (s : ℕ) (apart : AreApart slots) where
       (cases_lt at (length slots))
     where
       last : (at mark : ℕ) (b : Bool) → at ≡ length slots → mark ≡ 0 → cond (true && b) s mark ≡ get_or (slots ++ s ∷ []) (plus_one_if (true && not b) at) 0
-      last at mark b end none = grind (arith, nat_tests, at_new, at_end)
+      last at mark b end none = grind (arith, nat_tests, get_or_push, at_end)
 
   -- a place, where those at the end or behind it stay behind all
   abbrev bumped : ℕ → ℕ
   bumped p = cond (nat_lt p (length slots)) p (length slots + 1)
 
-  bumped_cases : (P : ℕ → Type 0) (p : ℕ) → (p < length slots → P p) → (length slots ≤ p → P (length slots + 1)) → P (bumped p)
-  bumped_cases P p below past = grind (arith, nat_tests, cond, length, lt-ltb, le-ltb)
-
   -- a mark that is the end moves to the new slot
   mark_new : (p mark : ℕ) → mark ≡ get_or slots p 0 → cond (mark == 0) s mark ≡ get_or (slots ++ s ∷ []) (min p (length slots)) 0
-  mark_new p mark is = grind (arith, nat_tests, cond, ne_eqb, not_end, get_or, min, length, at_old, eq-eqb, get_or_past, at_new)
+  mark_new p mark is = grind (arith, nat_tests, cond, ne_eqb, not_end, get_or, min, length, at_old, eq-eqb, get_or_past, get_or_push)
 
   mark_stays : (p mark : ℕ) → mark ≡ get_or slots p 0 → mark ≡ get_or (slots ++ s ∷ []) (bumped p) 0
-  mark_stays p mark is = grind (arith, nat_tests, bumped_cases, get_or, at_old, get_or_past, at_end, length)
+  mark_stays p mark is = grind (arith, nat_tests, lt-ltb, le-ltb, get_or, at_old, get_or_past, at_end, length)
 
 -- the marks are right by these counts
 abbrev AreMarks : Marks → Counts → List ℕ → List Member → Type 0

@@ -1,5 +1,5 @@
 -- A moment: which commands are free, and what becomes enabled.
-use Rattle.std.proofs.Common.{◌≡◌, ℕ, zero, suc, ◌<◌, ◌≤◌, ◌==◌, ◌||◌, ◌&&◌, ◌≢◌, not, nat_lt, min, max, cond, Bool, true, false, List, [], ◌∷◌, ◌++◌, length, map, take, drop, get_or, All, count_by, refl, ap, sym, ◌∙◌, arith, ⊎_elim, ne_eqb, lt-ltb, le-ltb}
+use Rattle.std.proofs.Common.{◌≡◌, ℕ, zero, suc, ◌<◌, ◌≤◌, ◌==◌, ◌||◌, ◌&&◌, ◌≢◌, not, nat_lt, min, max, cond, Bool, true, false, List, [], ◌∷◌, ◌++◌, length, map, take, drop, get_or, All, count_by, refl, ap, sym, ◌∙◌, arith, ⊎_elim, ne_eqb, lt-ltb, le-ltb, rules}
 use Rattle.std.specs.List.{list_any, position_or_len}
 use Rattle.std.proofs.lemmas.Bool.{cases_Bool, or_left, or_right, or_from, and_left, and_right, and_from}
 use Rattle.std.proofs.lemmas.List.{get_or_default}
@@ -83,16 +83,13 @@ simple_passes task m is plain unordered = ap (λ a. bars_as a task.ticket (queue
 
 -- ---- which commands are free
 
-simple_of : (a : Attr) → is_head_of a ≡ false → is_ordered_of a ≡ false → a ≡ Simple
-simple_of a plain unordered = grind (arith, nat_tests)
-
 ordered_of : (a : Attr) → is_ordered_of a ≡ true → a ≡ Ordered
 ordered_of a ordered = grind (arith, nat_tests)
 
 -- without HEAD OF QUEUE: those before the oldest ORDERED, and the oldest of all
 module _ (list : List Member) (order : InOrder list) (plain : All (λ m. is_head_in m ≡ false) list) where
   passes_below : (k j : ℕ) (d e : Member) → k < length list → j < length list → k < max 1 (position_or_len is_ordered_in list) → bars_in (get_or list k d).task (get_or list j e) ≡ false
-  passes_below k j d e within l below = grind (arith, nat_tests, simple_passes, simple_of, fails_before_first, younger_passes, get_or_default, fails_before_first is_ordered_in list k d, fails_before_first is_ordered_in list j e, get_or_default list j d e l)
+  passes_below k j d e within l below = grind (arith, nat_tests, simple_passes, fails_before_first, younger_passes, get_or_default, fails_before_first is_ordered_in list k d, fails_before_first is_ordered_in list j e, get_or_default list j d e l)
 
   pub free_below : (k : ℕ) (d : Member) → k < length list → k < max 1 (position_or_len is_ordered_in list) → is_free_among (get_or list k d).task list ≡ true
   free_below k d within below = free_none (get_or list k d).task list (λ j e l. passes_below k j d e within l below)

@@ -18,36 +18,27 @@ module _ {X : Type 0} (covers : X → Bool) where
   passed xs k = length (filter (λ x. not (covers x)) (take k xs))
 
   module _ (x : X) (xs : List X) (k : ℕ) where
-    list_goes : covers x ≡ true → kept_yet (x ∷ xs) (suc k) ≡ kept_yet xs k
-    list_goes is = ap (λ b. cond (not b) (x ∷ filter (λ y. not (covers y)) (take k xs)) (filter (λ y. not (covers y)) (take k xs)) ++ drop k xs) is
-
-    list_stays : covers x ≡ false → kept_yet (x ∷ xs) (suc k) ≡ x ∷ kept_yet xs k
-    list_stays is = ap (λ b. cond (not b) (x ∷ filter (λ y. not (covers y)) (take k xs)) (filter (λ y. not (covers y)) (take k xs)) ++ drop k xs) is
-
-    count_goes : covers x ≡ true → passed (x ∷ xs) (suc k) ≡ passed xs k
-    count_goes is = ap (λ b. length (cond (not b) (x ∷ filter (λ y. not (covers y)) (take k xs)) (filter (λ y. not (covers y)) (take k xs)))) is
-
     count_stays : covers x ≡ false → passed (x ∷ xs) (suc k) ≡ suc (passed xs k)
     count_stays is = ap (λ b. length (cond (not b) (x ∷ filter (λ y. not (covers y)) (take k xs)) (filter (λ y. not (covers y)) (take k xs)))) is
 
   -- the next one stands behind those that stay
   pub yet_at : (xs : List X) (k : ℕ) (d : X) → k < length xs → get_or (kept_yet xs k) (passed xs k) d ≡ get_or xs k d
-  yet_at (x ∷ xs) (suc k) d l = grind (arith, nat_tests, yet_at xs k d (omega arith), get_or, list_goes, count_goes, list_stays, count_stays)
+  yet_at (x ∷ xs) (suc k) d l = grind (arith, nat_tests, yet_at xs k d (omega arith), get_or, count_stays)
   yet_at xs k d l = grind (arith, nat_tests)
 
   pub yet_inside : (xs : List X) (k : ℕ) → k < length xs → passed xs k < length (kept_yet xs k)
-  yet_inside (x ∷ xs) (suc k) l = grind (arith, nat_tests, yet_inside xs k (omega arith), length, list_goes, count_goes, list_stays, count_stays)
+  yet_inside (x ∷ xs) (suc k) l = grind (arith, nat_tests, yet_inside xs k (omega arith), length, count_stays)
   yet_inside xs k l = grind (arith, nat_tests)
 
   -- it leaves
   pub yet_without : (xs : List X) (k : ℕ) (d : X) → k < length xs → covers (get_or xs k d) ≡ true → (remove (kept_yet xs k) (passed xs k) ≡ kept_yet xs (suc k)) × (passed xs (suc k) ≡ passed xs k)
-  yet_without (x ∷ xs) (suc k) d l goes = grind (arith, nat_tests, yet_without xs k d (omega arith) goes, list_goes, count_goes, list_stays, count_stays)
-  yet_without xs k d l goes = grind (arith, nat_tests, list_goes, count_goes)
+  yet_without (x ∷ xs) (suc k) d l goes = grind (arith, nat_tests, yet_without xs k d (omega arith) goes, count_stays)
+  yet_without xs k d l goes = grind (arith, nat_tests)
 
   -- or it stays
   pub yet_with : (xs : List X) (k : ℕ) (d : X) → k < length xs → covers (get_or xs k d) ≡ false → (kept_yet xs k ≡ kept_yet xs (suc k)) × (passed xs (suc k) ≡ suc (passed xs k))
-  yet_with (x ∷ xs) (suc k) d l stays = grind (arith, nat_tests, yet_with xs k d (omega arith) stays, list_goes, count_goes, list_stays, count_stays)
-  yet_with xs k d l stays = grind (arith, nat_tests, list_stays, count_stays)
+  yet_with (x ∷ xs) (suc k) d l stays = grind (arith, nat_tests, yet_with xs k d (omega arith) stays, count_stays)
+  yet_with xs k d l stays = grind (arith, nat_tests, count_stays)
 
   none_filtered : (xs : List X) → All (λ x. covers x ≡ false) xs → filter (λ x. not (covers x)) xs ≡ xs
   none_filtered [] none = refl

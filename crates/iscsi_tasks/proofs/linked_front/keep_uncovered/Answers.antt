@@ -21,9 +21,6 @@ use Rattle.iscsi_tasks.proofs.linked_front.keep_uncovered.Goals as goal
 place_in : (covers : Member → Bool) (list members : List Member) (slots : List ℕ) (k : ℕ) → k < length list → members ≡ kept_yet covers list k → length slots ≡ length members → passed covers list k < length slots
 place_in covers list members slots k l same long = let a = yet_inside covers list k l in let b = ap length same in omega (arith, a, b, long)
 
-slot_in : (covers : Member → Bool) (list members : List Member) (slots : List ℕ) (k slot : ℕ) → k < length list → members ≡ kept_yet covers list k → length slots ≡ length members → slot ≡ get_or slots (passed covers list k) 0 → 1 ≤ times slot slots
-slot_in covers list members slots k slot l same long there = some_at slots (passed covers list k) slot (place_in covers list members slots k l same long) (sym there)
-
 -- the command there, as it was read
 read_at : (covers : Member → Bool) (list members : List Member) (k : ℕ) (m : Member) → k < length list → members ≡ kept_yet covers list k → m ≡ get_or members (passed covers list k) BLANK → m ≡ get_or list k BLANK
 read_at covers list members k m l same read = read ∙ ap (λ ms. get_or ms (passed covers list k) BLANK) same ∙ yet_at covers list k BLANK l
@@ -41,13 +38,13 @@ none_behind covers list k m l read up past j d j_in =
     (cases_eq j 0))
 
 pub at-requires : goal.at-requires
-at-requires c = grind (arith, common_steps, slot_in)
+at-requires c = grind (arith, common_steps, some_at, passed, place_in)
 
 pub after-next-requires : goal.after-next-requires
-after-next-requires c = grind (arith, common_steps, slot_in)
+after-next-requires c = grind (arith, common_steps, some_at, passed, place_in)
 
 pub remove-requires-clause-there : goal.remove-requires-clause-there
-remove-requires-clause-there c = grind (arith, common_steps, slot_in)
+remove-requires-clause-there c = grind (arith, common_steps, some_at, passed, place_in)
 
 -- from here on none is covered
 rest : (c : goal.Then-is_past) → All (λ (x : Member). is_covered c.args.cover.now x.task ≡ false) (drop c.loop.counter c.args.chain.now.members)
