@@ -5,12 +5,9 @@ use Rattle.std.proofs.lemmas.Bool.{cases_Bool, cases_eq, cases_lt, and_parts, an
 use Rattle.std.proofs.lemmas.List.{get_or_default, get_or-map, length-map}
 use Rattle.std.proofs.lemmas.List.Elements.{All-filter, All-head, All-tail, All-map}
 use Rattle.std.proofs.lemmas.List.Folds.{list_any_at, list_any_none}
-use Rattle.std.proofs.lemmas.Bool.Decides.{nat_tests}
-use Rattle.iscsi_tasks.specs.declared.task.Task.{Task}
-use Rattle.iscsi_tasks.specs.declared.member.Member.{Member}
-use Rattle.iscsi_tasks.specs.Rules.{Queued, is_free}
-use Rattle.iscsi_tasks.specs.Sets.{Members, InOrder, queued, looked_at, after_moment, uncovered, set_staying}
-use Rattle.iscsi_tasks.specs.Changes.{Change, Left, StandsFor, live, is_live, is_free_in, was_free, was_given, after_all_left}
+use Rattle.iscsi_tasks.proofs.Names.{nat_tests, Task, Member, Queued, Members, InOrder, queued, looked_at, after_moment, uncovered, set_staying, Change, Left}
+use Rattle.iscsi_tasks.proofs.Names.{StandsFor, live, is_live, is_free_in, was_free, was_given, after_all_left}
+use Rattle.iscsi_tasks.specs.Rules.{is_free}
 use Rattle.iscsi_tasks.proofs.HistoryLemmas.{looked_at_enabled, tasks-looked}
 use Rattle.iscsi_tasks.proofs.ListLemmas.{filter-map, list_any-map}
 use Rattle.iscsi_tasks.proofs.RuleLemmas.{stays_free}

@@ -2,12 +2,8 @@
 use Rattle.std.proofs.Common.{◌≡◌, ◌∙◌, ◌++◌, ◌<◌, cond, Bool, false, List, [], ◌∷◌, All, Some, None, Option, ℕ, refl, ap, sym, subst, arith}
 use Rattle.std.proofs.lemmas.List.Elements.{All-head, All-tail}
 use Rattle.std.proofs.lemmas.List.Quantifiers.{all_pairs_push}
-use Rattle.std.proofs.lemmas.Bool.Decides.{nat_tests}
-use Rattle.iscsi_tasks.specs.declared.task.Task.{Task}
-use Rattle.iscsi_tasks.specs.declared.member.Member.{Member}
-use Rattle.iscsi_tasks.specs.Sets.{Members, InOrder, IsNewest, entered_to, is_new, given_in, given_by, next_in}
-use Rattle.iscsi_tasks.specs.Changes.{Change, Entered, AllBelow, StandsFor, next_after, after_giving}
-use Rattle.iscsi_tasks.specs.Counted.{taken_in}
+use Rattle.iscsi_tasks.proofs.Names.{nat_tests, Task, Member, Members, InOrder, IsNewest, entered_to, is_new, given_in, given_by, next_in, Change, Entered}
+use Rattle.iscsi_tasks.proofs.Names.{AllBelow, StandsFor, next_after, after_giving, taken_in}
 use Rattle.iscsi_tasks.proofs.GivingLemmas.{given_in_old, next_in_old, StandsFor-giving}
 use Rattle.iscsi_tasks.proofs.HistoryLemmas.{StandsFor-entered}
 

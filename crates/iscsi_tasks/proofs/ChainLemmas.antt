@@ -1,12 +1,10 @@
 -- Members in slots, each linked to those beside it.
 use Rattle.std.proofs.Common.{◌≡◌, ◌≢◌, ℕ, zero, suc, ◌+◌, ◌<◌, ◌≤◌, List, [], ◌∷◌, length, map, get_or, set, refl, ap, subst, ◌∙◌, arith}
-use Rattle.std.proofs.lemmas.Bool.Decides.{nat_tests}
+use Rattle.iscsi_tasks.proofs.Names.{nat_tests, times, AreShared, Node, AreApart, BLANK_NODE, node_at, after_of, before_of, member_of, member_at, order_from}
+use Rattle.iscsi_tasks.proofs.Names.{with_after, with_before, points_to, linked_to}
 use Rattle.std.proofs.lemmas.List.{get_or-set_same, get_or-set_other, get_or_past, length-set}
-use Rattle.iscsi_slots.specs.Slots.{times, AreShared}
 use Rattle.iscsi_slots.proofs.SlotLemmas.{times_at, stands}
 use Rattle.iscsi_slots.proofs.ShareLemmas.{at_most_once, order_within}
-use Rattle.iscsi_tasks.specs.declared.node.Node.{Node}
-use Rattle.iscsi_tasks.specs.Chains.{AreApart, BLANK_NODE, node_at, after_of, before_of, member_of, member_at, order_from, with_after, with_before, points_to, linked_to}
 
 -- what a write to a node leaves as it is, it leaves of all
 pub kept_by_set : {X : Type 0} (f : Node → X) (nodes : List Node) (i j : ℕ) (n : Node) → i < length nodes → f n ≡ f (node_at nodes i) → f (node_at (set nodes i n) j) ≡ f (node_at nodes j)

@@ -2,15 +2,12 @@
 use Rattle.std.proofs.Common.{◌≡◌, ◌≢◌, ℕ, suc, ◌+◌, ◌-◌, ◌<◌, ◌≤◌, List, [], ◌∷◌, ◌++◌, length, map, get_or, set, refl, ap, sym, subst, ◌∙◌, arith, ⊎_elim}
 use Rattle.std.specs.List.{remove}
 use Rattle.std.proofs.lemmas.Bool.{cases_eq}
-use Rattle.std.proofs.lemmas.Bool.Decides.{nat_tests}
+use Rattle.iscsi_tasks.proofs.Names.{nat_tests, times, AreShared, Member, Node, AreApart, Chained, chained, BLANK_NODE, node_at, after_of, before_of, member_of}
+use Rattle.iscsi_tasks.proofs.Names.{member_at, order_from, order_in, free_in, linked_to, freed_before, IsLinked, IsChained, IsReused, IsAdded, IsTaken}
 use Rattle.std.proofs.lemmas.List.{get_or-set_same, get_or-set_other, get_or_past, get_or_push, get_or_append_left, get_or-map, get_or_default, same_lists, length-set, length_push, length-map, map-append}
 use Rattle.std.proofs.lemmas.List.Edits.{length-remove, get_or-remove_below, get_or-remove_above}
-use Rattle.iscsi_slots.specs.Slots.{times, AreShared}
 use Rattle.iscsi_slots.proofs.SlotLemmas.{times_at, times_remove, times_append, map-remove, stands}
 use Rattle.iscsi_slots.proofs.ShareLemmas.{at_most_once, none_beyond}
-use Rattle.iscsi_tasks.specs.declared.member.Member.{Member}
-use Rattle.iscsi_tasks.specs.declared.node.Node.{Node}
-use Rattle.iscsi_tasks.specs.Chains.{AreApart, Chained, chained, BLANK_NODE, node_at, after_of, before_of, member_of, member_at, order_from, order_in, free_in, linked_to, freed_before, IsLinked, IsChained, IsReused, IsAdded, IsTaken}
 use Rattle.iscsi_tasks.proofs.ChainLemmas.{kept_by_set, length_linked, after_here, after_else, before_here, before_else, member_linked, order_is, order_same, length_order, members_same, same_place, same_to_end, not_end, apart_in, inside, inside_order}
 
 module _ {nodes : List Node} {capacity free len room : ℕ} (chained : IsChained nodes capacity free len room) where

@@ -8,11 +8,9 @@ use Rattle.std.proofs.lemmas.List.Elements.{All-push}
 use Rattle.std.proofs.lemmas.List.Folds.{position_or_len_push, position_or_len-set}
 use Rattle.std.proofs.lemmas.List.Quantifiers.{all_pairs_push, all_pairs_remove}
 use Rattle.std.proofs.lemmas.List.Sums.{fails_before_first, sum_by-remove, sum_by_push, sum_by-cons, sum_by-set, prefix_len-le-length}
-use Rattle.std.proofs.lemmas.Bool.Decides.{nat_tests}
-use Rattle.iscsi_tasks.specs.declared.task.Attr.{Attr}
-use Rattle.iscsi_tasks.specs.declared.member.Member.{Member}
-use Rattle.iscsi_tasks.specs.Sets.{is_head_of, is_new}
-use Rattle.iscsi_tasks.specs.Counted.{Counts, IsCounted, is_head_in, is_ordered_in, plus_one_if, shifted_by, without_one, enabled_now, given_now}
+use Rattle.iscsi_tasks.proofs.Names.{nat_tests, Attr, Member, is_new, Counts, IsCounted, is_head_in, is_ordered_in, plus_one_if, shifted_by, without_one}
+use Rattle.iscsi_tasks.proofs.Names.{enabled_now, given_now}
+use Rattle.iscsi_tasks.specs.Sets.{is_head_of}
 
 -- a first place is within the list or its end
 pub first-le : {X : Type 0} (p : X → Bool) (xs : List X) → position_or_len p xs ≤ length xs

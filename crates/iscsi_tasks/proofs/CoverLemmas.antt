@@ -1,10 +1,7 @@
 -- The oldest command that passes a test, by the place that a search along the set gave.
 use Rattle.std.proofs.Common.{◌≡◌, ℕ, Bool, false, Some, None, position, find, option_map, get_or, arith}
 use Rattle.std.proofs.lemmas.List.Quantifiers.{position-Some}
-use Rattle.std.proofs.lemmas.Bool.Decides.{nat_tests}
-use Rattle.iscsi_tasks.specs.declared.task.Task.{Task}
-use Rattle.iscsi_tasks.specs.declared.member.Member.{Member}
-use Rattle.iscsi_tasks.specs.Sets.{Members, tasks_in}
+use Rattle.iscsi_tasks.proofs.Names.{nat_tests, Task, Member, Members, tasks_in}
 use Rattle.iscsi_tasks.proofs.ListLemmas.{find-map}
 use Rattle.iscsi_tasks.proofs.PlaceLemmas.{place_is, none_at_position}
 use Rattle.iscsi_tasks.proofs.SearchLemmas.{find_place, find_nowhere}

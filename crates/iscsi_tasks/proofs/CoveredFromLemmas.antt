@@ -5,15 +5,10 @@ use Rattle.std.specs.List.{fold}
 use Rattle.std.specs.Ordering.{int_eq}
 use Rattle.std.proofs.lemmas.Int.{ints, clamps}
 use Rattle.std.proofs.lemmas.Bool.{and_left, and_right, or_from, ne_eqb, false_from_ne_true, true_from_ne_false}
+use Rattle.iscsi_tasks.proofs.Names.{nat_tests, Task, Cover, Below, Member, is_covered, after_moment, without, uncovered, list_staying, IsCoveredFrom, is_below}
+use Rattle.iscsi_tasks.proofs.Names.{covered_from, greatest_number, covered_from_with, covered_from_in, covered_from_first, IsAscending}
 use Rattle.std.proofs.lemmas.Bool.Decides.{Decides-int_eq}
 use Rattle.std.proofs.lemmas.List.Elements.{All-cons, All-filter, All-map, All-nil, All-push}
-use Rattle.std.proofs.lemmas.Bool.Decides.{nat_tests}
-use Rattle.iscsi_tasks.specs.declared.task.Task.{Task}
-use Rattle.iscsi_tasks.specs.declared.cover.Cover.{Cover}
-use Rattle.iscsi_tasks.specs.declared.cover.Cover.TheVariants.{Below}
-use Rattle.iscsi_tasks.specs.declared.member.Member.{Member}
-use Rattle.iscsi_tasks.specs.Sets.{is_covered, after_moment, without, uncovered, list_staying}
-use Rattle.iscsi_tasks.specs.Counted.{IsCoveredFrom, is_below, covered_from, greatest_number, covered_from_with, covered_from_in, covered_from_first, IsAscending}
 use Rattle.iscsi_tasks.proofs.HistoryLemmas.{tasks-looked}
 use Rattle.iscsi_tasks.proofs.ListLemmas.{filter-map}
 use Rattle.iscsi_tasks.proofs.StayingLemmas.{staying_cases}

@@ -3,11 +3,8 @@ use Rattle.std.proofs.Common.{◌≡◌, ◌↔◌, ℕ, ◌<◌, ◌==◌, ◌&
 use Rattle.std.proofs.lemmas.Bool.{or_cases, or_left, or_right, and_parts, and_from, eqb-true}
 use Rattle.std.proofs.lemmas.List.{length-map, get_or-map}
 use Rattle.std.proofs.lemmas.List.Folds.{Any-from_list_any, list_any_at}
-use Rattle.std.proofs.lemmas.Bool.Decides.{nat_tests}
-use Rattle.iscsi_tasks.specs.declared.task.Task.{Task}
-use Rattle.iscsi_tasks.specs.declared.member.Member.{Member}
-use Rattle.iscsi_tasks.specs.Sets.{Members, is_enabled_in}
-use Rattle.iscsi_tasks.specs.Changes.{Change, Entered, Left, Gave, live, is_free_in, was_free, IsMoment, WasFree, IsEnabled, StandsFor}
+use Rattle.iscsi_tasks.proofs.Names.{nat_tests, Task, Member, Members, is_enabled_in, Change, Entered, Left, Gave, live, is_free_in, was_free, IsMoment}
+use Rattle.iscsi_tasks.proofs.Names.{WasFree, IsEnabled, StandsFor}
 
 WasFree-more : (task : Task) (c : Change) (h : List Change) → WasFree task h → WasFree task (c ∷ h)
 WasFree-more task c h (later, earlier, parts, moment, free) = (c ∷ later, earlier, ap (λ r. c ∷ r) parts, moment, free)

@@ -6,14 +6,8 @@ use Rattle.std.proofs.lemmas.List.{map-append, get_or_append_left, length_push, 
 use Rattle.std.proofs.lemmas.List.Elements.{All-push}
 use Rattle.std.proofs.lemmas.List.Folds.{list_any-append, Any-from_list_any}
 use Rattle.std.proofs.lemmas.List.Sums.{fails_before_first, passes_at_first}
-use Rattle.std.proofs.lemmas.Bool.Decides.{nat_tests}
-use Rattle.iscsi_tasks.specs.declared.task.Attr.{Attr}
-use Rattle.iscsi_tasks.specs.declared.task.Attr.TheVariants.{Simple, Ordered}
-use Rattle.iscsi_tasks.specs.declared.task.Task.{Task}
-use Rattle.iscsi_tasks.specs.declared.member.Member.{Member}
-use Rattle.iscsi_tasks.specs.Rules.{is_head_of}
-use Rattle.iscsi_tasks.specs.Sets.{queued, is_free, is_free_among, after_moment}
-use Rattle.iscsi_tasks.specs.Counted.{Counts, IsCounted, IsSettled, is_head_in, is_ordered_in, is_free_behind}
+use Rattle.iscsi_tasks.proofs.Names.{nat_tests, Attr, Simple, Ordered, Task, Member, is_head_of, queued, is_free, is_free_among, after_moment, Counts}
+use Rattle.iscsi_tasks.proofs.Names.{IsCounted, IsSettled, is_head_in, is_ordered_in, is_free_behind}
 use Rattle.iscsi_tasks.proofs.MomentLemmas.{bars_in, free_among, free_none, free_barred, free_head, head_bars, ordered_bars, older_bars, younger_passes, simple_passes, none_counted, some_counted, map-looked_same}
 use Rattle.iscsi_tasks.proofs.CountLemmas.{first-le}
 

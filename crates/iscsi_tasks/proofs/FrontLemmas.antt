@@ -6,11 +6,8 @@ use Rattle.std.proofs.lemmas.List.{get_or-map, length-map, length-take-le, take_
 use Rattle.std.proofs.lemmas.List.Elements.{All-push, All-nil, All-filter}
 use Rattle.std.proofs.lemmas.List.Kept.{AllPairs-filter}
 use Rattle.std.proofs.lemmas.List.Quantifiers.{all_pairs_push}
-use Rattle.std.proofs.lemmas.Bool.Decides.{nat_tests}
-use Rattle.iscsi_tasks.specs.declared.task.Task.{Task}
-use Rattle.iscsi_tasks.specs.declared.member.Member.{Member}
-use Rattle.iscsi_tasks.specs.Sets.{uncovered, without, after_moment, given_in, list_staying}
-use Rattle.iscsi_tasks.specs.Counted.{covered_from, ascends_with, IsAscendingTo}
+use Rattle.iscsi_tasks.proofs.Names.{nat_tests, Task, Member, uncovered, without, after_moment, given_in, list_staying, covered_from, ascends_with}
+use Rattle.iscsi_tasks.proofs.Names.{IsAscendingTo}
 use Rattle.iscsi_tasks.proofs.HistoryLemmas.{tasks-looked}
 use Rattle.iscsi_tasks.proofs.GivingLemmas.{tasks-given}
 use Rattle.iscsi_tasks.proofs.StayingLemmas.{staying_cases}

@@ -1,13 +1,9 @@
 -- Tickets that are given: each once, the oldest first.
 use Rattle.std.proofs.Common.{◌≡◌, ℕ, suc, ◌<◌, ◌==◌, ◌||◌, not, cond, Bool, true, false, List, [], ◌∷◌, length, map, find, get_or, set, refl, ap, sym, ◌∙◌, arith, All, eq-eqb, Option, Some, None, option_map, subst, ⊎_elim}
 use Rattle.std.proofs.lemmas.Bool.{cases_Bool}
-use Rattle.std.proofs.lemmas.Bool.Decides.{nat_tests}
+use Rattle.iscsi_tasks.proofs.Names.{nat_tests, Task, Member, Members, InOrder, queued, is_free, is_free_among, is_new, given_in, given_by, next_in, IsSettled}
+use Rattle.iscsi_tasks.proofs.Names.{given_now, Change, was_free, was_given, StandsFor, next_after, after_giving}
 use Rattle.std.proofs.lemmas.List.Elements.{All-cons, All-head, All-tail, All-nil}
-use Rattle.iscsi_tasks.specs.declared.task.Task.{Task}
-use Rattle.iscsi_tasks.specs.declared.member.Member.{Member}
-use Rattle.iscsi_tasks.specs.Sets.{Members, InOrder, queued, is_free, is_free_among, is_new, given_in, given_by, next_in}
-use Rattle.iscsi_tasks.specs.Counted.{IsSettled, given_now}
-use Rattle.iscsi_tasks.specs.Changes.{Change, was_free, was_given, StandsFor, next_after, after_giving}
 use Rattle.iscsi_tasks.proofs.ListLemmas.{find-map, find-agree}
 use Rattle.iscsi_tasks.proofs.HistoryLemmas.{queued-tasks}
 

@@ -1,14 +1,11 @@
 -- What a set stands for, after each change.
 use Rattle.std.proofs.Common.{◌≡◌, ℕ, suc, ◌<◌, ◌==◌, ◌||◌, ◌&&◌, not, Bool, true, false, List, [], ◌∷◌, ◌++◌, length, map, filter, get_or, set, refl, ap, sym, ◌∙◌, arith, All, eq-eqb, Some, subst}
-use Rattle.std.proofs.lemmas.Bool.Decides.{nat_tests}
+use Rattle.iscsi_tasks.proofs.Names.{nat_tests, Task, Member, Members, queued, is_free, is_free_among, looked_at, after_moment, without, entered_to, left_by}
+use Rattle.iscsi_tasks.proofs.Names.{IsNewest, Change, Entered, Left, Gave, is_free_in, is_live, live, was_free, was_given, AllBelow, StandsFor}
 use Rattle.std.proofs.lemmas.List.{map-append, length-map, get_or-map}
 use Rattle.std.proofs.lemmas.List.Elements.{All-map, All-push, All-filter, All-nil}
 use Rattle.std.proofs.lemmas.List.Recursion.{or_at}
 use Rattle.std.specs.List.{list_any}
-use Rattle.iscsi_tasks.specs.declared.task.Task.{Task}
-use Rattle.iscsi_tasks.specs.declared.member.Member.{Member}
-use Rattle.iscsi_tasks.specs.Sets.{Members, queued, is_free, is_free_among, looked_at, after_moment, without, entered_to, left_by, IsNewest}
-use Rattle.iscsi_tasks.specs.Changes.{Change, Entered, Left, Gave, is_free_in, is_live, live, was_free, was_given, AllBelow, StandsFor}
 use Rattle.iscsi_tasks.proofs.ListLemmas.{list_any-map, filter-map}
 
 pub tasks-looked : (list xs : List Member) → map (λ m. m.task) (map (looked_at list) xs) ≡ map (λ m. m.task) xs

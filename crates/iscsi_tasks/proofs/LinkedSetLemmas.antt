@@ -2,20 +2,11 @@
 use Rattle.std.proofs.Common.{◌≡◌, ◌∙◌, ℕ, ℤ, ◌<◌, ◌≤◌, ◌==◌, not, Bool, true, eq-eqb, ne_eqb, List, [], length, map, get_or, Some, refl, ap, sym, subst, arith}
 use Rattle.std.specs.List.{remove}
 use Rattle.std.proofs.lemmas.List.{length-map, get_or_past}
-use Rattle.iscsi_slots.specs.Slots.{times}
+use Rattle.iscsi_tasks.proofs.Names.{times, Attr, Simple, Ordered, Head, Member, Task, Marks, BLANK, tasks_in, after_moment, looked_at, without, with_ticket}
+use Rattle.iscsi_tasks.proofs.Names.{is_enabled_in, IsCoveredFrom, IsSettled, IsAscendingTo, is_free_behind, Linked, linked, IsInSlots, IsMarked, IsKeptLinked}
+use Rattle.iscsi_tasks.proofs.Names.{HasTicket, is_free_by, nat_tests}
 use Rattle.iscsi_slots.proofs.SlotLemmas.{StandsAt}
 use Rattle.iscsi_slots.proofs.SortedLemmas.{remove_is}
-use Rattle.iscsi_tasks.specs.declared.task.Attr.{Attr}
-use Rattle.iscsi_tasks.specs.declared.task.Attr.TheVariants.{Simple, Ordered, Head}
-use Rattle.iscsi_tasks.specs.declared.member.Member.{Member}
-use Rattle.iscsi_tasks.specs.declared.task.Task.{Task}
-use Rattle.iscsi_tasks.specs.declared.marks.Marks.{Marks}
-use Rattle.iscsi_tasks.specs.Chains.{BLANK}
-use Rattle.iscsi_tasks.specs.Sets.{tasks_in, after_moment, looked_at, without, with_ticket, is_enabled_in}
-use Rattle.iscsi_tasks.specs.Counted.{IsCoveredFrom, IsSettled, IsAscendingTo, is_free_behind}
-use Rattle.iscsi_tasks.specs.Linked.{Linked, linked, IsInSlots}
-use Rattle.iscsi_tasks.specs.Marked.{IsMarked, IsKeptLinked, HasTicket, is_free_by}
-use Rattle.std.proofs.lemmas.Bool.Decides.{nat_tests}
 use Rattle.iscsi_tasks.proofs.ChainLemmas.{not_end}
 use Rattle.iscsi_tasks.proofs.CountLemmas.{counted_none_yet, first-le}
 use Rattle.iscsi_tasks.proofs.CoveredFromLemmas.{covered_from_left}

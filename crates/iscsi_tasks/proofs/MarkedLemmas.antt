@@ -4,17 +4,11 @@ use Rattle.std.specs.List.{position_or_len, remove}
 use Rattle.std.proofs.lemmas.Bool.{cases_Bool, cases_eq, cases_lt}
 use Rattle.std.proofs.lemmas.List.{get_or_past, get_or_push, get_or_append_left, length_push, length-set}
 use Rattle.std.proofs.lemmas.List.Edits.{length-remove, get_or-remove_below, get_or-remove_above}
-use Rattle.std.proofs.lemmas.Bool.Decides.{nat_tests}
-use Rattle.iscsi_slots.specs.Slots.{times}
+use Rattle.iscsi_tasks.proofs.Names.{nat_tests, times, Attr, Member, Marks, is_head_of, is_ordered_of, is_new, Counts, IsCounted, is_head_in, is_ordered_in}
+use Rattle.iscsi_tasks.proofs.Names.{plus_one_if, shifted_by, without_one, given_now, AreApart, IsMarked, IsPastNone, IsSpan, moved_off, pushed_by, enabled_by}
+use Rattle.iscsi_tasks.proofs.Names.{is_none_marked}
 use Rattle.iscsi_slots.proofs.SlotLemmas.{times_at, times_remove}
-use Rattle.iscsi_tasks.specs.declared.task.Attr.{Attr}
-use Rattle.iscsi_tasks.specs.declared.member.Member.{Member}
-use Rattle.iscsi_tasks.specs.declared.marks.Marks.{Marks}
-use Rattle.iscsi_tasks.specs.Rules.{is_head_of, is_ordered_of}
-use Rattle.iscsi_tasks.specs.Sets.{is_new}
-use Rattle.iscsi_tasks.specs.Counted.{Counts, IsCounted, is_head_in, is_ordered_in, plus_one_if, shifted_by, without_one, given_now}
-use Rattle.iscsi_tasks.specs.Chains.{AreApart}
-use Rattle.iscsi_tasks.specs.Marked.{IsMarked, IsPastNone, IsSpan, moved_off, pushed_by, left_by, enabled_by, is_none_marked}
+use Rattle.iscsi_tasks.specs.Marked.{left_by}
 use Rattle.iscsi_tasks.proofs.ChainLemmas.{not_end, same_to_end}
 use Rattle.iscsi_tasks.proofs.CountLemmas.{first-le, counted_push, with_last, with_enabled, shifted_cases, ordered_shifted, one_less, counted_remove, enabled_up_to, parts-length, counted_enabled, counted_none, counted_given}
 

@@ -6,14 +6,9 @@ use Rattle.std.proofs.lemmas.List.{get_or_default}
 use Rattle.std.proofs.lemmas.List.Elements.{All-map, All-nil, All-cons}
 use Rattle.std.proofs.lemmas.List.Folds.{map_fixed, list_any_at, list_any_none, Any-from_list_any}
 use Rattle.std.proofs.lemmas.List.Sums.{fails_before_first, passes_at_first, sum_by-cons}
-use Rattle.std.proofs.lemmas.Bool.Decides.{nat_tests}
-use Rattle.iscsi_tasks.specs.declared.task.Attr.{Attr}
-use Rattle.iscsi_tasks.specs.declared.task.Attr.TheVariants.{Simple, Ordered, Head}
-use Rattle.iscsi_tasks.specs.declared.task.Task.{Task}
-use Rattle.iscsi_tasks.specs.declared.member.Member.{Member}
-use Rattle.iscsi_tasks.specs.Rules.{Queued, is_head_of, is_ordered_of, bars_as, bars}
-use Rattle.iscsi_tasks.specs.Sets.{queued, is_free_among, looked_at, after_moment, InOrder}
-use Rattle.iscsi_tasks.specs.Counted.{is_head_in, is_ordered_in, enabled_now, IsSettled}
+use Rattle.iscsi_tasks.specs.Rules.{bars_as}
+use Rattle.iscsi_tasks.proofs.Names.{nat_tests, Attr, Simple, Ordered, Head, Task, Member, Queued, is_head_of, is_ordered_of, bars, queued}
+use Rattle.iscsi_tasks.proofs.Names.{is_free_among, looked_at, after_moment, InOrder, is_head_in, is_ordered_in, enabled_now, IsSettled}
 use Rattle.iscsi_tasks.proofs.ListLemmas.{list_any-map}
 
 -- the rules see the same commands after a moment

@@ -2,8 +2,7 @@
 use Rattle.std.proofs.Common.{◌≡◌, not, cond, Bool, false, List, [], ◌∷◌, filter, refl, ap, arith}
 use Rattle.std.specs.List.{list_any}
 use Rattle.std.proofs.lemmas.Bool.{or_parts, or_from, not-true}
-use Rattle.std.proofs.lemmas.Bool.Decides.{nat_tests}
-use Rattle.iscsi_tasks.specs.Rules.{bars, StaysFree}
+use Rattle.iscsi_tasks.proofs.Names.{nat_tests, bars, StaysFree}
 
 none_kept : {X : Type 0} (p q : X → Bool) (xs : List X) → list_any p xs ≡ false → list_any p (filter q xs) ≡ false
 none_kept p q [] none = refl

@@ -6,9 +6,7 @@ use Rattle.std.proofs.lemmas.List.{get_or_default}
 use Rattle.std.proofs.lemmas.Option.{slice_get-get_or}
 use Rattle.std.proofs.lemmas.List.Folds.{find_at, list_any_at, list_any_none}
 use Rattle.std.proofs.lemmas.List.Elements.{All-head, All-tail}
-use Rattle.std.proofs.lemmas.Bool.Decides.{nat_tests}
-use Rattle.iscsi_tasks.specs.declared.member.Member.{Member}
-use Rattle.iscsi_tasks.specs.Sets.{InOrder, is_enabled_with, is_enabled_in, with_ticket}
+use Rattle.iscsi_tasks.proofs.Names.{nat_tests, Member, InOrder, is_enabled_with, is_enabled_in, with_ticket}
 use Rattle.iscsi_tasks.proofs.ListLemmas.{find-map}
 use Rattle.iscsi_tasks.proofs.PlaceLemmas.{place_is, no_place, position_of, position_none}
 

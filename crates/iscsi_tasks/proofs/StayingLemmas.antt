@@ -4,11 +4,7 @@ use Rattle.std.specs.List.{list_any}
 use Rattle.std.proofs.lemmas.Bool.{cases_Bool, or_left}
 use Rattle.std.proofs.lemmas.List.{length-map}
 use Rattle.std.proofs.lemmas.List.Folds.{list_any_none}
-use Rattle.std.proofs.lemmas.Bool.Decides.{nat_tests}
-use Rattle.iscsi_tasks.specs.declared.task.Task.{Task}
-use Rattle.iscsi_tasks.specs.declared.member.Member.{Member}
-use Rattle.iscsi_tasks.specs.Sets.{Members, tasks_in, after_moment, uncovered, list_staying, set_staying}
-use Rattle.iscsi_tasks.specs.Counted.{IsSettled}
+use Rattle.iscsi_tasks.proofs.Names.{nat_tests, Task, Member, Members, tasks_in, after_moment, uncovered, list_staying, set_staying, IsSettled}
 use Rattle.iscsi_tasks.proofs.ListLemmas.{list_any-map}
 use Rattle.iscsi_tasks.proofs.MomentLemmas.{settled_after}
 

@@ -4,15 +4,7 @@ use Rattle.std.proofs.lemmas.Int.{ints}
 use Rattle.std.proofs.lemmas.Bool.{cases_eq}
 use Rattle.std.proofs.lemmas.List.{get_or_default, get_or-drop, length-drop, append_assoc, append-nil}
 use Rattle.std.proofs.lemmas.List.Edits.{get_or-remove_above}
-use Rattle.std.proofs.lemmas.Grind.{common_steps}
-use Rattle.iscsi_slots.specs.Slots.{times}
-use Rattle.iscsi_tasks.specs.declared.task.Task.{Task}
-use Rattle.iscsi_tasks.specs.declared.member.Member.{Member}
-use Rattle.iscsi_tasks.specs.Sets.{is_covered}
-use Rattle.iscsi_tasks.specs.Counted.{IsAscending, covered_from}
-use Rattle.iscsi_tasks.specs.Chains.{BLANK}
-use Rattle.iscsi_tasks.specs.Chains.{Chained, member_of}
-use Rattle.iscsi_tasks.specs.Marked.{covered_tickets}
+use Rattle.iscsi_tasks.proofs.Names.{common_steps, times, Task, Member, is_covered, IsAscending, covered_from, BLANK, Chained, member_of, covered_tickets}
 use Rattle.iscsi_tasks.proofs.PassingLemmas.{kept_yet, passed, yet_at, yet_inside, yet_without, yet_with, yet_all, tickets_more, tickets_all}
 use Rattle.iscsi_tasks.proofs.MarkedLemmas.{some_at}
 use Rattle.iscsi_tasks.proofs.linked_front.keep_uncovered.Goals as goal

@@ -1,12 +1,7 @@
 use Rattle.std.proofs.Common.{◌≡◌, ◌≢◌, ◌∙◌, ◌+◌, ◌<◌, ◌≤◌, ℕ, List, length, get_or, set, ap, sym, subst, arith}
 use Rattle.std.proofs.lemmas.List.{get_or_default}
 use Rattle.std.proofs.lemmas.List.Edits.{map_over_more}
-use Rattle.std.proofs.lemmas.Grind.{common_steps}
-use Rattle.iscsi_slots.specs.Slots.{times}
-use Rattle.iscsi_tasks.specs.declared.member.Member.{Member}
-use Rattle.iscsi_tasks.specs.Chains.{BLANK}
-use Rattle.iscsi_tasks.specs.Counted.{enabled_now}
-use Rattle.iscsi_tasks.specs.Chains.{Chained, chained}
+use Rattle.iscsi_tasks.proofs.Names.{common_steps, times, Member, BLANK, enabled_now, Chained, chained}
 use Rattle.iscsi_tasks.proofs.ChainLemmas.{same_to_end}
 use Rattle.iscsi_tasks.proofs.CountLemmas.{enabled_up_to, parts-length}
 use Rattle.iscsi_tasks.proofs.MarkedLemmas.{some_at}

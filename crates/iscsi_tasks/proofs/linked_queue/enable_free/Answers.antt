@@ -1,14 +1,7 @@
 use Rattle.std.proofs.Common.{◌≡◌, ◌∙◌, ◌<◌, ◌≤◌, ℕ, List, length, max, min, refl, ap, sym, arith, ⊎_elim}
 use Rattle.std.specs.List.{position_or_len}
 use Rattle.std.proofs.lemmas.Bool.{cases_lt}
-use Rattle.std.proofs.lemmas.Grind.{common_steps}
-use Rattle.iscsi_slots.specs.Slots.{times}
-use Rattle.iscsi_tasks.specs.declared.member.Member.{Member}
-use Rattle.iscsi_tasks.specs.declared.marks.Marks.{Marks}
-use Rattle.iscsi_tasks.specs.Sets.{after_moment}
-use Rattle.iscsi_tasks.specs.Counted.{is_ordered_in}
-use Rattle.iscsi_tasks.specs.Chains.{chained}
-use Rattle.iscsi_tasks.specs.Marked.{IsMarked}
+use Rattle.iscsi_tasks.proofs.Names.{common_steps, times, Member, Marks, after_moment, is_ordered_in, chained, IsMarked}
 use Rattle.iscsi_tasks.proofs.PlaceLemmas.{enabled_so_far}
 use Rattle.iscsi_tasks.proofs.MomentLemmas.{moment_with_heads, moment_without_heads}
 use Rattle.iscsi_tasks.proofs.CountLemmas.{first-le, enabled_up_to}

@@ -1,5 +1,5 @@
 use Rattle.std.proofs.Common.{arith}
-use Rattle.std.proofs.lemmas.Grind.{common_steps}
+use Rattle.iscsi_tasks.proofs.Names.{common_steps}
 use Rattle.iscsi_tasks.proofs.ChainLemmas.{not_end, same_to_end}
 use Rattle.iscsi_tasks.proofs.CountLemmas.{first-le}
 use Rattle.iscsi_tasks.proofs.linked_queue.free_end.Goals.{else-marks-ne-ENDS-via-then-marks-ne-ENDS+else-marks-oldest, else-marks-ne-ENDS-via-else-marks-ne-ENDS}

@@ -1,12 +1,7 @@
 use Rattle.std.proofs.Common.{◌≡◌, ◌∙◌, ◌<◌, ℕ, List, Some, position, length, get_or, set, true, false, ap, sym, subst, arith}
 use Rattle.std.proofs.lemmas.List.{get_or_default}
 use Rattle.std.proofs.lemmas.List.Quantifiers.{position-Some}
-use Rattle.iscsi_tasks.specs.declared.member.Member.{Member}
-use Rattle.iscsi_tasks.specs.Sets.{is_new}
-use Rattle.iscsi_tasks.specs.Counted.{given_now}
-use Rattle.iscsi_tasks.specs.Chains.{BLANK}
-use Rattle.iscsi_tasks.specs.Chains.{Chained, chained}
-use Rattle.iscsi_tasks.specs.Marked.{IsMarked, IsFirstNew}
+use Rattle.iscsi_tasks.proofs.Names.{Member, is_new, given_now, BLANK, Chained, chained, IsMarked, IsFirstNew}
 use Rattle.iscsi_tasks.proofs.GivingLemmas.{next_in_at, given_in_at}
 use Rattle.iscsi_tasks.proofs.MarkedLemmas.{some_at, marked_given}
 use Rattle.iscsi_tasks.proofs.linked_queue.give_next.Goals as goal

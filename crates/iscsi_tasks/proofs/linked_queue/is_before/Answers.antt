@@ -1,7 +1,6 @@
 use Rattle.std.proofs.Common.{◌≡◌, ◌<◌, get_or, ap, sym, arith, ⊎_elim}
 use Rattle.std.proofs.lemmas.Bool.{cases_eq, cases_lt, ltb-true, ltb-false}
-use Rattle.iscsi_tasks.specs.declared.member.Member.{Member}
-use Rattle.iscsi_tasks.specs.Chains.{BLANK}
+use Rattle.iscsi_tasks.proofs.Names.{Member, BLANK}
 use Rattle.iscsi_tasks.proofs.MarkedLemmas.{within_some}
 use Rattle.iscsi_tasks.proofs.linked_queue.is_before.Goals as goal
 

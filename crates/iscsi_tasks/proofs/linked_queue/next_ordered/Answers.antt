@@ -2,10 +2,7 @@ use Rattle.std.proofs.Common.{◌≡◌, ◌∙◌, ◌+◌, ◌<◌, ◌≤◌,
 use Rattle.std.specs.List.{position_or_len}
 use Rattle.std.proofs.lemmas.Bool.{cases_lt}
 use Rattle.std.proofs.lemmas.List.{get_or_past}
-use Rattle.std.proofs.lemmas.Grind.{common_steps}
-use Rattle.iscsi_tasks.specs.declared.member.Member.{Member}
-use Rattle.iscsi_tasks.specs.Counted.{is_ordered_in}
-use Rattle.iscsi_tasks.specs.Marked.{IsPastNone}
+use Rattle.iscsi_tasks.proofs.Names.{common_steps, Member, is_ordered_in, IsPastNone}
 use Rattle.iscsi_tasks.proofs.PlaceLemmas.{place_is, no_place}
 use Rattle.iscsi_tasks.proofs.ChainLemmas.{not_end}
 use Rattle.iscsi_tasks.proofs.MarkedLemmas.{some_at, within_some}

@@ -1,9 +1,7 @@
 use Rattle.std.proofs.Common.{◌≡◌, ◌∙◌, ℕ, ◌<◌, ◌≤◌, List, length, get_or, min, ap, sym, arith, ⊎_elim}
 use Rattle.std.proofs.lemmas.Bool.{cases_lt}
 use Rattle.std.proofs.lemmas.List.{get_or_past}
-use Rattle.std.proofs.lemmas.Grind.{common_steps}
-use Rattle.iscsi_slots.specs.Slots.{times}
-use Rattle.iscsi_tasks.specs.Chains.{AreApart}
+use Rattle.iscsi_tasks.proofs.Names.{common_steps, times, AreApart}
 use Rattle.iscsi_tasks.proofs.linked_queue.older.Goals as goal
 
 -- a slot that is there stands at a place

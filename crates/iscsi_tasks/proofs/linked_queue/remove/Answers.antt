@@ -1,12 +1,8 @@
 use Rattle.std.proofs.Common.{◌∙◌, get_or, ap, sym, subst}
 use Rattle.std.specs.List.{position_or_len}
 use Rattle.iscsi_slots.proofs.SlotLemmas.{stands}
-use Rattle.iscsi_tasks.specs.declared.member.Member.{Member}
-use Rattle.iscsi_tasks.specs.declared.marks.Marks.{Marks}
-use Rattle.iscsi_tasks.specs.Counted.{is_ordered_in}
-use Rattle.iscsi_tasks.specs.Chains.{BLANK}
-use Rattle.iscsi_tasks.specs.Chains.{Chained}
-use Rattle.iscsi_tasks.specs.Marked.{IsMarked, IsPastNone, left_by, moved_off}
+use Rattle.iscsi_tasks.proofs.Names.{Member, Marks, is_ordered_in, BLANK, Chained, IsMarked, IsPastNone, moved_off}
+use Rattle.iscsi_tasks.specs.Marked.{left_by}
 use Rattle.iscsi_tasks.proofs.MarkedLemmas.{past_none, one_head, marked_left}
 use Rattle.iscsi_tasks.proofs.linked_queue.remove.Goals as goal
 

@@ -1,6 +1,5 @@
 use Rattle.std.proofs.Common.{◌≡◌, ◌∙◌, sym, subst, arith}
-use Rattle.iscsi_tasks.specs.declared.marks.Marks.{Marks}
-use Rattle.iscsi_tasks.specs.Marked.{IsMarked}
+use Rattle.iscsi_tasks.proofs.Names.{Marks, IsMarked}
 use Rattle.iscsi_tasks.proofs.ChainLemmas.{same_to_end}
 use Rattle.iscsi_tasks.proofs.CountLemmas.{enabled_up_to}
 use Rattle.iscsi_tasks.proofs.MarkedLemmas.{marked_enabled_first, marked_enabled_more}

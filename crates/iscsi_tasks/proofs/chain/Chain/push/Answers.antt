@@ -1,9 +1,6 @@
 use Rattle.std.proofs.Common.{◌≡◌, ◌∙◌, ◌<◌, ◌+◌, ◌++◌, ◌∷◌, [], ℕ, List, length, map, get_or, ap, sym, subst, arith}
 use Rattle.std.proofs.lemmas.List.{get_or_default}
-use Rattle.std.proofs.lemmas.Grind.{common_steps}
-use Rattle.iscsi_tasks.specs.declared.member.Member.{Member}
-use Rattle.iscsi_tasks.specs.declared.node.Node.{Node}
-use Rattle.iscsi_tasks.specs.Chains.{Chained, chained, BLANK_NODE, before_of, member_at, order_in, IsChained}
+use Rattle.iscsi_tasks.proofs.Names.{common_steps, Member, Node, Chained, chained, BLANK_NODE, before_of, member_at, order_in, IsChained}
 use Rattle.iscsi_tasks.proofs.ChainedLemmas.{few, long, free_inside, slot_fresh, last_fresh, entered_in, chained_with, members_with, order_with, apart}
 use Rattle.iscsi_tasks.proofs.ChainLemmas.{length_linked}
 use Rattle.iscsi_tasks.proofs.chain.Chain.push.Goals as goal

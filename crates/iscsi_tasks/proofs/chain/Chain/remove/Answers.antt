@@ -1,11 +1,9 @@
 use Rattle.std.proofs.Common.{◌≡◌, ◌∙◌, ◌<◌, ◌≤◌, ◌-◌, ℕ, List, length, map, get_or, set, ap, sym, subst, arith}
 use Rattle.std.specs.List.{remove}
 use Rattle.std.proofs.lemmas.List.{get_or_default}
-use Rattle.std.proofs.lemmas.Grind.{common_steps}
-use Rattle.iscsi_slots.specs.Slots.{times}
+use Rattle.iscsi_tasks.proofs.Names.{common_steps, times, Node, Chained, chained, BLANK_NODE, node_at, after_of, before_of, member_at, order_in, linked_to}
+use Rattle.iscsi_tasks.proofs.Names.{freed_before, IsChained}
 use Rattle.iscsi_slots.proofs.SlotLemmas.{StandsAt, stands}
-use Rattle.iscsi_tasks.specs.declared.node.Node.{Node}
-use Rattle.iscsi_tasks.specs.Chains.{Chained, chained, BLANK_NODE, node_at, after_of, before_of, member_at, order_in, linked_to, freed_before, IsChained}
 use Rattle.iscsi_tasks.proofs.ChainLemmas.{inside_order}
 use Rattle.iscsi_tasks.proofs.ChainedLemmas.{before_in, after_in, order_without, chained_without, members_without}
 use Rattle.iscsi_tasks.proofs.chain.Chain.remove.Goals as goal

@@ -1,9 +1,5 @@
 use Rattle.std.proofs.Common.{◌≡◌, ◌∙◌, ◌∷◌, ◌&&◌, ap, sym, subst, arith}
-use Rattle.std.proofs.lemmas.Grind.{common_steps}
-use Rattle.iscsi_tasks.specs.Sets.{Members, IsNewest, entered_to, given_by, next_in}
-use Rattle.iscsi_tasks.specs.Changes.{Entered, StandsFor}
-use Rattle.iscsi_tasks.specs.Counted.{taken_in}
-use Rattle.iscsi_tasks.specs.Linked.{Linked}
+use Rattle.iscsi_tasks.proofs.Names.{common_steps, Members, IsNewest, entered_to, given_by, next_in, Entered, StandsFor, taken_in, Linked}
 use Rattle.iscsi_tasks.proofs.AloneLemmas.{alone_state, alone_next, alone_stands}
 use Rattle.iscsi_tasks.proofs.HistoryLemmas.{StandsFor-entered}
 use Rattle.iscsi_tasks.proofs.linked_set.LinkedTaskSet.enter_and_give.Goals as goal

@@ -1,8 +1,5 @@
 use Rattle.std.proofs.Common.{◌≡◌, ◌∙◌, None, Some, ap, sym, arith}
-use Rattle.std.proofs.lemmas.Grind.{common_steps}
-use Rattle.iscsi_tasks.specs.Sets.{Members, left_by, tasks_in, with_ticket}
-use Rattle.iscsi_tasks.specs.Chains.{BLANK}
-use Rattle.iscsi_tasks.specs.Linked.{Linked}
+use Rattle.iscsi_tasks.proofs.Names.{common_steps, Members, left_by, tasks_in, with_ticket, BLANK, Linked}
 use Rattle.iscsi_tasks.proofs.SearchLemmas.{not_found}
 use Rattle.iscsi_tasks.proofs.LinkedSetLemmas.{place_in, task_found}
 use Rattle.iscsi_tasks.proofs.linked_set.LinkedTaskSet.leave.Goals as goal

@@ -1,8 +1,5 @@
 use Rattle.std.proofs.Common.{◌≡◌, ◌∙◌, Some, false, true, ap, sym, arith}
-use Rattle.std.proofs.lemmas.Grind.{common_steps}
-use Rattle.iscsi_tasks.specs.Sets.{Members, left_by, tasks_in, with_ticket, is_enabled_in}
-use Rattle.iscsi_tasks.specs.Chains.{BLANK, member_of}
-use Rattle.iscsi_tasks.specs.Linked.{Linked}
+use Rattle.iscsi_tasks.proofs.Names.{common_steps, Members, left_by, tasks_in, with_ticket, is_enabled_in, BLANK, member_of, Linked}
 use Rattle.iscsi_tasks.proofs.EnabledLemmas.{enabled_is}
 use Rattle.iscsi_tasks.proofs.SearchLemmas.{not_enabled}
 use Rattle.iscsi_tasks.proofs.LinkedSetLemmas.{place_in, task_found, enabled_found}

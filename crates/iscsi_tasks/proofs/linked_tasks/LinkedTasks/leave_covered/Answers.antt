@@ -1,9 +1,5 @@
 use Rattle.std.proofs.Common.{List, length, map, ap, sym, subst, arith}
-use Rattle.std.proofs.lemmas.Grind.{common_steps}
-use Rattle.iscsi_tasks.specs.declared.member.Member.{Member}
-use Rattle.iscsi_tasks.specs.Sets.{InOrder, is_covered}
-use Rattle.iscsi_tasks.specs.Linked.{Linked}
-use Rattle.iscsi_tasks.specs.Counted.{IsSettled, IsCoveredFrom, IsAscendingTo}
+use Rattle.iscsi_tasks.proofs.Names.{common_steps, Member, InOrder, is_covered, Linked, IsSettled, IsCoveredFrom, IsAscendingTo}
 use Rattle.iscsi_tasks.proofs.AllLeftLemmas.{StandsFor-staying}
 use Rattle.iscsi_tasks.proofs.CoveredFromLemmas.{covered_from_staying}
 use Rattle.iscsi_tasks.proofs.FrontLemmas.{ascending_staying}

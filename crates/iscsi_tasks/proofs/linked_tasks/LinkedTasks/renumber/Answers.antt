@@ -1,6 +1,6 @@
 use Rattle.std.proofs.Common.{arith}
 use Rattle.std.proofs.lemmas.Int.{to_z-of_z}
-use Rattle.std.proofs.lemmas.Grind.{common_steps}
+use Rattle.iscsi_tasks.proofs.Names.{common_steps}
 use Rattle.iscsi_tasks.proofs.CoveredFromLemmas.{covered_from_all, covered_from_oldest}
 use Rattle.iscsi_tasks.proofs.LinkedSetLemmas.{kept_numbered}
 use Rattle.iscsi_tasks.proofs.linked_tasks.LinkedTasks.renumber.Goals as goal

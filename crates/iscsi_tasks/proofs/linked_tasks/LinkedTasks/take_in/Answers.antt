@@ -1,13 +1,8 @@
 use Rattle.std.proofs.Common.{◌≡◌, ◌<◌, ◌+◌, ◌∷◌, ◌++◌, [], ◌∙◌, ◌&&◌, true, false, ℤ, List, w64, to_z, of_z, length, map, rules, ap, sym, subst, arith}
 use Rattle.std.proofs.lemmas.List.{length_push, length-map, map-append}
 use Rattle.std.proofs.lemmas.Int.{to_z-of_z}
-use Rattle.std.proofs.lemmas.Grind.{common_steps}
-use Rattle.iscsi_tasks.specs.declared.task.Task.{Task}
-use Rattle.iscsi_tasks.specs.declared.member.Member.{Member}
-use Rattle.iscsi_tasks.specs.Sets.{Members, IsNewest, after_moment}
-use Rattle.iscsi_tasks.specs.Counted.{IsSettled, IsCoveredFrom, is_free_behind, covered_from, covered_from_with, ascends_with, IsAscendingTo}
-use Rattle.iscsi_tasks.specs.Linked.{Linked}
-use Rattle.iscsi_tasks.specs.Marked.{is_free_by}
+use Rattle.iscsi_tasks.proofs.Names.{common_steps, Task, Member, Members, IsNewest, after_moment, IsSettled, IsCoveredFrom, is_free_behind, covered_from}
+use Rattle.iscsi_tasks.proofs.Names.{covered_from_with, ascends_with, IsAscendingTo, Linked, is_free_by}
 use Rattle.iscsi_tasks.proofs.LinkedSetLemmas.{free_is, in_slots}
 use Rattle.iscsi_tasks.proofs.EnterLemmas.{moment_entered, settled_entered}
 use Rattle.iscsi_tasks.proofs.FrontLemmas.{ascending_push}

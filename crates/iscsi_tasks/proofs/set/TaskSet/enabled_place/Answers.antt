@@ -1,7 +1,5 @@
 use Rattle.std.proofs.Common.{◌∙◌, ap, sym, subst, false, true, Option, ℕ, IsSome}
-use Rattle.iscsi_tasks.specs.declared.member.Member.{Member}
-use Rattle.iscsi_tasks.specs.Changes.{IsEnabled}
-use Rattle.iscsi_tasks.specs.Chains.{member_of}
+use Rattle.iscsi_tasks.proofs.Names.{Member, IsEnabled, member_of}
 use Rattle.iscsi_tasks.proofs.SearchLemmas.{enabled_read, not_enabled, enabled_nowhere, enabled_here}
 use Rattle.iscsi_tasks.proofs.EnabledLemmas.{enabled_is}
 use Rattle.iscsi_tasks.proofs.set.TaskSet.enabled_place.Goals as goal

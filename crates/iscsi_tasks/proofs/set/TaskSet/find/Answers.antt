@@ -1,8 +1,5 @@
 use Rattle.std.proofs.Common.{◌==◌, ◌<◌, ◌∙◌, ℕ, Some, option_map, length, ap, sym, arith, eq-eqb}
-use Rattle.std.proofs.lemmas.Grind.{common_steps}
-use Rattle.iscsi_tasks.specs.declared.member.Member.{Member}
-use Rattle.iscsi_tasks.specs.Sets.{with_tag}
-use Rattle.iscsi_tasks.specs.Chains.{member_of}
+use Rattle.iscsi_tasks.proofs.Names.{common_steps, Member, with_tag, member_of}
 use Rattle.iscsi_tasks.proofs.ListLemmas.{find-map}
 use Rattle.iscsi_tasks.proofs.PlaceLemmas.{place_is}
 use Rattle.iscsi_tasks.proofs.SearchLemmas.{find_place, find_nowhere}

@@ -1,7 +1,5 @@
 use Rattle.std.proofs.Common.{◌∙◌, ap, sym, arith}
-use Rattle.iscsi_tasks.specs.declared.member.Member.{Member}
-use Rattle.iscsi_tasks.specs.Sets.{is_covered}
-use Rattle.iscsi_tasks.specs.Chains.{member_of}
+use Rattle.iscsi_tasks.proofs.Names.{Member, is_covered, member_of}
 use Rattle.iscsi_tasks.proofs.PlaceLemmas.{place_is, position_of}
 use Rattle.iscsi_tasks.proofs.set.TaskSet.first_covered.Goals as goal
 

@@ -1,6 +1,6 @@
 use Rattle.std.proofs.Common.{◌+◌, ◌-◌, ◌/◌, ap, arith}
 use Rattle.iscsi_slots.proofs.HalvingLemmas.{halved_up, halved_down, half_from, half_to}
-use Rattle.iscsi_tasks.specs.declared.member.Member.{Member}
+use Rattle.iscsi_tasks.proofs.Names.{Member}
 use Rattle.iscsi_tasks.proofs.set.TaskSet.first_from.Goals as goal
 
 pub loop-low-preserved-then-at-ticket : goal.loop-low-preserved-then-at-ticket

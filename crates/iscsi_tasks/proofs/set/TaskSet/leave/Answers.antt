@@ -1,7 +1,5 @@
 use Rattle.std.proofs.Common.{◌∙◌, Some, ap, sym, arith}
-use Rattle.std.proofs.lemmas.Grind.{common_steps}
-use Rattle.iscsi_tasks.specs.Sets.{left_by, with_ticket}
-use Rattle.iscsi_tasks.specs.Chains.{BLANK}
+use Rattle.iscsi_tasks.proofs.Names.{common_steps, left_by, with_ticket, BLANK}
 use Rattle.iscsi_tasks.proofs.SearchLemmas.{found, not_found}
 use Rattle.iscsi_tasks.proofs.set.TaskSet.leave.Goals as goal
 

@@ -1,11 +1,7 @@
 use Rattle.std.proofs.Common.{◌≡◌, ◌∙◌, ◌<◌, Some, ℕ, List, length, get_or, ap, sym, subst, arith}
 use Rattle.std.specs.List.{remove}
-use Rattle.std.proofs.lemmas.Grind.{common_steps}
+use Rattle.iscsi_tasks.proofs.Names.{common_steps, Members, left_by, StandsFor, BLANK, Linked, linked, IsPlaced}
 use Rattle.iscsi_slots.specs.Queued.{Queued}
-use Rattle.iscsi_tasks.specs.Sets.{Members, left_by}
-use Rattle.iscsi_tasks.specs.Changes.{StandsFor}
-use Rattle.iscsi_tasks.specs.Chains.{BLANK}
-use Rattle.iscsi_tasks.specs.Linked.{Linked, linked, IsPlaced}
 use Rattle.iscsi_tasks.proofs.MarkedLemmas.{some_at}
 use Rattle.iscsi_tasks.proofs.set.TaskSet.take_out.Goals as goal
 

@@ -1,9 +1,7 @@
 use Rattle.std.proofs.Common.{◌∙◌, Some, ap, sym, arith}
 use Rattle.std.proofs.lemmas.List.{length-map, get_or-map}
 use Rattle.std.proofs.lemmas.Option.{slice_get-get_or}
-use Rattle.iscsi_tasks.specs.declared.member.Member.{Member}
-use Rattle.iscsi_tasks.specs.Sets.{tasks_in}
-use Rattle.iscsi_tasks.specs.Chains.{member_of}
+use Rattle.iscsi_tasks.proofs.Names.{Member, tasks_in, member_of}
 use Rattle.iscsi_tasks.proofs.set.TaskSet.task_at.Goals as goal
 
 pub returns-then-place-len : goal.returns-then-place-len
