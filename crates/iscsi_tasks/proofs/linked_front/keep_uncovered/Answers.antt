@@ -50,11 +50,8 @@ rest c =
     let read = read_at covers list c.loop.chain.members c.loop.counter m l inv.members (c.at.ensures (passed covers list c.loop.counter) BLANK p (sym inv.there)) in
     none_behind (is_covered c.args.cover.now) list c.loop.counter m l read (c.requires.ascending (c.is_past.ensures.ascends c.if-is_past.true)) (λ t up. c.is_past.ensures.none t c.if-is_past.true up)
 
-pub returns-then-is_past-clause-members : goal.returns-then-is_past-clause-members
-returns-then-is_past-clause-members c = c.loop.invariant.members ∙ yet_all (λ (m : Member). is_covered c.args.cover.now m.task) c.args.chain.now.members c.loop.counter (rest c)
-
-pub returns-then-is_past-clause-left : goal.returns-then-is_past-clause-left
-returns-then-is_past-clause-left c = c.loop.invariant.left ∙ ap (λ ts. c.args.left.now.items ++ ts) (tickets_all (is_covered c.args.cover.now) c.args.chain.now.members c.loop.counter (rest c))
+pub returns-then-is_past : goal.returns-then-is_past
+returns-then-is_past c = grind (arith, common_steps, yet_all, is_covered, rest, tickets_all)
 
 pub loop-preserved-then-not-covers : goal.loop-preserved-then-not-covers
 loop-preserved-then-not-covers c =

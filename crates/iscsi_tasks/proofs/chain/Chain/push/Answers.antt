@@ -12,20 +12,11 @@ last_is {nodes} is i n at read = let some = few is in ap (λ (x : Node). x.befor
 few_yet : {nodes : List Node} {capacity free len room : ℕ} → IsChained nodes capacity free len room → (v : Chained) → chained (order_in nodes len) (map (member_at nodes) (order_in nodes len)) room ≡ v → length v.slots < v.room → len < room
 few_yet is v view l = let a = long is in let b = ap (λ (w : Chained). length w.slots) view in let r = ap (λ (w : Chained). w.room) view in omega (arith, a, b, r, l)
 
-pub take-slot-requires-clause-free : goal.take-slot-requires-clause-free
-take-slot-requires-clause-free c = free_inside c.self.invariant
+pub take-slot-requires : goal.take-slot-requires
+take-slot-requires c = grind (arith, common_steps, free_inside c.self.invariant, few c.self.invariant)
 
-pub take-slot-requires-clause-most : goal.take-slot-requires-clause-most
-take-slot-requires-clause-most c = few c.self.invariant
-
-pub link-requires-clause-first : goal.link-requires-clause-first
-link-requires-clause-first c =
-    let l = last_is c.self.invariant c.from.result c.index.result.now c.from.ensures c.index.ensures in
-    let a = last_fresh c.self.invariant (few_yet c.self.invariant c.args.self.now c.self.view_is c.requires) c.take-slot.ensures.taken in
-    omega (arith, l, a)
-
-pub link-requires-clause-second : goal.link-requires-clause-second
-link-requires-clause-second c = slot_fresh c.self.invariant (few_yet c.self.invariant c.args.self.now c.self.view_is c.requires) c.take-slot.ensures.taken
+pub link-requires : goal.link-requires
+link-requires c = grind (arith, common_steps, last_is c.self.invariant c.from.result c.index.result.now c.from.ensures c.index.ensures, last_fresh c.self.invariant (few_yet c.self.invariant c.args.self.now c.self.view_is c.requires) c.take-slot.ensures.taken, few_yet c.self.invariant c.args.self.now c.self.view_is c.requires, slot_fresh c.self.invariant (few_yet c.self.invariant c.args.self.now c.self.view_is c.requires) c.take-slot.ensures.taken)
 
 pub link-requires-2-clause-first : goal.link-requires-2-clause-first
 link-requires-2-clause-first c =

@@ -8,14 +8,8 @@ use Rattle.iscsi_tasks.proofs.linked_set.LinkedTaskSet.leave.Goals as goal
 absent : (c : goal.After-from_residual) → with_ticket c.args.ticket (tasks_in c.args.self.now) ≡ None
 absent c = ap (λ (s : Members). with_ticket c.args.ticket (tasks_in s)) (sym c.self.view_is) ∙ not_found c.self.inside.tasks.shown.list c.args.ticket c.in_err-slot.ensures
 
-pub returns-in_err-slot-clause-answer : goal.returns-in_err-slot-clause-answer
-returns-in_err-slot-clause-answer c = c.from_residual.ensures ∙ sym (absent c)
-
-pub returns-in_err-slot-clause-state : goal.returns-in_err-slot-clause-state
-returns-in_err-slot-clause-state c = sym (ap (left_by c.args.self.now) (absent c))
-
-pub returns-in_err-slot-clause-stands : goal.returns-in_err-slot-clause-stands
-returns-in_err-slot-clause-stands c = grind (arith, common_steps, returns-in_err-slot-clause-answer)
+pub returns-in_err-slot : goal.returns-in_err-slot
+returns-in_err-slot c = grind (arith, common_steps, absent, left_by, common_steps)
 
 pub returns-clause-answer : goal.returns-clause-answer
 returns-clause-answer c =

@@ -19,8 +19,5 @@ returns-then-task-itt-clause-answer c =
 pub returns-then-task-itt-clause-stands : goal.returns-then-task-itt-clause-stands
 returns-then-task-itt-clause-stands c = λ h st. returns-then-task-itt-clause-answer c ∙ ap (with_tag c.args.itt) st.tasks
 
-pub returns-clause-answer : goal.returns-clause-answer
-returns-clause-answer c = grind (arith, common_steps, find-map, find_nowhere)
-
-pub returns-clause-stands : goal.returns-clause-stands
-returns-clause-stands c = λ h st. returns-clause-answer c ∙ ap (with_tag c.args.itt) st.tasks
+pub returns : goal.returns
+returns c = grind (arith, common_steps, common_steps, find-map, find_nowhere, with_tag)

@@ -31,8 +31,5 @@ invariant_of-self c =
       for_left = omega (arith, depth, for_left);
     }
 
-pub returns-clause-state : goal.returns-clause-state
-returns-clause-state c = ap (λ (l : Linked). l.shown) (left c) ∙ ap (λ (s : Members). left_by s (Some c.let_go.result)) c.self.view_is
-
-pub returns-clause-stands : goal.returns-clause-stands
-returns-clause-stands c = λ h st. c.let_go.ensures.stands h (subst (λ (s : Members). StandsFor s h) (sym c.self.view_is) st)
+pub returns : goal.returns
+returns c = grind (arith, common_steps, left, left_by, StandsFor)
