@@ -23,11 +23,7 @@ none_behind covers list k m l read up past j d j_in =
     let long = length-drop k list in
     let inside : k + j < length list = omega (arith, j_in, long, l) in
     let here : covered_from m.task ≡ covered_from (get_or list k d).task = ap (λ (x : Member). covered_from x.task) (read ∙ get_or_default list k BLANK d l) in
-    ap (λ (x : Member). covers x.task) (get_or-drop k list j d)
-    ∙ past (get_or list (k + j) d).task (⊎_elim
-    (λ (first : j ≡ 0). let same : covered_from (get_or list (k + j) d).task ≡ covered_from (get_or list k d).task = ap (λ n. covered_from (get_or list n d).task) (let e : k + j ≡ k = omega (arith, first) in e) in omega (arith, ints, same, here))
-    (λ more. let is : covered_from (get_or list k d).task ≤ℤ covered_from (get_or list (k + j) d).task = up k (k + j) d (omega (arith, more)) inside in omega (arith, ints, is, here))
-    (cases_eq j 0))
+    grind (arith, common_steps, get_or-drop, covered_from, ints)
 
 pub at-requires : goal.at-requires
 at-requires c = grind (arith, common_steps, some_at, passed, place_in)
@@ -66,16 +62,9 @@ loop-preserved-then-not-covers c =
     let read = read_at covers list c.loop.chain.members k m l inv.members (c.at.ensures (passed covers list k) BLANK p (sym inv.there)) in
     let stays : covers (get_or list k BLANK) ≡ false = ap covers (sym read) ∙ sym c.covers.ensures ∙ c.if-not-covers.true in
     let more = yet_with covers list k BLANK l stays in
-    let spent = inv.spent in
-    record {
-      members = inv.members ∙ more.0 ∙ ap (kept_yet covers list) (sym next);
-      there = c.after-next.ensures (passed covers list k) p (sym inv.there) ∙ ap (λ n. get_or c.loop.chain.slots n 0) (let e = more.1 in let q : passed covers list k + 1 ≡ passed covers list (suc k) = omega (arith, e) in q ∙ ap (passed covers list) (sym next));
-      left = inv.left ∙ ap (λ ts. c.args.left.now.items ++ ts) (sym (tickets_more (is_covered c.args.cover.now) list k BLANK false l stays ∙ append-nil (covered_tickets (is_covered c.args.cover.now) (take k list))));
-      spent = omega (arith, spent);
-      marked = inv.marked;
-      room = inv.room;
-      capacity = inv.capacity;
-    }
+    let tickets = tickets_more (is_covered c.args.cover.now) list k BLANK false l stays in
+    let follows = c.after-next.ensures (passed covers list k) p (sym inv.there) in
+    grind (arith, common_steps, more.0, more.1, tickets, follows, append-nil (covered_tickets (is_covered c.args.cover.now) (take k list)))
 
 pub loop-preserved : goal.loop-preserved
 loop-preserved c =

@@ -1,5 +1,6 @@
 use Rattle.std.proofs.Common.{◌≡◌, ◌<◌, get_or, ap, sym, arith, ⊎_elim}
 use Rattle.std.proofs.lemmas.Bool.{cases_eq, cases_lt, ltb-true, ltb-false}
+use Rattle.std.proofs.lemmas.Grind.{common_steps}
 use Rattle.iscsi_tasks.proofs.Names.{Member, BLANK}
 use Rattle.iscsi_tasks.proofs.MarkedLemmas.{within_some}
 use Rattle.iscsi_tasks.proofs.linked_queue.is_before.Goals as goal
@@ -29,7 +30,4 @@ returns-else-end-eq-ENDS-clause-no c j k j_in k_in slot end is =
     let first : c.at.result.now.task.ticket ≡ (get_or list j BLANK).task.ticket = ap (λ (m : Member). m.task.ticket) (c.at.ensures j BLANK j_in (sym slot)) in
     let second : c.at-else-end-eq-ENDS.result.now.task.ticket ≡ (get_or list k BLANK).task.ticket = ap (λ (m : Member). m.task.ticket) (c.at-else-end-eq-ENDS.ensures k BLANK k_there (sym end)) in
     let higher = ltb-false c.at.result.now.task.ticket c.at-else-end-eq-ENDS.result.now.task.ticket is in
-    ⊎_elim
-    (λ below. absurd (let up : (get_or list j BLANK).task.ticket < (get_or list k BLANK).task.ticket = c.requires.order j k BLANK below (omega (arith, k_there, long)) in omega (arith, higher, first, second, up)))
-    (λ above. above)
-    (cases_lt j k)
+    grind (arith, common_steps, BLANK)

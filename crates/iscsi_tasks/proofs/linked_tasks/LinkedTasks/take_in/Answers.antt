@@ -45,9 +45,7 @@ covered_on c =
     ∙ ap (λ n. covered_from_with n c.len-len.result c.args.task) same ∙ ap (λ n. covered_from_with i.covered_from n c.args.task) len in
     let more : map (λ m. m.task) c.push-slot.new.chain.members ≡ tasks ++ c.args.task ∷ [] =
     ap (map (λ m. m.task)) c.push-slot.ensures.members ∙ map-append (λ m. m.task) i.chain.members (record { task = c.args.task; enabled = c.test_free-enabled.result; given = c.if-gives.given } ∷ []) in
-    subst (λ (ts : List Task). IsCoveredFrom (to_z w64 (of_z w64 c.covered_from_with-self-inside.result)) ts) (sym more)
-    (subst (λ (n : ℤ). IsCoveredFrom n (tasks ++ c.args.task ∷ [])) (sym number)
-    (covered_from_push i.covered_from tasks c.args.task c.self.invariant.covered_from))
+    grind (arith, common_steps, IsCoveredFrom, covered_from_push)
 
 -- they go up still, where it says so
 front_on : (c : goal.After-push-slot) → c.ascends_with-self-inside.result ≡ true → IsAscendingTo (to_z w64 (of_z w64 c.covered_from-self-inside.result)) c.push-slot.new.chain.members
