@@ -16,6 +16,10 @@ any_filter : {X : Type 0} (p q : X → Bool) (xs : List X) → list_any p (filte
 any_filter p q [] = refl
 any_filter p q (x ∷ xs) = grind (arith, nat_tests, any_filter p q xs, cond, filter, true, false)
 
+any_kept : {X : Type 0} (q : X → Bool) (xs : List X) → list_any (λ x. true) (filter q xs) ≡ list_any q xs
+any_kept q [] = refl
+any_kept q (x ∷ xs) = grind (arith, nat_tests, any_kept q xs)
+
 filter_agree : {X : Type 0} (p q : X → Bool) (xs : List X) → All (λ x. p x ≡ q x) xs → filter p xs ≡ filter q xs
 filter_agree p q [] same = refl
 filter_agree p q (x ∷ xs) same =
@@ -58,28 +62,24 @@ given-all_left : (ticket : ℕ) (ts : List Task) (h : List Change) → was_given
 given-all_left ticket [] h = refl
 given-all_left ticket (x ∷ xs) h = given-all_left ticket xs (Left x.ticket ∷ h)
 
+-- no two commands have one ticket
+one_ticket : (tasks : List Task) → AllPairs (λ a b. a.ticket < b.ticket) tasks → (j k : ℕ) (d e : Task) → j < length tasks → k < length tasks → (get_or tasks j e).ticket ≡ (get_or tasks k d).ticket → get_or tasks j e ≡ get_or tasks k d
+one_ticket tasks order j k d e l within alike = grind (arith, nat_tests, order j k d, order k j d, get_or_default tasks j e d l)
+
 -- the covered ones are those with a ticket of theirs
 covered_by_ticket : (covers : Task → Bool) (tasks : List Task) → AllPairs (λ a b. a.ticket < b.ticket) tasks → All (λ t. has_ticket (filter covers tasks) t.ticket ≡ covers t) tasks
 covered_by_ticket covers tasks order k d within =
-    let t : Task = get_or tasks k d in
+    let t : Task = get_or tasks k d in let same : Task → Bool = λ x. covers x && t.ticket == x.ticket in
     any_filter (λ x. t.ticket == x.ticket) covers tasks
     ∙ ⊎_elim
-    (λ yes. list_any_at (λ x. covers x && t.ticket == x.ticket) tasks k d within (and_from _ _ yes (eq-eqb t.ticket t.ticket refl)) ∙ sym yes)
-    (λ no. list_any_none (λ x. covers x && t.ticket == x.ticket) tasks (λ j e l. ⊎_elim
-    (λ same. and_left _ _ (ap covers (get_or_default tasks j e d l ∙ ap (λ n. get_or tasks n d) same) ∙ no))
-    (λ other. and_right _ _ (ne_eqb t.ticket (get_or tasks j e).ticket (λ alike. ⊎_elim
-    (λ below. let up : (get_or tasks j d).ticket < t.ticket = order j k d below within in let one : (get_or tasks j e).ticket ≡ (get_or tasks j d).ticket = ap (λ (x : Task). x.ticket) (get_or_default tasks j e d l) in omega (arith, alike))
-    (λ above. let up : t.ticket < (get_or tasks j d).ticket = order k j d (omega arith) l in let one : (get_or tasks j e).ticket ≡ (get_or tasks j d).ticket = ap (λ (x : Task). x.ticket) (get_or_default tasks j e d l) in omega (arith, alike))
-    (cases_lt j k))))
-    (cases_eq j k)) ∙ sym no)
+    (λ yes. list_any_at same tasks k d within (grind (arith, nat_tests)) ∙ sym yes)
+    (λ no. list_any_none same tasks (λ j e l. grind (arith, nat_tests, one_ticket tasks order j k d e l within)) ∙ sym no)
     (cases_Bool (covers t))
 
 tasks_ordered : (list : List Member) → InOrder list → AllPairs (λ (a b : Task). a.ticket < b.ticket) (map (λ m. m.task) list)
 tasks_ordered list order i j d below within =
     let m : Member = record { task = d; enabled = false; given = false } in
-    let long : length (map (λ (x : Member). x.task) list) ≡ length list = length-map list (λ (x : Member). x.task) in
-    let up : (get_or list i m).task.ticket < (get_or list j m).task.ticket = order i j m below (omega (arith, long)) in
-    grind (arith, nat_tests, get_or-map)
+    grind (arith, length-map list (λ (x : Member). x.task), order i j m, get_or-map (λ (x : Member). x.task) list i m d, get_or-map (λ (x : Member). x.task) list j m d)
 
 module _ (s : Members) (covers : Task → Bool) (h : List Change) (order : InOrder s.list) (st : StandsFor s h) where
   abbrev ts : List Task
@@ -98,16 +98,7 @@ module _ (s : Members) (covers : Task → Bool) (h : List Change) (order : InOrd
   was task (x ∷ xs) some there = was-all_left task x xs h there
 
   some_left : list_any (λ m. covers m.task) s.list ≡ true → list_any (λ (t : Task). true) ts ≡ true
-  some_left some =
-      any_filter (λ (t : Task). true) covers (live h) ∙ ap (list_any (λ t. covers t && true)) (sym st.tasks)
-      ∙ list_any-map (λ t. covers t && true) (λ (m : Member). m.task) s.list ∙ any_alike s.list ∙ some
-    where
-      and_true : (b : Bool) → (b && true) ≡ b
-      and_true b = grind (arith, nat_tests)
-
-      any_alike : (list : List Member) → list_any (λ m. covers m.task && true) list ≡ list_any (λ m. covers m.task) list
-      any_alike [] = refl
-      any_alike (m ∷ ms) = ap (λ b. b || list_any (λ m. covers m.task && true) ms) (and_true (covers m.task)) ∙ ap (λ b. covers m.task || b) (any_alike ms)
+  some_left some = any_kept covers (live h) ∙ ap (list_any covers) (sym st.tasks) ∙ list_any-map covers (λ (m : Member). m.task) s.list ∙ some
 
   some_case : list_any (λ m. covers m.task) s.list ≡ true → StandsFor (record s { list = after_moment (uncovered covers s.list) }) (after_all_left ts h)
   some_case some =
@@ -135,10 +126,7 @@ module _ (s : Members) (covers : Task → Bool) (h : List Change) (order : InOrd
     where
       none_filtered : (xs : List Task) → list_any covers xs ≡ false → filter covers xs ≡ []
       none_filtered [] nothing = refl
-      none_filtered (x ∷ xs) nothing = ⊎_elim
-          (λ yes. absurd (true≢false (sym (ap (λ b. b || list_any covers xs) yes) ∙ nothing)))
-          (λ here. ap (λ b. cond b (x ∷ filter covers xs) (filter covers xs)) here ∙ none_filtered xs (sym (ap (λ b. b || list_any covers xs) here) ∙ nothing))
-          (cases_Bool (covers x))
+      none_filtered (x ∷ xs) nothing = grind (arith, nat_tests, none_filtered xs)
 
   pub StandsFor-all_left : StandsFor (set_staying covers s) (after_all_left (filter covers (live h)) h)
   StandsFor-all_left = grind (arith, nat_tests, cond, some_case, none_case)

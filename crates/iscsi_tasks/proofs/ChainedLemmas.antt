@@ -168,6 +168,11 @@ module _ {nodes : List Node} {capacity free len room : ℕ} (chained : IsChained
     pub chained_written : IsChained (set nodes slot n) capacity free len room
     chained_written = grind (arith, nat_tests, set, length, order_written, order_same, length-set, after_written, get_or, before_written)
 
+  written_at : (n : Node) (k i : ℕ) (d : Member) → k < length slots → i < length slots → get_or (map (member_at (set nodes (get_or slots k 0) n)) slots) i d ≡ get_or (set (map (member_at nodes) slots) k (member_of n)) i d
+  written_at n k i d l i_in =
+      let there = inside_order chained.shared (get_or slots k 0) (times_at slots k l) in
+      grind (arith, nat_tests, get_or-map (member_at (set nodes (get_or slots k 0) n)) slots i 0 d, get_or-map (member_at nodes) slots i 0 d, get_or-set_same, get_or-set_other, same_place slots apart.once i k, length-map slots (member_at nodes))
+
   pub members_written : (n : Node) (k : ℕ) → k < length slots → n.after ≡ after_of nodes (get_or slots k 0) → n.before ≡ before_of nodes (get_or slots k 0)
       → map (member_at (set nodes (get_or slots k 0) n)) (order_in (set nodes (get_or slots k 0) n) len) ≡ set (map (member_at nodes) slots) k (member_of n)
   members_written n k l same_after same_before =
@@ -176,15 +181,7 @@ module _ {nodes : List Node} {capacity free len room : ℕ} (chained : IsChained
       ap (map (member_at (set nodes slot n))) (order_written slot n there same_after same_before)
       ∙ same_lists (map (member_at (set nodes slot n)) slots) (set (map (member_at nodes) slots) k (member_of n))
       (length-map slots (member_at (set nodes slot n)) ∙ sym (length-set (map (member_at nodes) slots) k (member_of n) ∙ length-map slots (member_at nodes)))
-      (λ i d i_in.
-      let inside_i : i < length slots = let a = length-map slots (member_at (set nodes slot n)) in omega (arith, i_in, a) in
-      get_or-map (member_at (set nodes slot n)) slots i 0 d inside_i
-      ∙ ⊎_elim
-      (λ (same : i ≡ k). ap (λ x. member_at (set nodes slot n) (get_or slots x 0)) same ∙ ap member_of (get_or-set_same nodes slot n BLANK_NODE there)
-      ∙ sym (ap (λ x. get_or (set (map (member_at nodes) slots) k (member_of n)) x d) same ∙ get_or-set_same (map (member_at nodes) slots) k (member_of n) d (let a = length-map slots (member_at nodes) in omega (arith, a, l))))
-      (λ other. ap member_of (get_or-set_other nodes slot (get_or slots i 0) n BLANK_NODE (λ e. other (same_place slots apart.once i k inside_i l e)))
-      ∙ sym (get_or-set_other (map (member_at nodes) slots) k i (member_of n) d other ∙ get_or-map (member_at nodes) slots i 0 d inside_i))
-      (cases_eq i k))
+      (λ i d i_in. written_at n k i d l (omega (arith, i_in, length-map slots (member_at (set nodes slot n)))))
 
 -- ---- a member enters
 
@@ -218,15 +215,10 @@ module _ {nodes : List Node} {capacity free len room : ℕ} (chained : IsChained
     alone_reused = grind (arith, nat_tests, at_most_once, free_split, times_at)
 
     fresh_reused : Fresh nodes n0 (order_in nodes len) (left_in nodes n0 next len) node slot
-    fresh_reused = record {
-      here = let a = long_reused in let b = free_inside chained reused.some in let e = reused.last in omega (arith, a, b, e);
-      more = let a = long_reused in omega (arith, a);
-      new = ap (λ ns. node_at ns slot) reused.written ∙ ap (λ s. node_at (set nodes free node) s) reused.last ∙ get_or-set_same nodes free node BLANK_NODE (free_inside chained reused.some);
-      same = λ j some. ap (λ ns. node_at ns j) reused.written ∙ get_or-set_other nodes free j node BLANK_NODE
-          (λ e. let none = alone_reused in
-          let too : 1 ≤ times slot (0 ∷ (order_in nodes len)) + times slot (left_in nodes n0 next len) = subst (λ s. 1 ≤ times s (0 ∷ (order_in nodes len)) + times s (left_in nodes n0 next len)) (e ∙ sym reused.last) some in absurd (omega (arith, none, too)));
-      none = alone_reused;
-    }
+    fresh_reused =
+        let free_in_nodes = free_inside chained reused.some in
+        let apart_from : (j : ℕ) → 1 ≤ times j (0 ∷ (order_in nodes len)) + times j (left_in nodes n0 next len) → j ≢ free = grind (arith, nat_tests, alone_reused) in
+        grind (arith, nat_tests, long_reused, get_or-set_same nodes free node BLANK_NODE, get_or-set_other, alone_reused)
 
     shared_reused : AreShared (0 ∷ ((order_in nodes len) ++ slot ∷ [])) (left_in nodes n0 next len) (length n0) (room + 1)
     shared_reused = grind (arith, nat_tests, long_reused, times_append, free_split, length_push, length)
@@ -239,16 +231,10 @@ module _ {nodes : List Node} {capacity free len room : ℕ} (chained : IsChained
     none_left = let a = long_added in let b = added.none in let n : length n0 - 1 - (len + 1) ≡ 0 = omega (arith, a, b) in ap (order_from nodes next) n
 
     fresh_added : Fresh nodes n0 (order_in nodes len) (left_in nodes n0 next len) node slot
-    fresh_added = record {
-      here = let a = long_added in let b = added.new in omega (arith, a, b);
-      more = let a = long_added in omega (arith, a);
-      new = ap (λ ns. node_at ns slot) added.added ∙ get_or_push nodes node BLANK_NODE slot (sym added.new);
-      same = λ j some.
-          let none = ap (times j) none_left in
-          let j_in : j < length nodes = inside chained.shared j (omega (arith, some, none)) in
-          ap (λ ns. node_at ns j) added.added ∙ get_or_append_left nodes (node ∷ []) BLANK_NODE j j_in;
-      none = let a = none_beyond chained.shared slot (let b = added.new in omega (arith, b)) in let e = ap (times slot) none_left in omega (arith, a, e);
-    }
+    fresh_added =
+        let none = none_beyond chained.shared slot (omega (arith, added.new)) in
+        let old : (j : ℕ) → 1 ≤ times j (0 ∷ (order_in nodes len)) → j < length nodes = λ j some. inside chained.shared j some in
+        grind (arith, nat_tests, long_added, none_left, get_or_push nodes node BLANK_NODE slot, get_or_append_left)
 
     shared_added : AreShared (0 ∷ ((order_in nodes len) ++ slot ∷ [])) (left_in nodes n0 next len) (length n0) (room + 1)
     shared_added = grind (arith, nat_tests, times_append, none_left, long_added, nat_tests, length_push, length)
