@@ -363,18 +363,9 @@ module _ {nodes : List Node} {capacity free len room : ℕ} (is : IsChained node
       let slots = order_in nodes len in
       let k_in : k < length slots = subst (λ (w : Chained). k < length w.slots) (sym view) l in
       let found : get_or slots k 0 ≡ slot = ap (λ (w : Chained). get_or w.slots k 0) view ∙ here in
-      let a : (write node).after ≡ after_of nodes slot = same_after node ∙ ap (λ (n : Node). n.after) node_is in
-      let b : (write node).before ≡ before_of nodes slot = same_before node ∙ ap (λ (n : Node). n.before) node_is in
-      let ns : List Node = set nodes slot (write node) in
-      let members : map (member_at ns) (order_in ns len) ≡ set (map (member_at nodes) slots) k (member_of (write node)) =
-      subst (λ s. map (member_at (set nodes s (write node))) (order_in (set nodes s (write node)) len) ≡ set (map (member_at nodes) slots) k (member_of (write node))) found
-      (members_written is (write node) k k_in (a ∙ ap (after_of nodes) (sym found)) (b ∙ ap (before_of nodes) (sym found))) in
-      let member : member_of (write node) ≡ change (get_or (map (member_at nodes) slots) k d) =
-      changed node ∙ ap (λ n. change (member_of n)) (node_is ∙ ap (node_at nodes) (sym found)) ∙ sym (ap change (get_or-map (member_at nodes) slots k 0 d k_in)) in
-      ap (λ j. chained (order_in (set nodes j (write node)) len) (map (member_at (set nodes j (write node))) (order_in (set nodes j (write node)) len)) room) at
-      ∙ ap (λ o. chained o (map (member_at ns) (order_in ns len)) room) (order_written is slot (write node) slot_there a b)
-      ∙ ap (λ ms. chained slots ms room) (members ∙ ap (set (map (member_at nodes) slots) k) member)
-      ∙ ap (λ (w : Chained). record w { members = set w.members k (change (get_or w.members k d)) }) view
+      let members = members_written is (write node) k k_in (grind (arith, same_after node, node_is, found)) (grind (arith, same_before node, node_is, found)) in
+      let order = order_written is slot (write node) slot_there (grind (arith, same_after node, node_is)) (grind (arith, same_before node, node_is)) in
+      grind (arith, nat_tests, node_is, members, order, changed node, get_or-map (member_at nodes) slots k 0 d k_in)
 
 -- what stands before a slot that has a member is another slot
 pub slot_marked : {nodes : List Node} {capacity free len room : ℕ} → IsChained nodes capacity free len room → (slot : ℕ) → 1 ≤ times slot (order_in nodes len) → (slot < length nodes) × (before_of nodes slot < 65535)

@@ -4,16 +4,13 @@ use Rattle.iscsi_tasks.proofs.Names.{nat_tests, Task, Member, Members, queued, i
 use Rattle.iscsi_tasks.proofs.Names.{IsNewest, Change, Entered, Left, Gave, is_free_in, is_live, live, was_free, was_given, AllBelow, StandsFor}
 use Rattle.std.proofs.lemmas.List.{map-append, length-map, get_or-map}
 use Rattle.std.proofs.lemmas.List.Elements.{All-map, All-push, All-filter, All-nil}
-use Rattle.std.proofs.lemmas.List.Recursion.{or_at}
+use Rattle.std.proofs.lemmas.List.Folds.{list_any_at}
 use Rattle.std.specs.List.{list_any}
 use Rattle.iscsi_tasks.proofs.ListLemmas.{list_any-map, filter-map}
 
 pub tasks-looked : (list xs : List Member) → map (λ m. m.task) (map (looked_at list) xs) ≡ map (λ m. m.task) xs
 tasks-looked list [] = refl
 tasks-looked list (x ∷ xs) = ap (λ r. x.task ∷ r) (tasks-looked list xs)
-
-or_comm' : (a b : Bool) → (a || b) ≡ (b || a)
-or_comm' a b = grind (arith, nat_tests)
 
 pub queued-tasks : (xs : List Member) → map queued (map (λ m. m.task) xs) ≡ map (λ m. queued m.task) xs
 queued-tasks [] = refl
@@ -24,10 +21,9 @@ pub looked_at_enabled : (list : List Member) (now : List Task) (before : Task �
 looked_at_enabled list now before same flags =
     All-map (λ m. m.enabled ≡ (is_free_in m.task now || before m.task)) (looked_at list) list
     (λ k d h. let m = get_or list k d in
-    let there : list_any (λ x. x.task.ticket == m.task.ticket) list ≡ true = or_at (list_any (λ x. x.task.ticket == m.task.ticket)) (λ x. x.task.ticket == m.task.ticket) refl (λ _ _. refl) list k d h (eq-eqb m.task.ticket m.task.ticket refl) in
-    let in_now : is_live m.task now ≡ true = ap (is_live m.task) (sym same) ∙ list_any-map (λ t. t.ticket == m.task.ticket) (λ x. x.task) list ∙ there in
-    let free : is_free (queued m.task) (map queued now) ≡ is_free_among m.task list = ap (λ ts. is_free (queued m.task) (map queued ts)) (sym same) ∙ ap (is_free (queued m.task)) (queued-tasks list) in
-    or_comm' m.enabled (is_free_among m.task list) ∙ ap (λ b. is_free_among m.task list || b) (flags k d h) ∙ ap (λ b. b || before m.task) (sym free) ∙ ap (λ b. (b && is_free (queued m.task) (map queued now)) || before m.task) (sym in_now))
+    let there = list_any-map (λ t. t.ticket == m.task.ticket) (λ (x : Member). x.task) list in
+    let itself = list_any_at (λ (x : Member). x.task.ticket == m.task.ticket) list k d h (eq-eqb m.task.ticket m.task.ticket refl) in
+    grind (arith, nat_tests, there, itself, queued-tasks list, flags k d h))
 
 -- a ticket above all that entered is new
 none_live : (task : Task) (set : List Task) → All (λ t. t.ticket < task.ticket) set → is_live task set ≡ false
