@@ -45,10 +45,7 @@ module _ (s : Members) (h : List Change) (st : StandsFor s h) where
   told_enabled ticket (task, same, (k, inside, in_live), was) =
       let within : k < length s.list = omega (arith, long) in
       let d : Member = record { task = task; enabled = false; given = false } in
-      let here : (get_or s.list k d).task ≡ task = sym (task_at k d within) ∙ in_live in
-      let flag : (get_or s.list k d).enabled ≡ true = st.enabled k d within ∙ ap (λ t. was_free t h) here ∙ flag_of task h was in
-      let number : ((get_or s.list k d).task.ticket == ticket) ≡ true = eq-eqb _ _ (ap (λ (t : Task). t.ticket) here ∙ same) in
-      list_any_at (λ x. x.task.ticket == ticket && x.enabled) s.list k d within (and_from _ _ number flag)
+      grind (arith, nat_tests, task_at k d within, flag_of task h was, st.enabled k d within, list_any_at (λ x. x.task.ticket == ticket && x.enabled) s.list k d within)
 
 -- the flag, in terms of the history
 pub enabled_is : (s : Members) (ticket : ℕ) (b : Bool) → b ≡ is_enabled_in ticket s.list → (h : List Change) → StandsFor s h → IsTrue b ↔ IsEnabled ticket h

@@ -59,9 +59,7 @@ ascending_push ascends most (x ∷ xs) m kept up =
     let P : Member → Type 0 = λ y. covered_from y.task ≤ℤ covered_from m.task in
     let parts = and_parts ascends (not (int_lt (covered_from m.task) most)) (sym (ap (λ b. b || (ascends && not (int_lt (covered_from m.task) most))) (ne_eqb (suc (length xs)) 0 (λ e. omega arith))) ∙ up) in
     let was = kept parts.0 in
-    let low : int_lt (covered_from m.task) most ≡ false = false_from_ne_true (int_lt (covered_from m.task) most) (λ lt. true≢false (sym parts.1 ∙ ap not lt)) in
-    let rises : most ≤ℤ covered_from m.task = omega (arith, ints) in
-    let each : All P (x ∷ xs) = λ k d l. let one = was.within k d l in omega (arith, ints) in
+    let each : All P (x ∷ xs) = grind (arith, nat_tests, ints) in
     record {
       ascending = all_pairs_push (λ (a b : Member). covered_from a.task ≤ℤ covered_from b.task) (x ∷ xs) m was.ascending each;
       within = All-push P (x ∷ xs) m each (omega (arith, ints));

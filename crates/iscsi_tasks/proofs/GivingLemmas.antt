@@ -50,22 +50,15 @@ next_in_above a t (m ∷ ms) all next = grind (arith, nat_tests, next_in_above a
 pub flags-given : (g : ℕ → Bool) (t : ℕ) (list : List Member) → InOrder list → next_in list ≡ Some t → All (λ m. m.given ≡ g m.task.ticket) list → All (λ m. m.given ≡ (t == m.task.ticket || g m.task.ticket)) (given_in list)
 flags-given g t [] order next all = All-nil (λ m. m.given ≡ (t == m.task.ticket || g m.task.ticket))
 flags-given g t (m ∷ ms) order next all =
-    let P : Member → Type 0 = λ k. k.given ≡ g k.task.ticket in
     let Q : Member → Type 0 = λ k. k.given ≡ (t == k.task.ticket || g k.task.ticket) in
-    let here = All-head P m ms all in let rest = All-tail P m ms all in
+    let rest = All-tail (λ k. k.given ≡ g k.task.ticket) m ms all in
     let above = InOrder-head m ms order in ⊎_elim
-    (λ new.
-    let given : Member = record { task = m.task; enabled = m.enabled; given = true } in
-    let found : Some m.task.ticket ≡ Some t = sym (next_in_new m ms new) ∙ next in
-    let e : m.task.ticket ≡ t = cc in
-    let itself : Q given = sym (ap (λ b. b || g m.task.ticket) (eq-eqb t m.task.ticket (sym e))) in
-    let others : All Q ms = λ k d l. let apart : m.task.ticket < (get_or ms k d).task.ticket = above k d l in let was : (get_or ms k d).given ≡ g (get_or ms k d).task.ticket = rest k d l in grind (arith, nat_tests) in
-    subst (λ (l : List Member). All Q l) (sym (given_in_new m ms new)) (All-cons Q given ms itself others))
+    (λ new. subst (λ (l : List Member). All Q l) (sym (given_in_new m ms new)) (All-cons Q (given_now m) ms (grind (arith, nat_tests, next_in_new m ms new))
+    (λ k d l. grind (arith, nat_tests, next_in_new m ms new, above k d l, rest k d l))))
     (λ old.
     let later : next_in ms ≡ Some t = sym (next_in_old m ms old) ∙ next in
-    let apart : m.task.ticket < t = next_in_above m.task.ticket t ms above later in
-    let itself : Q m = let was : m.given ≡ g m.task.ticket = here in grind (arith, nat_tests) in
-    subst (λ (l : List Member). All Q l) (sym (given_in_old m ms old)) (All-cons Q m (given_in ms) itself (flags-given g t ms (InOrder-tail m ms order) later rest)))
+    subst (λ (l : List Member). All Q l) (sym (given_in_old m ms old))
+    (All-cons Q m (given_in ms) (grind (arith, nat_tests, next_in_above m.task.ticket t ms above later, all 0 m (omega arith))) (flags-given g t ms (InOrder-tail m ms order) later rest)))
     (cases_Bool (is_new m))
 
 -- where nothing is new, nothing changes

@@ -7,8 +7,8 @@ use Rattle.std.proofs.lemmas.List.Elements.{All-map, All-nil, All-cons}
 use Rattle.std.proofs.lemmas.List.Folds.{map_fixed, list_any_at, list_any_none, Any-from_list_any}
 use Rattle.std.proofs.lemmas.List.Sums.{fails_before_first, passes_at_first, sum_by-cons}
 use Rattle.iscsi_tasks.specs.Rules.{bars_as}
-use Rattle.iscsi_tasks.proofs.Names.{nat_tests, Attr, Simple, Ordered, Head, Task, Member, Queued, is_head_of, is_ordered_of, bars, queued}
-use Rattle.iscsi_tasks.proofs.Names.{is_free_among, looked_at, after_moment, InOrder, is_head_in, is_ordered_in, enabled_now, IsSettled}
+use Rattle.iscsi_tasks.proofs.Names.{nat_tests, Attr, Simple, Ordered, Head, Task, Member, Queued, is_head_of, is_ordered_of, bars, queued, is_free_among}
+use Rattle.iscsi_tasks.proofs.Names.{looked_at, after_moment, InOrder, is_head_in, is_ordered_in, enabled_now, IsSettled}
 use Rattle.iscsi_tasks.proofs.ListLemmas.{list_any-map}
 
 -- the rules see the same commands after a moment

@@ -1,7 +1,6 @@
 use Rattle.std.proofs.Common.{◌≡◌, ◌<◌, get_or, ap, sym, arith, ⊎_elim}
 use Rattle.std.proofs.lemmas.Bool.{cases_eq, cases_lt, ltb-true, ltb-false}
-use Rattle.std.proofs.lemmas.Grind.{common_steps}
-use Rattle.iscsi_tasks.proofs.Names.{Member, BLANK}
+use Rattle.iscsi_tasks.proofs.Names.{common_steps, Member, BLANK}
 use Rattle.iscsi_tasks.proofs.MarkedLemmas.{within_some}
 use Rattle.iscsi_tasks.proofs.linked_queue.is_before.Goals as goal
 
@@ -14,13 +13,7 @@ returns-else-end-eq-ENDS-clause-yes c j k j_in k_in slot end is =
     let first : c.at.result.now.task.ticket ≡ (get_or list j BLANK).task.ticket = ap (λ (m : Member). m.task.ticket) (c.at.ensures j BLANK j_in (sym slot)) in
     let second : c.at-else-end-eq-ENDS.result.now.task.ticket ≡ (get_or list k BLANK).task.ticket = ap (λ (m : Member). m.task.ticket) (c.at-else-end-eq-ENDS.ensures k BLANK k_there (sym end)) in
     let lower = ltb-true c.at.result.now.task.ticket c.at-else-end-eq-ENDS.result.now.task.ticket is in
-    ⊎_elim
-    (λ below. below)
-    (λ above. ⊎_elim
-    (λ (same : k ≡ j). absurd (let e = ap (λ n. (get_or list n BLANK).task.ticket) same in omega (arith, lower, first, second, e)))
-    (λ other. absurd (let up : (get_or list k BLANK).task.ticket < (get_or list j BLANK).task.ticket = c.requires.order k j BLANK (omega (arith, above, other)) (omega (arith, j_in, long)) in omega (arith, lower, first, second, up)))
-    (cases_eq k j))
-    (cases_lt j k)
+    grind (arith, common_steps, c.requires.order k j BLANK)
 
 pub returns-else-end-eq-ENDS-clause-no : goal.returns-else-end-eq-ENDS-clause-no
 returns-else-end-eq-ENDS-clause-no c j k j_in k_in slot end is =

@@ -1,8 +1,7 @@
 use Rattle.std.proofs.Common.{◌∙◌, get_or, ap, sym, subst, arith}
 use Rattle.std.specs.List.{position_or_len}
-use Rattle.std.proofs.lemmas.Grind.{common_steps}
+use Rattle.iscsi_tasks.proofs.Names.{common_steps, Member, Marks, is_ordered_in, BLANK, Chained, IsMarked, IsPastNone, moved_off}
 use Rattle.iscsi_slots.proofs.SlotLemmas.{stands}
-use Rattle.iscsi_tasks.proofs.Names.{Member, Marks, is_ordered_in, BLANK, Chained, IsMarked, IsPastNone, moved_off}
 use Rattle.iscsi_tasks.specs.Marked.{left_by}
 use Rattle.iscsi_tasks.proofs.MarkedLemmas.{past_none, one_head, marked_left}
 use Rattle.iscsi_tasks.proofs.linked_queue.remove.Goals as goal

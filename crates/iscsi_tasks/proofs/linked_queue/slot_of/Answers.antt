@@ -1,7 +1,6 @@
 use Rattle.std.proofs.Common.{◌∙◌, ap, sym, arith}
-use Rattle.std.proofs.lemmas.Grind.{common_steps}
+use Rattle.iscsi_tasks.proofs.Names.{common_steps, Member}
 use Rattle.iscsi_slots.proofs.SlotLemmas.{stands}
-use Rattle.iscsi_tasks.proofs.Names.{Member}
 use Rattle.iscsi_tasks.proofs.linked_queue.slot_of.Goals as goal
 
 pub returns-then-at-ticket : goal.returns-then-at-ticket

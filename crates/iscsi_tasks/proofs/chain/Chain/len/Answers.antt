@@ -1,7 +1,6 @@
 use Rattle.std.proofs.Common.{◌∙◌, ap, sym, length, arith}
 use Rattle.std.proofs.lemmas.List.{length-map}
-use Rattle.std.proofs.lemmas.Grind.{common_steps}
-use Rattle.iscsi_tasks.proofs.Names.{Chained, order_in, member_at}
+use Rattle.iscsi_tasks.proofs.Names.{common_steps, Chained, order_in, member_at}
 use Rattle.iscsi_tasks.proofs.ChainedLemmas.{long, few, within}
 use Rattle.iscsi_tasks.proofs.chain.Chain.len.Goals as goal
 
