@@ -65,7 +65,7 @@ ordered_bars a task m is other ordered older = grind (arith, nat_tests, bars_ord
 
 -- every older one bars ORDERED
 pub older_bars : (task : Task) (m : Member) → task.attr ≡ Ordered → m.task.ticket < task.ticket → bars_in task m ≡ true
-older_bars task m is older = ap (λ a. bars_as a task.ticket (queued m.task)) is ∙ bars_ordered task.ticket (queued m.task) ∙ or_left _ _ (lt-ltb _ _ older)
+older_bars task m is older = grind (arith, nat_tests, bars_ordered)
 
 -- one that isn't older and isn't HEAD OF QUEUE bars nothing
 pub younger_passes : (a : Attr) (task : Task) (m : Member) → task.attr ≡ a → is_head_in m ≡ false → task.ticket ≤ m.task.ticket → bars_in task m ≡ false

@@ -69,6 +69,10 @@ module _ (covers : Task → Bool) where
   tickets_all xs k none =
       sym (ap (covered_tickets covers) (sym (take-append-drop k xs)) ∙ tickets_append (take k xs) (drop k xs) ∙ ap (λ r. covered_tickets covers (take k xs) ++ r) (tickets_none (drop k xs) none) ∙ append-nil (covered_tickets covers (take k xs)))
 
+-- the place of the command that is looked at
+pub place_in : (covers : Member → Bool) (list members : List Member) (slots : List ℕ) (k : ℕ) → k < length list → members ≡ kept_yet covers list k → length slots ≡ length members → passed covers list k < length slots
+place_in covers list members slots k l same long = let a = yet_inside covers list k l in let b = ap length same in omega (arith, a, b, long)
+
 pub none_left : (covers : Task → Bool) (ts : List Task) → All (λ t. covers t ≡ false) ts → filter covers ts ≡ []
 none_left covers [] none = refl
 none_left covers (t ∷ ts) none = ap (λ b. cond b (t ∷ filter covers ts) (filter covers ts)) (All-head (λ x. covers x ≡ false) t ts none) ∙ none_left covers ts (All-tail (λ x. covers x ≡ false) t ts none)

@@ -42,6 +42,7 @@ pub(crate) fn remove_covered(
 /// The commands that aren't covered stay. Those that leave do so from the oldest on. Where the numbers from which on
 /// functions may cover the commands go up along the set, it looks no further than the first one that is above the
 /// function's.
+#[tactic(auto, using(crate::proofs::MarkedLemmas::some_at, crate::proofs::PassingLemmas::place_in, std::proofs::lemmas::Grind::common_steps))]
 fn keep_uncovered(
     chain: &mut Chain,
     marks: &mut Marks,

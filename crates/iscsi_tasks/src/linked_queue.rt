@@ -81,6 +81,7 @@ pub(crate) fn remove(chain: &mut Chain, marks: &mut Marks, slot: u16)
 }
 
 /// The slot of the oldest ORDERED command, none of which is before slot `from`, and `ENDS` where there is none.
+#[tactic(auto, using(crate::proofs::MarkedLemmas::some_at, crate::proofs::MarkedLemmas::within_some, std::proofs::lemmas::Grind::common_steps))]
 fn next_ordered(chain: &Chain, from: u16) -> u16
     requires { IsPastNone chain.now.slots chain.now.members from }
     ensures { result ≡ slice_index_or chain.now.slots (position_or_len is_ordered_in chain.now.members) 0 }
@@ -111,7 +112,7 @@ pub(crate) fn let_go(chain: &mut Chain, marks: &mut Marks, slot: u16)
 }
 
 /// Enables the commands that became free as another one left.
-#[tactic(auto, using(crate::proofs::MarkedLemmas::span_to_end, std::proofs::lemmas::Grind::common_steps))]
+#[tactic(auto, using(crate::proofs::MarkedLemmas::span_to_end, crate::proofs::MarkedLemmas::some_at, crate::proofs::MarkedLemmas::within_some, std::proofs::lemmas::Grind::common_steps))]
 pub(crate) fn enable_free(chain: &mut Chain, marks: &mut Marks)
     requires { IsMarked marks.old chain.old.slots chain.old.members }
     ensures state { chain.new ≡ record chain.old { members = after_moment chain.old.members } }
@@ -247,7 +248,7 @@ fn enable(chain: &mut Chain, from: u16, to: u16)
 }
 
 /// Gives the oldest ticket that is enabled and wasn't given before.
-#[tactic(auto, using(crate::proofs::GivingLemmas::next_in_none, crate::proofs::PlaceLemmas::none_at_position, crate::proofs::GivingLemmas::given_in_none, crate::proofs::MarkedLemmas::marked_none, std::proofs::lemmas::Grind::common_steps))]
+#[tactic(auto, using(crate::proofs::MarkedLemmas::some_at, crate::proofs::GivingLemmas::next_in_none, crate::proofs::PlaceLemmas::none_at_position, crate::proofs::GivingLemmas::given_in_none, crate::proofs::MarkedLemmas::marked_none, std::proofs::lemmas::Grind::common_steps))]
 pub(crate) fn give_next(chain: &mut Chain, marks: &mut Marks) -> Option<u64>
     requires { IsMarked marks.old chain.old.slots chain.old.members }
     ensures ticket { result ≡ next_in chain.old.members }

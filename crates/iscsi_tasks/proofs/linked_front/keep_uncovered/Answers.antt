@@ -5,13 +5,9 @@ use Rattle.std.proofs.lemmas.Bool.{cases_eq}
 use Rattle.std.proofs.lemmas.List.{get_or_default, get_or-drop, length-drop, append_assoc, append-nil}
 use Rattle.std.proofs.lemmas.List.Edits.{get_or-remove_above}
 use Rattle.iscsi_tasks.proofs.Names.{common_steps, times, Task, Member, is_covered, IsAscending, covered_from, BLANK, Chained, member_of, covered_tickets}
-use Rattle.iscsi_tasks.proofs.PassingLemmas.{kept_yet, passed, yet_at, yet_inside, yet_without, yet_with, yet_all, tickets_more, tickets_all}
+use Rattle.iscsi_tasks.proofs.PassingLemmas.{place_in, kept_yet, passed, yet_at, yet_inside, yet_without, yet_with, yet_all, tickets_more, tickets_all}
 use Rattle.iscsi_tasks.proofs.MarkedLemmas.{some_at}
 use Rattle.iscsi_tasks.proofs.linked_front.keep_uncovered.Goals as goal
-
--- the place of the command that is looked at
-place_in : (covers : Member → Bool) (list members : List Member) (slots : List ℕ) (k : ℕ) → k < length list → members ≡ kept_yet covers list k → length slots ≡ length members → passed covers list k < length slots
-place_in covers list members slots k l same long = let a = yet_inside covers list k l in let b = ap length same in omega (arith, a, b, long)
 
 -- the command there, as it was read
 read_at : (covers : Member → Bool) (list members : List Member) (k : ℕ) (m : Member) → k < length list → members ≡ kept_yet covers list k → m ≡ get_or members (passed covers list k) BLANK → m ≡ get_or list k BLANK
@@ -24,15 +20,6 @@ none_behind covers list k m l read up past j d j_in =
     let inside : k + j < length list = omega (arith, j_in, long, l) in
     let here : covered_from m.task ≡ covered_from (get_or list k d).task = ap (λ (x : Member). covered_from x.task) (read ∙ get_or_default list k BLANK d l) in
     grind (arith, common_steps, get_or-drop, covered_from, ints)
-
-pub at-requires : goal.at-requires
-at-requires c = grind (arith, common_steps, some_at, passed, place_in)
-
-pub after-next-requires : goal.after-next-requires
-after-next-requires c = grind (arith, common_steps, some_at, passed, place_in)
-
-pub remove-requires-clause-there : goal.remove-requires-clause-there
-remove-requires-clause-there c = grind (arith, common_steps, some_at, passed, place_in)
 
 -- from here on none is covered
 rest : (c : goal.Then-is_past) → All (λ (x : Member). is_covered c.args.cover.now x.task ≡ false) (drop c.loop.counter c.args.chain.now.members)

@@ -34,26 +34,11 @@ returns-then-marks-gt0-clause-state c =
       | then-marks-gt0-via-then-marks-gt0 w ↦ let some = w.if-marks-gt0.true in
           sym (moment_with_heads list m.counted.order (omega (arith, some, heads, counted)) m.counted.heads_enabled)
       | then-marks-gt0-via-else-marks-gt0+then-marks-eq-ENDS w ↦
-          unchanged c.args.marks.now slots list m w.if-marks-gt0.false (⊎_elim
-          (λ below. absurd (not_end m.apart m.counts.enabled_to below (sym m.dormant ∙ w.if-marks-eq-ENDS.true)))
-          (λ past. let long = m.long in omega (arith, past, long))
-          (cases_lt m.counts.enabled_to (length slots)))
+          unchanged c.args.marks.now slots list m w.if-marks-gt0.false (grind (arith, common_steps, not_end m.apart m.counts.enabled_to, m.dormant, w.if-marks-eq-ENDS.true))
     ])
 
-dormant_there : (m : Marks) (slots : List ℕ) (list : List Member) (marked : IsMarked m slots list) → (m.dormant ≡ 0 → ⊥) → 1 ≤ times m.dormant slots
-dormant_there m slots list marked some = some_at slots marked.counts.enabled_to m.dormant (dormant_in m slots list marked some) (sym marked.dormant)
-
-pub is_before-requires-clause-there : goal.is_before-requires-clause-there
-is_before-requires-clause-there c = dormant_there c.args.marks.now c.args.chain.now.slots c.args.chain.now.members c.requires c.if-marks-eq-ENDS.false
-
 pub returns-then-not-is_before-clause-state : goal.returns-then-not-is_before-clause-state
-returns-then-not-is_before-clause-state c =
-    let slots = c.args.chain.now.slots in let list = c.args.chain.now.members in
-    let m = c.requires in
-    let some = dormant_in c.args.marks.now slots list m c.if-marks-eq-ENDS.false in
-    let le = first-le is_ordered_in list in let long = m.long in
-    let over = c.is_before.ensures.no m.counts.enabled_to (max 1 (position_or_len is_ordered_in list)) some (omega (arith, some, le, long)) m.dormant c.free_end-end.ensures c.if-not-is_before.true in
-    ap (λ ms. chained slots ms c.args.chain.now.room) (unchanged c.args.marks.now slots list m c.if-marks-gt0.false (omega (arith, over)))
+returns-then-not-is_before-clause-state c = grind (arith, common_steps, dormant_in, first-le, unchanged c.args.marks.now c.args.chain.now.slots c.args.chain.now.members c.requires)
 
 pub enable-requires : goal.enable-requires
 enable-requires c = grind (arith, common_steps, dormant_in, first-le)
@@ -68,6 +53,3 @@ returns-clause-state c = grind (arith, common_steps, enabled, moment_without_hea
 
 pub returns-clause-marked : goal.returns-clause-marked
 returns-clause-marked c = grind (arith, common_steps, enabled)
-
-pub with_enabled-enabled-requires-clause-there : goal.with_enabled-enabled-requires-clause-there
-with_enabled-enabled-requires-clause-there c = dormant_there c.args.marks.now c.args.chain.now.slots c.args.chain.now.members c.requires c.if-marks-eq-ENDS.false

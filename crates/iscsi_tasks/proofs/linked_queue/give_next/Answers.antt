@@ -10,15 +10,6 @@ use Rattle.iscsi_tasks.proofs.linked_queue.give_next.Goals as goal
 slot_in : {slots : List ℕ} {list : List Member} {slot : ℕ} → length slots ≡ length list → (is : IsFirstNew slots list slot) → is.place < length slots
 slot_in long is = let l = is.inside in omega (arith, l, long)
 
-pub after-marks-requires : goal.after-marks-requires
-after-marks-requires c = let is = c.in-Some.ensures in some_at c.args.chain.now.slots is.place c.in-Some.slot (slot_in c.requires.long is) is.there
-
-pub give-requires : goal.give-requires
-give-requires c = let is = c.in-Some.ensures in some_at c.args.chain.now.slots is.place c.in-Some.slot (slot_in c.requires.long is) is.there
-
-pub at-requires : goal.at-requires
-at-requires c = let is = c.in-Some.ensures in some_at c.args.chain.now.slots is.place c.in-Some.slot (slot_in c.requires.long is) is.there
-
 -- what is written
 written : (c : goal.After-give) → c.give.new.self ≡ chained c.args.chain.now.slots (set c.args.chain.now.members c.in-Some.ensures.place (given_now (get_or c.args.chain.now.members c.in-Some.ensures.place BLANK))) c.args.chain.now.room
 written c = let is = c.in-Some.ensures in c.give.ensures is.place BLANK (slot_in c.requires.long is) is.there

@@ -16,9 +16,6 @@ none_to_end slots list slot past long far = grind (arith, common_steps, no_place
 inside : (slots : List ℕ) (list : List Member) (slot : ℕ) (past : IsPastNone slots list slot) → (slot ≡ 0 → ⊥) → past.place < length slots
 inside slots list slot past some = within_some slots past.place slot past.there some
 
-pub at-requires : goal.at-requires
-at-requires c = grind (arith, common_steps, some_at, inside)
-
 pub returns-then-slot-eq-ENDS : goal.returns-then-slot-eq-ENDS
 returns-then-slot-eq-ENDS c =
     let slots = c.args.chain.now.slots in let list = c.args.chain.now.members in
@@ -26,11 +23,7 @@ returns-then-slot-eq-ENDS c =
     let long : length slots ≡ length list = let a = c.len-end.ensures.len in let b = c.len-end.ensures.slots in omega (arith, a, b) in
     elim c.then-slot-eq-ENDS.branch [
       | then-slot-eq-ENDS-via-then-slot-eq-ENDS w ↦
-          let far : length list ≤ past.place = ⊎_elim
-          (λ below. absurd (not_end c.len-end.ensures.apart past.place below (sym past.there ∙ w.if-slot-eq-ENDS.true)))
-          (λ above. omega (arith, above, long))
-          (cases_lt past.place (length slots)) in
-          w.if-slot-eq-ENDS.true ∙ none_to_end slots list c.loop.slot past long far
+          w.if-slot-eq-ENDS.true ∙ none_to_end slots list c.loop.slot past long (grind (arith, common_steps, not_end c.len-end.ensures.apart past.place, past.there, w.if-slot-eq-ENDS.true))
       | then-slot-eq-ENDS-via-else-slot-eq-ENDS+then-is_ordered w ↦
           let l = inside slots list c.loop.slot past w.if-slot-eq-ENDS.false in
           let d : Member = record { task = w.at.result.now.task; enabled = false; given = false } in
@@ -38,9 +31,6 @@ returns-then-slot-eq-ENDS c =
           (sym (ap is_ordered_in (w.at.ensures past.place d l (sym past.there))) ∙ sym w.is_ordered.ensures ∙ w.if-is_ordered.true) in
           past.there ∙ ap (λ n. get_or slots n 0) (sym here)
     ]
-
-pub after-slot-requires : goal.after-slot-requires
-after-slot-requires c = grind (arith, common_steps, some_at, inside)
 
 pub loop-preserved : goal.loop-preserved
 loop-preserved c =
@@ -54,11 +44,7 @@ loop-preserved c =
         place = past.place + 1;
         within = omega (arith, l, a, b);
         there = c.after-slot.ensures past.place l (sym past.there);
-        none = λ k d below. ⊎_elim
-            (λ before. past.none k d before)
-            (λ above. let here : k ≡ past.place = omega (arith, below, above) in
-            ap (λ n. is_ordered_in (get_or list n d)) here ∙ sym (ap is_ordered_in (c.at.ensures past.place d l (sym past.there))) ∙ sym c.is_ordered.ensures ∙ c.if-is_ordered.false)
-            (cases_lt k past.place);
+        none = grind (arith, common_steps, past.none, c.at.ensures past.place, c.is_ordered.ensures);
       };
       far = omega (arith, far);
     }
