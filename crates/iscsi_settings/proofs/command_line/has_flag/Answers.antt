@@ -1,9 +1,10 @@
-use Rattle.std.proofs.Common.{◌≡◌, ◌∙◌, not, ap, sym, refl, true, false, Option, Some, None, option_map, option_and_then, is_some, arith}
+use Rattle.std.proofs.Common.{◌≡◌, ◌∙◌, ap, true, false, Option, option_map, option_and_then, is_some, arith}
 use Rattle.std.specs.Prelude.{find}
 use Rattle.std.specs.Str.{bytes_eq}
 use Rattle.std.proofs.lemmas.Bool.{false≢true}
 use Rattle.std.specs.Option.{option_map_or}
 use Rattle.std.proofs.lemmas.Bool.Decides.{nat_tests}
+use Rattle.std.proofs.lemmas.Grind.{common_steps}
 use Rattle.clap.specs.declared.parser.matches.Found.{Found}
 use Rattle.clap.specs.declared.parser.matches.MatchedArg.{MatchedArg}
 use Rattle.clap.specs.declared.parser.matches.ValueSource.{ValueSource}
@@ -11,7 +12,7 @@ use Rattle.clap.specs.Facts.{explicit_source}
 use Rattle.clap.specs.Matches.{matched_of}
 use Rattle.clap.specs.Takes.{is_given}
 use Rattle.clap.specs.Walk.{Row, row_of, rows_of}
-use Rattle.clap.specs.Words.{Text, found_of}
+use Rattle.clap.specs.Words.{Text}
 use Rattle.clap.specs.Facts.{Entry}
 use Rattle.clap.proofs.WalkLemmas.{find_row}
 use Rattle.iscsi_settings.proofs.command_line.has_flag.Goals as goal
@@ -31,17 +32,7 @@ absent : (x : Option MatchedArg) → false ≡ is_some x → false ≡ option_ma
 absent x gone = grind (arith, nat_tests, false≢true)
 
 pub returns-else-contains_id : goal.returns-else-contains_id
-returns-else-contains_id c =
-    let f : Found = found_of c.args.matches.now in
-    c.if-contains_id.false ∙ absent (matched_of f c.args.id.now) (sym c.if-contains_id.false ∙ c.contains_id.ensures) ∙ sym (given_by_found f c.args.id.now)
+returns-else-contains_id c = grind (arith, common_steps, absent, given_by_found)
 
 pub returns-after-matches : goal.returns-after-matches
-returns-after-matches c =
-    let f : Found = found_of c.args.matches.now in
-    let explicit = by_source (matched_of f c.args.id.now) c.value_source.result (sym c.if-contains_id.true ∙ c.contains_id.ensures) c.value_source.ensures in
-    let shown : not c.match-matches.matches ≡ explicit_source c.value_source.result = elim c.match-matches.branch [
-      | in-Some-DefaultValue w ↦ cc
-      | in_default w ↦ cc
-      | in_default-2 w ↦ cc
-    ] in
-    shown ∙ explicit ∙ sym (given_by_found f c.args.id.now)
+returns-after-matches c = grind (arith, common_steps, by_source, given_by_found)
