@@ -14,7 +14,7 @@ use Rattle.iscsi_tasks.proofs.RuleLemmas.{stays_free}
 
 any_filter : {X : Type 0} (p q : X → Bool) (xs : List X) → list_any p (filter q xs) ≡ list_any (λ x. q x && p x) xs
 any_filter p q [] = refl
-any_filter p q (x ∷ xs) = grind (arith, nat_tests, any_filter p q xs, cond, filter, true, false)
+any_filter p q (x ∷ xs) = grind (arith, nat_tests, any_filter p q xs)
 
 any_kept : {X : Type 0} (q : X → Bool) (xs : List X) → list_any (λ x. true) (filter q xs) ≡ list_any q xs
 any_kept q [] = refl
@@ -32,7 +32,7 @@ filter_true (x ∷ xs) = ap (λ r. x ∷ r) (filter_true xs)
 
 filter_filter : {X : Type 0} (p q : X → Bool) (xs : List X) → filter (λ x. not (q x)) (filter (λ x. not (p x)) xs) ≡ filter (λ x. not (p x || q x)) xs
 filter_filter p q [] = refl
-filter_filter p q (x ∷ xs) = grind (arith, nat_tests, filter_filter p q xs, filter, not, cond, true, false)
+filter_filter p q (x ∷ xs) = grind (arith, nat_tests, filter_filter p q xs)
 
 -- one of these commands has this ticket
 abbrev has_ticket : List Task → ℕ → Bool
@@ -129,7 +129,7 @@ module _ (s : Members) (covers : Task → Bool) (h : List Change) (order : InOrd
       none_filtered (x ∷ xs) nothing = grind (arith, nat_tests, none_filtered xs)
 
   pub StandsFor-all_left : StandsFor (set_staying covers s) (after_all_left (filter covers (live h)) h)
-  StandsFor-all_left = grind (arith, nat_tests, cond, some_case, none_case)
+  StandsFor-all_left = grind (arith, nat_tests, some_case, none_case)
 
 -- so does the set that became so
 pub StandsFor-staying : (s : Members) (covers : Task → Bool) (h : List Change) → InOrder s.list → StandsFor s h → (t : Members) → t ≡ set_staying covers s → StandsFor t (after_all_left (filter covers (live h)) h)

@@ -8,7 +8,7 @@ use Rattle.iscsi_slots.proofs.ShareLemmas.{at_most_once, order_within}
 
 -- what a write to a node leaves as it is, it leaves of all
 pub kept_by_set : {X : Type 0} (f : Node → X) (nodes : List Node) (i j : ℕ) (n : Node) → i < length nodes → f n ≡ f (node_at nodes i) → f (node_at (set nodes i n) j) ≡ f (node_at nodes j)
-kept_by_set f nodes i j n l same = grind (arith, nat_tests, set, get_or-set_same, get_or-set_other)
+kept_by_set f nodes i j n l same = grind (arith, nat_tests, get_or-set_same, get_or-set_other)
 
 module _ (nodes : List Node) (first second : ℕ) where
   abbrev pointed : List Node
@@ -84,7 +84,7 @@ module _ {order : List ℕ} (apart : AreApart order) where
 
   -- places up to the end with the same slot are one
   pub same_to_end : (i j : ℕ) → i ≤ length order → j ≤ length order → get_or order i 0 ≡ get_or order j 0 → i ≡ j
-  same_to_end i j li lj same = grind (arith, nat_tests, same_place, not_end, get_or_past, length)
+  same_to_end i j li lj same = grind (arith, nat_tests, same_place, not_end, get_or_past)
 
 module _ {order free : List ℕ} {n room : ℕ} (shared : AreShared (0 ∷ order) free n room) where
   pub apart_in : AreApart order

@@ -34,13 +34,13 @@ module _ {nodes : List Node} {capacity free len room : ℕ} (chained : IsChained
 
   -- a place of the ring and the end of the order have slots of the ring
   in_ring : (k : ℕ) → k ≤ len → 1 ≤ times (get_or slots k 0) (0 ∷ slots)
-  in_ring k l = grind (arith, nat_tests, times_at, suc, get_or_past, length)
+  in_ring k l = grind (arith, nat_tests, times_at, get_or_past)
 
   pub last_inside : before_of nodes 0 < length nodes
-  last_inside = grind (arith, nat_tests, get_or, get_or_past, long, length, inside, times_at)
+  last_inside = grind (arith, nat_tests, get_or_past, long, inside, times_at)
 
   pub free_inside : len + 1 < length nodes → free < length nodes
-  free_inside some = grind (arith, nat_tests, none_beyond, length, suc, times_at)
+  free_inside some = grind (arith, nat_tests, none_beyond, times_at)
 
   -- ---- a member leaves
 
@@ -105,7 +105,7 @@ module _ {nodes : List Node} {capacity free len room : ℕ} (chained : IsChained
         ∙ chained.linked.after i (omega (arith, within, long))
 
     after_before : after_of now before ≡ after
-    after_before = grind (arith, nat_tests, long, same_place, once_in_ring, suc, before_is, get_or-set_other, after_here, before_in, after_in)
+    after_before = grind (arith, nat_tests, long, same_place, once_in_ring, before_is, get_or-set_other, after_here, before_in, after_in)
 
     before_other : (i : ℕ) → i ≤ len → i ≢ p → i ≢ p + 1 → before_of now (get_or slots i 0) ≡ get_or (0 ∷ slots) i 0
     before_other i within not_it not_after = grind (arith, nat_tests, long, same_to_end apart i, after_is, get_or-set_other, before_else nodes before after before_in after_in)
@@ -114,7 +114,7 @@ module _ {nodes : List Node} {capacity free len room : ℕ} (chained : IsChained
     before_after = grind (arith, nat_tests, long, same_to_end apart (p + 1) p, after_is, get_or-set_other, before_here nodes before after before_in after_in)
 
     linked_without : IsLinked now rest
-    linked_without = grind (arith, nat_tests, rest_long, ring_below, after_other, get_or-remove_below, get_or, before_is, after_before, after_is, get_or-remove_above, ring_above, before_other, before_after)
+    linked_without = grind (arith, nat_tests, rest_long, ring_below, after_other, get_or-remove_below, before_is, after_before, after_is, get_or-remove_above, ring_above, before_other, before_after)
 
     pub order_without : order_in now (len - 1) ≡ rest
     order_without =
@@ -166,7 +166,7 @@ module _ {nodes : List Node} {capacity free len room : ℕ} (chained : IsChained
     order_written = ap (λ s. order_from (set nodes slot n) s len) (after_written 0) ∙ order_same nodes (set nodes slot n) (after_of nodes 0) len (λ j some. after_written j)
 
     pub chained_written : IsChained (set nodes slot n) capacity free len room
-    chained_written = grind (arith, nat_tests, set, length, order_written, order_same, length-set, after_written, get_or, before_written)
+    chained_written = grind (arith, nat_tests, order_written, order_same, length-set, after_written, before_written)
 
   written_at : (n : Node) (k i : ℕ) (d : Member) → k < length slots → i < length slots → get_or (map (member_at (set nodes (get_or slots k 0) n)) slots) i d ≡ get_or (set (map (member_at nodes) slots) k (member_of n)) i d
   written_at n k i d l i_in =
@@ -209,7 +209,7 @@ module _ {nodes : List Node} {capacity free len room : ℕ} (chained : IsChained
     long_reused = ap length reused.written ∙ length-set nodes free node
 
     free_split : free_in nodes free len ≡ slot ∷ (left_in nodes n0 next len)
-    free_split = grind (arith, nat_tests, long_reused, length, suc)
+    free_split = grind (arith, nat_tests, long_reused)
 
     alone_reused : times slot (0 ∷ (order_in nodes len)) + times slot (left_in nodes n0 next len) ≡ 0
     alone_reused = grind (arith, nat_tests, at_most_once, free_split, times_at)
@@ -221,7 +221,7 @@ module _ {nodes : List Node} {capacity free len room : ℕ} (chained : IsChained
         grind (arith, nat_tests, long_reused, get_or-set_same nodes free node BLANK_NODE, get_or-set_other, alone_reused)
 
     shared_reused : AreShared (0 ∷ ((order_in nodes len) ++ slot ∷ [])) (left_in nodes n0 next len) (length n0) (room + 1)
-    shared_reused = grind (arith, nat_tests, long_reused, times_append, free_split, length_push, length)
+    shared_reused = grind (arith, nat_tests, long_reused, times_append, free_split, length_push)
 
   module _ (added : IsAdded nodes free len node n0 next slot) where
     long_added : length n0 ≡ length nodes + 1
@@ -237,7 +237,7 @@ module _ {nodes : List Node} {capacity free len room : ℕ} (chained : IsChained
         grind (arith, nat_tests, long_added, none_left, get_or_push nodes node BLANK_NODE slot, get_or_append_left)
 
     shared_added : AreShared (0 ∷ ((order_in nodes len) ++ slot ∷ [])) (left_in nodes n0 next len) (length n0) (room + 1)
-    shared_added = grind (arith, nat_tests, times_append, none_left, long_added, nat_tests, length_push, length)
+    shared_added = grind (arith, nat_tests, times_append, none_left, long_added, length_push)
 
   fresh_slot : IsTaken nodes free len node n0 next slot → Fresh nodes n0 (order_in nodes len) (left_in nodes n0 next len) node slot
   fresh_slot taken = ⊎_elim fresh_reused fresh_added taken
@@ -337,10 +337,10 @@ module _ {nodes : List Node} {capacity free len room : ℕ} (chained : IsChained
     not_last j some same = grind (arith, nat_tests, at_most_once (shared_with taken) j, times_at (0 ∷ (order_in nodes len)) len, last_is, long chained, times_append)
 
     pub chained_with : IsChained (entered_in nodes n0 slot) capacity next (len + 1) room
-    chained_with = grind (arith, nat_tests, length, order_with, order_same, after_old, not_last, length_linked, shared_with, linked_with, free_before, before_old, at_most_once, times_at)
+    chained_with = grind (arith, nat_tests, order_with, order_same, after_old, not_last, length_linked, shared_with, linked_with, free_before, before_old, at_most_once, times_at)
 
     pub members_with : map (member_at (entered_in nodes n0 slot)) (order_in (entered_in nodes n0 slot) (len + 1)) ≡ map (member_at nodes) (order_in nodes len) ++ member_of node ∷ []
-    members_with = grind (arith, nat_tests, map, order_with, map-append, members_same, member_linked, slot_n1, zero_n1, last_fresh, slot_fresh, is)
+    members_with = grind (arith, nat_tests, order_with, map-append, members_same, member_linked, slot_n1, zero_n1, last_fresh, slot_fresh, is)
 
 -- ---- a member is written in place
 

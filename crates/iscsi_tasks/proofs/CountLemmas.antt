@@ -18,7 +18,7 @@ first-le p xs = prefix_len-le-length (λ x. not (p x)) xs
 
 -- the place of the first one, with one more at the end
 first_push : (p : Member → Bool) (xs : List Member) (y : Member) (at : ℕ) → at ≡ position_or_len p xs → plus_one_if (at == length xs && not (p y)) at ≡ position_or_len p (xs ++ y ∷ [])
-first_push p xs y at is = grind (arith, nat_tests, length, eqb-true, not, cond, position_or_len_push, cond-true, cond-false)
+first_push p xs y at is = grind (arith, nat_tests, eqb-true, position_or_len_push, cond-true, cond-false)
 
 -- one command more, the last, with what is new between these places
 abbrev pub with_last : Counts → ℕ → Member → ℕ → ℕ → Counts
@@ -45,7 +45,7 @@ module _ (c : Counts) (list : List Member) (counted : IsCounted c list) (m : Mem
 -- ---- a command leaves
 
 pub shifted_cases : (at place : ℕ) → ((at < place) × (shifted_by at place ≡ place - 1)) ⊎ ((place ≤ at) × (shifted_by at place ≡ place))
-shifted_cases at place = grind (arith, nat_tests, inl, cond, lt-ltb, inr, le-ltb)
+shifted_cases at place = grind (arith, nat_tests, lt-ltb, le-ltb)
 
 -- a place between two others is between them still
 shifted_within : (at from to k j : ℕ) → ((k < at) × (j ≡ k)) ⊎ ((at ≤ k) × (j ≡ k + 1)) → from ≤ j → j < to → (shifted_by at from ≤ k) × (k < shifted_by at to)
@@ -138,7 +138,7 @@ parts-first (x ∷ xs) zero = refl
 parts-first (x ∷ xs) (suc n) = ap (λ s. cond {A = ℕ} (not (is_ordered_in x)) (1 + s) 0) (parts-first xs n)
 
 pub counted_enabled : (c : Counts) (list : List Member) (to : ℕ) → IsCounted c list → c.enabled_to < to → to ≤ length list → (new_from new_to : ℕ) → new_from ≤ c.enabled_to → to ≤ new_to → new_to ≤ length list → ((k : ℕ) (d : Member) → k < length list → is_new (get_or list k d) ≡ true → (new_from ≤ k) × (k < new_to)) → IsCounted (with_enabled c to new_from new_to) (enabled_up_to to list)
-counted_enabled c list to counted more inside new_from new_to low high upto between = grind (arith, nat_tests, length, get_or, parts-below, parts-above, parts-length, parts-task, parts-heads, parts-first, true, not)
+counted_enabled c list to counted more inside new_from new_to low high upto between = grind (arith, nat_tests, parts-below, parts-above, parts-length, parts-task, parts-heads, parts-first)
 
 -- ---- a ticket is given
 
@@ -146,4 +146,4 @@ pub counted_none : (c : Counts) (list : List Member) → IsCounted c list → Al
 counted_none c list counted none = grind (arith, nat_tests)
 
 pub counted_given : (c : Counts) (list : List Member) (at : ℕ) (m : Member) → IsCounted c list → at < length list → ((d : Member) → get_or list at d ≡ m) → ((k : ℕ) (d : Member) → k < at → is_new (get_or list k d) ≡ false) → IsCounted (record c { new_from = at + 1 }) (set list at (given_now m))
-counted_given c list at m counted within here before = grind (arith, nat_tests, get_or, set, get_or-set_same, get_or-set_other, length, length-set, sum_by-set, cond, position_or_len-set, true, and_right, false)
+counted_given c list at m counted within here before = grind (arith, nat_tests, get_or-set_same, get_or-set_other, length-set, sum_by-set, position_or_len-set, and_right)

@@ -9,7 +9,7 @@ use Rattle.iscsi_tasks.proofs.SearchLemmas.{find_place, find_nowhere}
 module _ (passes : Task → Bool) (s : Members) where
   -- none passes
   pub absent : position (λ m. passes m.task) s.list ≡ None → find passes (tasks_in s) ≡ None
-  absent none = grind (arith, nat_tests, find-map, option_map, find_nowhere, none_at_position)
+  absent none = grind (arith, nat_tests, find-map, find_nowhere, none_at_position)
 
   -- the one at this place is the oldest that passes
   pub present : (at : ℕ) (task : Task) → position (λ m. passes m.task) s.list ≡ Some at → ((d : Member) → task ≡ (get_or s.list at d).task) → find passes (tasks_in s) ≡ Some task

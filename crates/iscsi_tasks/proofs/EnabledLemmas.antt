@@ -39,7 +39,7 @@ module _ (s : Members) (h : List Change) (st : StandsFor s h) where
   task_at k d within = ap (λ ts. get_or ts k d.task) (sym st.tasks) ∙ get_or-map (λ m. m.task) s.list k d d.task within
 
   pub enabled_told : (ticket : ℕ) → is_enabled_in ticket s.list ≡ true → IsEnabled ticket h
-  enabled_told ticket told = grind (arith, nat_tests, Any-from_list_any, and_parts, get_or, task_at, true, length, long, eqb-true, moment_of)
+  enabled_told ticket told = grind (arith, nat_tests, Any-from_list_any, and_parts, task_at, long, eqb-true, moment_of)
 
   pub told_enabled : (ticket : ℕ) → IsEnabled ticket h → is_enabled_in ticket s.list ≡ true
   told_enabled ticket (task, same, (k, inside, in_live), was) =

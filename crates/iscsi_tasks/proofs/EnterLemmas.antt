@@ -12,7 +12,7 @@ use Rattle.iscsi_tasks.proofs.MomentLemmas.{bars_in, free_among, free_none, free
 use Rattle.iscsi_tasks.proofs.CountLemmas.{first-le}
 
 still_settled : (list : List Member) (m : Member) → IsSettled list → All (λ x. (x.enabled || is_free_among x.task (list ++ m ∷ [])) ≡ x.enabled) list
-still_settled list m settled k d l = grind (arith, nat_tests, get_or, or_left, false, bars_in, not-false, free_among, list_any-append)
+still_settled list m settled k d l = grind (arith, nat_tests, or_left, bars_in, not-false, free_among, list_any-append)
 
 module _ (c : Counts) (task : Task) where
   -- ORDERED is free where it is alone
@@ -53,7 +53,7 @@ module _ (c : Counts) (task : Task) where
 
   -- the set after the moment: the command stands last, enabled where it is free
   pub moment_entered : (list : List Member) → IsCounted c list → IsSettled list → All (λ m. m.task.ticket < task.ticket) list → after_moment (list ++ record { task = task; enabled = false; given = false } ∷ []) ≡ list ++ record { task = task; enabled = is_free_behind c (length list) task.attr; given = false } ∷ []
-  moment_entered list counted settled newest = grind (arith, nat_tests, false, map-append, map-looked_same, still_settled, free_last)
+  moment_entered list counted settled newest = grind (arith, nat_tests, map-append, map-looked_same, still_settled, free_last)
 
   -- and every command that is free is enabled still
   pub settled_entered : (list : List Member) → IsCounted c list → IsSettled list → All (λ m. m.task.ticket < task.ticket) list → (enabled given : Bool) → enabled ≡ is_free_behind c (length list) task.attr → IsSettled (list ++ record { task = task; enabled = enabled; given = given } ∷ [])

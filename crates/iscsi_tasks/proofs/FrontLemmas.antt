@@ -24,7 +24,7 @@ module _ (xs ys : List Member) (same : map (λ m. m.task) ys ≡ map (λ m. m.ta
       sym (get_or-map (λ (m : Member). m.task) ys k d d.task within) ∙ ap (λ (ts : List Task). get_or ts k d.task) same ∙ get_or-map (λ (m : Member). m.task) xs k d d.task inside
 
   pub ascending_alike : (most : ℤ) → IsAscendingTo most xs → IsAscendingTo most ys
-  ascending_alike most up = grind (arith, nat_tests, get_or, task_alike, long_alike)
+  ascending_alike most up = grind (arith, nat_tests, task_alike, long_alike)
 
 -- ---- a set that changes
 

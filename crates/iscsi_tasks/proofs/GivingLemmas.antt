@@ -29,7 +29,7 @@ InOrder-head m ms order k d within = order 0 (suc k) d (omega arith) (omega arit
 -- giving leaves the commands as they are
 pub tasks-given : (list : List Member) → map (λ m. m.task) (given_in list) ≡ map (λ m. m.task) list
 tasks-given [] = refl
-tasks-given (m ∷ ms) = grind (arith, nat_tests, tasks-given ms, map, given_in_new, given_in_old)
+tasks-given (m ∷ ms) = grind (arith, nat_tests, tasks-given ms, given_in_new, given_in_old)
 
 -- what holds of the members holds still, where it holds of one that is given
 all-given : (P : Member → Type 0) (list : List Member) → ((m : Member) → P m → P (given_now m)) → All P list → All P (given_in list)
@@ -69,7 +69,7 @@ given_in_none (m ∷ ms) next = grind (arith, nat_tests, given_in_none ms, next_
 -- ---- the history
 
 pub next_from_history : (s : Members) (h : List Change) → StandsFor s h → next_in s.list ≡ next_after h
-next_from_history s h st = grind (arith, nat_tests, Bool, not, find, find-agree, get_or, option_map, find-map)
+next_from_history s h st = grind (arith, nat_tests, find-agree, find-map)
 
 StandsFor-giving_of : (s : Members) (next : Option ℕ) (h : List Change) → next_in s.list ≡ next → InOrder s.list → StandsFor s h → StandsFor (given_by s) (after_giving next h)
 StandsFor-giving_of s None h none order st = subst (λ (l : List Member). StandsFor (record s { list = l }) h) (sym (given_in_none s.list none)) st

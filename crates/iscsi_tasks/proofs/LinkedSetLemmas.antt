@@ -38,7 +38,7 @@ in_slots kept = grind (arith, nat_tests)
 pub free_is : {m : Marks} {slots : List ℕ} {list : List Member} (marked : IsMarked m slots list) (attr : Attr) → is_free_by m (length list) attr ≡ is_free_behind marked.counts (length list) attr
 free_is marked Head = refl
 free_is marked Ordered = refl
-free_is {m} {slots} {list} marked Simple = grind (arith, nat_tests, first-le, ne_eqb, not_end, length, eq-eqb, get_or_past)
+free_is {m} {slots} {list} marked Simple = grind (arith, nat_tests, first-le, ne_eqb, not_end, eq-eqb, get_or_past)
 
 -- ---- the command with a ticket
 

@@ -51,10 +51,10 @@ module _ (slots : List ℕ) (s : ℕ) (apart : AreApart slots) where
 
   -- a mark that is the end moves to the new slot
   mark_new : (p mark : ℕ) → mark ≡ get_or slots p 0 → cond (mark == 0) s mark ≡ get_or (slots ++ s ∷ []) (min p (length slots)) 0
-  mark_new p mark is = grind (arith, nat_tests, cond, ne_eqb, not_end, get_or, min, length, at_old, eq-eqb, get_or_past, get_or_push)
+  mark_new p mark is = grind (arith, nat_tests, ne_eqb, not_end, at_old, eq-eqb, get_or_past, get_or_push)
 
   mark_stays : (p mark : ℕ) → mark ≡ get_or slots p 0 → mark ≡ get_or (slots ++ s ∷ []) (bumped p) 0
-  mark_stays p mark is = grind (arith, nat_tests, lt-ltb, le-ltb, get_or, at_old, get_or_past, at_end, length)
+  mark_stays p mark is = grind (arith, nat_tests, lt-ltb, le-ltb, at_old, get_or_past, at_end)
 
 -- the marks are right by these counts
 abbrev AreMarks : Marks → Counts → List ℕ → List Member → Type 0
@@ -110,7 +110,7 @@ module _ (slots : List ℕ) (apart : AreApart slots) (p : ℕ) (l : p < length s
     where
       -- a mark of another place is another slot
       other : (at mark : ℕ) → mark ≡ get_or slots at 0 → at ≢ p → mark ≢ slot
-      other at mark is apart_from same = grind (arith, nat_tests, same_to_end, not_end, get_or_past, length)
+      other at mark is apart_from same = grind (arith, nat_tests, same_to_end, not_end, get_or_past)
 
 module _ {m : Marks} {slots : List ℕ} {list : List Member} (marked : IsMarked m slots list) (p : ℕ) (l : p < length slots) (slot next : ℕ) (slot_is : get_or slots p 0 ≡ slot) (next_is : next ≡ get_or slots (p + 1) 0) where
   in_list : p < length list
@@ -144,7 +144,7 @@ span_to_end slots p mark is = grind (arith, nat_tests, get_or_past, get_or_past 
 
 module _ {m : Marks} {slots : List ℕ} {list : List Member} (marked : IsMarked m slots list) where
   pub none_marked : is_none_marked m ≡ true → All (λ x. is_new x ≡ false) list
-  none_marked none k d l = grind (arith, nat_tests, same_to_end, eqb-true, get_or)
+  none_marked none k d l = grind (arith, nat_tests, same_to_end, eqb-true)
 
   pub marked_enabled_first : is_none_marked m ≡ true → (to end : ℕ) → marked.counts.enabled_to < to → to ≤ length list → end ≡ get_or slots to 0 → IsMarked (enabled_by m end m.dormant end) slots (enabled_up_to to list)
   marked_enabled_first none to end more within end_is =

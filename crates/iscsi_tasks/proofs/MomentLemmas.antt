@@ -146,4 +146,4 @@ map_parts f g (x ∷ xs) (suc n) below above = ap (λ y. y ∷ map f xs) (below 
 
 -- otherwise the first ones are enabled
 pub moment_without_heads : (list : List Member) (n : ℕ) → InOrder list → count_by is_head_in list ≡ 0 → n ≡ min (length list) (max 1 (position_or_len is_ordered_in list)) → after_moment list ≡ map enabled_now (take n list) ++ drop n list
-moment_without_heads list n order none is = grind (arith, nat_tests, none_counted, map_parts, get_or, free_below, or_right, true, free_above, or_false)
+moment_without_heads list n order none is = grind (arith, nat_tests, none_counted, map_parts, free_below, or_right, free_above, or_false)

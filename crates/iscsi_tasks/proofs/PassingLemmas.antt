@@ -20,11 +20,11 @@ module _ {X : Type 0} (covers : X → Bool) where
 
   -- the next one stands behind those that stay
   pub yet_at : (xs : List X) (k : ℕ) (d : X) → k < length xs → get_or (kept_yet xs k) (passed xs k) d ≡ get_or xs k d
-  yet_at (x ∷ xs) (suc k) d l = grind (arith, nat_tests, yet_at xs k d (omega arith), get_or, count_stays)
+  yet_at (x ∷ xs) (suc k) d l = grind (arith, nat_tests, yet_at xs k d (omega arith), count_stays)
   yet_at xs k d l = grind (arith, nat_tests)
 
   pub yet_inside : (xs : List X) (k : ℕ) → k < length xs → passed xs k < length (kept_yet xs k)
-  yet_inside (x ∷ xs) (suc k) l = grind (arith, nat_tests, yet_inside xs k (omega arith), length, count_stays)
+  yet_inside (x ∷ xs) (suc k) l = grind (arith, nat_tests, yet_inside xs k (omega arith), count_stays)
   yet_inside xs k l = grind (arith, nat_tests)
 
   -- it leaves
@@ -47,7 +47,7 @@ module _ {X : Type 0} (covers : X → Bool) where
 
 module _ (covers : Task → Bool) where
   tickets_append : (xs ys : List Member) → covered_tickets covers (xs ++ ys) ≡ covered_tickets covers xs ++ covered_tickets covers ys
-  tickets_append xs ys = grind (arith, nat_tests, map, filter, map-append, filter-append)
+  tickets_append xs ys = grind (arith, nat_tests, map-append, filter-append)
 
   tickets_one : (m : Member) (b : Bool) → covers m.task ≡ b → covered_tickets covers (m ∷ []) ≡ cond b (m.task.ticket ∷ []) []
   tickets_one m b is = ap (λ c. map (λ (t : Task). t.ticket) (cond c (m.task ∷ []) [])) is ∙ both b

@@ -31,4 +31,4 @@ enabled_so_far xs n within enabled = sym (ap (λ r. r ++ drop n xs) (map-enabled
 
 -- where no place is answered, none passes
 pub none_at_position : {X : Type 0} (p : X → Bool) (xs : List X) → position p xs ≡ None → All (λ x. p x ≡ false) xs
-none_at_position p xs none k d within = grind (arith, nat_tests, Some, None, position_of, fails_before_first, length)
+none_at_position p xs none k d within = grind (arith, nat_tests, position_of, fails_before_first)

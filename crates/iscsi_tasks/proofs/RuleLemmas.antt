@@ -6,7 +6,7 @@ use Rattle.iscsi_tasks.proofs.Names.{nat_tests, bars, StaysFree}
 
 none_kept : {X : Type 0} (p q : X → Bool) (xs : List X) → list_any p xs ≡ false → list_any p (filter q xs) ≡ false
 none_kept p q [] none = refl
-none_kept p q (x ∷ xs) none = grind (arith, nat_tests, none_kept p q xs, or_parts, cond, filter, or_from)
+none_kept p q (x ∷ xs) none = grind (arith, nat_tests, none_kept p q xs, or_parts, or_from)
 
 -- a command that is free stays free when others leave
 pub stays_free : StaysFree

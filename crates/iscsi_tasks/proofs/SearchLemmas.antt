@@ -22,13 +22,13 @@ find_nowhere p (x ∷ xs) none = ap (λ b. cond b (Some x) (find p xs)) (All-hea
 
 module _ (list : List Member) (order : InOrder list) (ticket k : ℕ) (within : k < length list) (here : (d : Member) → (get_or list k d).task.ticket ≡ ticket) where
   apart : (j : ℕ) (d : Member) → j < length list → j ≢ k → ((get_or list j d).task.ticket == ticket) ≡ false
-  apart j d l ne = grind (arith, nat_tests, ne_eqb, get_or)
+  apart j d l ne = grind (arith, nat_tests, ne_eqb)
 
   pub found : (d : Member) → with_ticket ticket (map (λ m. m.task) list) ≡ Some (get_or list k d).task
-  found d = grind (arith, nat_tests, place_is, apart, eq-eqb, find-map, option_map, find_place)
+  found d = grind (arith, nat_tests, place_is, apart, eq-eqb, find-map, find_place)
 
   pub enabled_at : (d : Member) → (get_or list k d).enabled ≡ is_enabled_in ticket list
-  enabled_at d = grind (arith, nat_tests, list_any_at, and_from, eq-eqb, list_any_none, and_right, get_or, false, get_or_default, and_left, apart)
+  enabled_at d = grind (arith, nat_tests, list_any_at, and_from, eq-eqb, list_any_none, and_right, get_or_default, and_left, apart)
 
   -- and of the one that was read there
   pub enabled_read : (m : Member) → ((d : Member) → m ≡ get_or list k d) → m.enabled ≡ is_enabled_in ticket list

@@ -10,7 +10,7 @@ use Rattle.iscsi_tasks.proofs.MomentLemmas.{settled_after}
 
 pub filter-shorter : {X : Type 0} (p : X → Bool) (xs : List X) → length (filter p xs) ≤ length xs
 filter-shorter p [] = omega arith
-filter-shorter p (x ∷ xs) = grind (arith, nat_tests, filter-shorter p xs, length, filter, cond)
+filter-shorter p (x ∷ xs) = grind (arith, nat_tests, filter-shorter p xs)
 
 -- where as many stay, none leaves, and else one does
 pub all_stay : {X : Type 0} (p : X → Bool) (xs : List X) → length (filter (λ x. not (p x)) xs) ≡ length xs → list_any p xs ≡ false
@@ -27,15 +27,15 @@ all_stay p (x ∷ xs) same = ⊎_elim
 
 pub none_leaves : {X : Type 0} (p : X → Bool) (xs : List X) → list_any p xs ≡ false → filter (λ x. not (p x)) xs ≡ xs
 none_leaves p [] none = refl
-none_leaves p (x ∷ xs) none = grind (arith, nat_tests, none_leaves p xs, true, or_left, false, cond, not, filter)
+none_leaves p (x ∷ xs) none = grind (arith, nat_tests, none_leaves p xs, or_left)
 
 module _ (covers : Task → Bool) (list : List Member) where
   pub staying_cases : (P : List Member → Type 0) → (list_any (λ m. covers m.task) list ≡ false → P list) → (list_any (λ m. covers m.task) list ≡ true → P (after_moment (uncovered covers list))) → P (list_staying covers list)
-  staying_cases P none some = grind (arith, nat_tests, cond)
+  staying_cases P none some = grind (arith, nat_tests)
 
   -- what is left, by how many there are
   pub staying_same : (rest : List Member) → rest ≡ uncovered covers list → length rest ≡ length list → rest ≡ list_staying covers list
-  staying_same rest is same = grind (arith, nat_tests, false, all_stay, length, none_leaves, cond)
+  staying_same rest is same = grind (arith, nat_tests, all_stay, none_leaves)
 
   pub staying_fewer : (rest : List Member) → rest ≡ uncovered covers list → length rest ≢ length list → after_moment rest ≡ list_staying covers list
   staying_fewer rest is fewer = staying_cases (λ l. after_moment rest ≡ l)
@@ -43,13 +43,13 @@ module _ (covers : Task → Bool) (list : List Member) where
       (λ some. ap after_moment is)
 
   pub length-staying : length (list_staying covers list) ≤ length list
-  length-staying = grind (arith, nat_tests, staying_cases, length, filter-shorter, not, length-map)
+  length-staying = grind (arith, nat_tests, staying_cases, filter-shorter, length-map)
 
   pub settled-staying : IsSettled list → IsSettled (list_staying covers list)
   settled-staying settled = staying_cases IsSettled (λ none. settled) (λ some. settled_after (uncovered covers list))
 
 pub staying_set : (covers : Task → Bool) (s : Members) → record s { list = list_staying covers s.list } ≡ set_staying covers s
-staying_set covers s = grind (arith, nat_tests, cond)
+staying_set covers s = grind (arith, nat_tests)
 
 -- where none is covered, the set stays as it is
 pub set_stays : (covers : Task → Bool) (s : Members) → All (λ t. covers t ≡ false) (tasks_in s) → set_staying covers s ≡ s

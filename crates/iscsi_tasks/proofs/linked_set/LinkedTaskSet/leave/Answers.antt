@@ -9,7 +9,7 @@ absent : (c : goal.After-from_residual) → with_ticket c.args.ticket (tasks_in 
 absent c = ap (λ (s : Members). with_ticket c.args.ticket (tasks_in s)) (sym c.self.view_is) ∙ not_found c.self.inside.tasks.shown.list c.args.ticket c.in_err-slot.ensures
 
 pub returns-in_err-slot : goal.returns-in_err-slot
-returns-in_err-slot c = grind (arith, common_steps, absent, left_by, common_steps)
+returns-in_err-slot c = grind (arith, common_steps, absent, left_by)
 
 pub returns-clause-answer : goal.returns-clause-answer
 returns-clause-answer c =
