@@ -79,7 +79,13 @@ covered_by_ticket covers tasks order k d within =
 tasks_ordered : (list : List Member) → InOrder list → AllPairs (λ (a b : Task). a.ticket < b.ticket) (map (λ m. m.task) list)
 tasks_ordered list order i j d below within =
     let m : Member = record { task = d; enabled = false; given = false } in
-    grind (arith, length-map list (λ (x : Member). x.task), order i j m, get_or-map (λ (x : Member). x.task) list i m d, get_or-map (λ (x : Member). x.task) list j m d)
+    grind (
+      arith,
+      length-map list (λ (x : Member). x.task),
+      order i j m,
+      get_or-map (λ (x : Member). x.task) list i m d,
+      get_or-map (λ (x : Member). x.task) list j m d,
+    )
 
 module _ (s : Members) (covers : Task → Bool) (h : List Change) (order : InOrder s.list) (st : StandsFor s h) where
   abbrev ts : List Task

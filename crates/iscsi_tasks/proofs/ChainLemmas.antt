@@ -73,8 +73,8 @@ times_here s order = grind (arith, nat_tests)
 pub same_place : (order : List ℕ) → ((s : ℕ) → times s order ≤ 1) → (i j : ℕ) → i < length order → j < length order → get_or order i 0 ≡ get_or order j 0 → i ≡ j
 same_place [] once i j li lj same = absurd (omega arith)
 same_place (s ∷ order) once zero zero li lj same = refl
-same_place (s ∷ order) once zero (suc j) li lj same = grind (arith, nat_tests, times_at, times_here, times_at order j (omega arith), times_here s order)
-same_place (s ∷ order) once (suc i) zero li lj same = grind (arith, nat_tests, times_at, times_here, times_at order i (omega arith), times_here s order)
+same_place (s ∷ order) once zero (suc j) li lj same = grind (arith, nat_tests, times_at order j (omega arith), times_here s order)
+same_place (s ∷ order) once (suc i) zero li lj same = grind (arith, nat_tests, times_at order i (omega arith), times_here s order)
 same_place (s ∷ order) once (suc i) (suc j) li lj same = ap suc (same_place order (λ t. let one = once t in omega (arith, one)) i j (omega arith) (omega arith) same)
 
 module _ {order : List ℕ} (apart : AreApart order) where

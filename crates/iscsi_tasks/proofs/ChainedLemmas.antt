@@ -108,13 +108,29 @@ module _ {nodes : List Node} {capacity free len room : ℕ} (chained : IsChained
     after_before = grind (arith, nat_tests, long, same_place, once_in_ring, before_is, get_or-set_other, after_here, before_in, after_in)
 
     before_other : (i : ℕ) → i ≤ len → i ≢ p → i ≢ p + 1 → before_of now (get_or slots i 0) ≡ get_or (0 ∷ slots) i 0
-    before_other i within not_it not_after = grind (arith, nat_tests, long, same_to_end apart i, after_is, get_or-set_other, before_else nodes before after before_in after_in)
+    before_other i within not_it not_after =
+        grind (arith, nat_tests, long, same_to_end apart i, after_is, get_or-set_other, before_else nodes before after before_in after_in)
 
     before_after : before_of now after ≡ before
     before_after = grind (arith, nat_tests, long, same_to_end apart (p + 1) p, after_is, get_or-set_other, before_here nodes before after before_in after_in)
 
     linked_without : IsLinked now rest
-    linked_without = grind (arith, nat_tests, rest_long, ring_below, after_other, get_or-remove_below, before_is, after_before, after_is, get_or-remove_above, ring_above, before_other, before_after)
+    linked_without =
+        grind (
+          arith,
+          nat_tests,
+          rest_long,
+          ring_below,
+          after_other,
+          get_or-remove_below,
+          before_is,
+          after_before,
+          after_is,
+          get_or-remove_above,
+          ring_above,
+          before_other,
+          before_after,
+        )
 
     pub order_without : order_in now (len - 1) ≡ rest
     order_without =
@@ -145,7 +161,27 @@ module _ {nodes : List Node} {capacity free len room : ℕ} (chained : IsChained
         ∙ after_else nodes before after before_in after_in j (not_free before j before_used some)))
 
     pub chained_without : IsChained now capacity slot (len - 1) room
-    chained_without = grind (arith, nat_tests, order_without, free_without, now_long, times_remove, length-remove, linked_without, get_or-set_same, slot_closed, get_or-set_other, before_else, before_in, after_in, not_free, after_is, in_ring, long, length-remove slots p l)
+    chained_without =
+        grind (
+          arith,
+          nat_tests,
+          order_without,
+          free_without,
+          now_long,
+          times_remove,
+          linked_without,
+          get_or-set_same,
+          slot_closed,
+          get_or-set_other,
+          before_else,
+          before_in,
+          after_in,
+          not_free,
+          after_is,
+          in_ring,
+          long,
+          length-remove slots p l,
+        )
 
     pub members_without : map (member_at now) (order_in now (len - 1)) ≡ remove (map (member_at nodes) slots) p
     members_without =
@@ -171,7 +207,16 @@ module _ {nodes : List Node} {capacity free len room : ℕ} (chained : IsChained
   written_at : (n : Node) (k i : ℕ) (d : Member) → k < length slots → i < length slots → get_or (map (member_at (set nodes (get_or slots k 0) n)) slots) i d ≡ get_or (set (map (member_at nodes) slots) k (member_of n)) i d
   written_at n k i d l i_in =
       let there = inside_order chained.shared (get_or slots k 0) (times_at slots k l) in
-      grind (arith, nat_tests, get_or-map (member_at (set nodes (get_or slots k 0) n)) slots i 0 d, get_or-map (member_at nodes) slots i 0 d, get_or-set_same, get_or-set_other, same_place slots apart.once i k, length-map slots (member_at nodes))
+      grind (
+        arith,
+        nat_tests,
+        get_or-map (member_at (set nodes (get_or slots k 0) n)) slots i 0 d,
+        get_or-map (member_at nodes) slots i 0 d,
+        get_or-set_same,
+        get_or-set_other,
+        same_place slots apart.once i k,
+        length-map slots (member_at nodes),
+      )
 
   pub members_written : (n : Node) (k : ℕ) → k < length slots → n.after ≡ after_of nodes (get_or slots k 0) → n.before ≡ before_of nodes (get_or slots k 0)
       → map (member_at (set nodes (get_or slots k 0) n)) (order_in (set nodes (get_or slots k 0) n) len) ≡ set (map (member_at nodes) slots) k (member_of n)
@@ -327,17 +372,50 @@ module _ {nodes : List Node} {capacity free len room : ℕ} (chained : IsChained
     old_before k below = grind (arith, nat_tests, before_old (get_or (order_in nodes len) k 0), ring_old (suc k), not_end (apart chained) k, long chained)
 
     linked_with : IsLinked (entered_in nodes n0 slot) (order_in nodes len ++ slot ∷ [])
-    linked_with = grind (arith, nat_tests, order_long, same_ring, same_order, old_after, old_before, last_is, after_last, after_new, order_last, order_past, ring_last, before_new, before_zero)
+    linked_with =
+        grind (
+          arith,
+          nat_tests,
+          order_long,
+          same_ring,
+          same_order,
+          old_after,
+          old_before,
+          last_is,
+          after_last,
+          after_new,
+          order_last,
+          order_past,
+          ring_last,
+          before_new,
+          before_zero,
+        )
 
     pub order_with : order_in (entered_in nodes n0 slot) (len + 1) ≡ (order_in nodes len ++ slot ∷ [])
     order_with = ap (order_in (entered_in nodes n0 slot)) (sym order_long) ∙ order_is (entered_in nodes n0 slot) 0 (order_in nodes len ++ slot ∷ []) (λ k k_in. linked_with.after k (omega (arith, k_in)))
 
     -- a slot that is free isn't the last one
     not_last : (j : ℕ) → 1 ≤ times j (left_in nodes n0 next len) → j ≢ (before_of nodes 0)
-    not_last j some same = grind (arith, nat_tests, at_most_once (shared_with taken) j, times_at (0 ∷ (order_in nodes len)) len, last_is, long chained, times_append)
+    not_last j some same =
+        grind (arith, nat_tests, at_most_once (shared_with taken) j, times_at (0 ∷ (order_in nodes len)) len, last_is, long chained, times_append)
 
     pub chained_with : IsChained (entered_in nodes n0 slot) capacity next (len + 1) room
-    chained_with = grind (arith, nat_tests, order_with, order_same, after_old, not_last, length_linked, shared_with, linked_with, free_before, before_old, at_most_once, times_at)
+    chained_with =
+        grind (
+          arith,
+          nat_tests,
+          order_with,
+          order_same,
+          after_old,
+          not_last,
+          length_linked,
+          shared_with,
+          linked_with,
+          free_before,
+          before_old,
+          at_most_once,
+          times_at,
+        )
 
     pub members_with : map (member_at (entered_in nodes n0 slot)) (order_in (entered_in nodes n0 slot) (len + 1)) ≡ map (member_at nodes) (order_in nodes len) ++ member_of node ∷ []
     members_with = grind (arith, nat_tests, order_with, map-append, members_same, member_linked, slot_n1, zero_n1, last_fresh, slot_fresh, is)

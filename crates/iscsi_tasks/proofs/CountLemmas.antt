@@ -40,7 +40,18 @@ counted_none_yet = grind (arith, nat_tests)
 
 module _ (c : Counts) (list : List Member) (counted : IsCounted c list) (m : Member) (newest : All (λ x. x.task.ticket < m.task.ticket) list) (head : is_head_in m ≡ true → m.enabled ≡ true) where
   pub counted_push : (from to : ℕ) → to ≤ length list + 1 → ((k : ℕ) (d : Member) → k < length list → is_new (get_or list k d) ≡ true → (from ≤ k) × (k < to)) → (is_new m ≡ true → (from ≤ length list) × (length list < to)) → IsCounted (with_last c (length list) m from to) (list ++ m ∷ [])
-  counted_push from to upto old new = grind (arith, nat_tests, all_pairs_push, sum_by_push, first_push, length_push, get_or_append_left, get_or_push, All-push, first_push is_ordered_in list m c.ordered_at counted.ordered_at, length_push list m)
+  counted_push from to upto old new =
+      grind (
+        arith,
+        nat_tests,
+        all_pairs_push,
+        sum_by_push,
+        get_or_append_left,
+        get_or_push,
+        All-push,
+        first_push is_ordered_in list m c.ordered_at counted.ordered_at,
+        length_push list m,
+      )
 
 -- ---- a command leaves
 
@@ -138,7 +149,8 @@ parts-first (x ∷ xs) zero = refl
 parts-first (x ∷ xs) (suc n) = ap (λ s. cond {A = ℕ} (not (is_ordered_in x)) (1 + s) 0) (parts-first xs n)
 
 pub counted_enabled : (c : Counts) (list : List Member) (to : ℕ) → IsCounted c list → c.enabled_to < to → to ≤ length list → (new_from new_to : ℕ) → new_from ≤ c.enabled_to → to ≤ new_to → new_to ≤ length list → ((k : ℕ) (d : Member) → k < length list → is_new (get_or list k d) ≡ true → (new_from ≤ k) × (k < new_to)) → IsCounted (with_enabled c to new_from new_to) (enabled_up_to to list)
-counted_enabled c list to counted more inside new_from new_to low high upto between = grind (arith, nat_tests, parts-below, parts-above, parts-length, parts-task, parts-heads, parts-first)
+counted_enabled c list to counted more inside new_from new_to low high upto between =
+    grind (arith, nat_tests, parts-below, parts-above, parts-length, parts-task, parts-heads, parts-first)
 
 -- ---- a ticket is given
 
@@ -146,4 +158,5 @@ pub counted_none : (c : Counts) (list : List Member) → IsCounted c list → Al
 counted_none c list counted none = grind (arith, nat_tests)
 
 pub counted_given : (c : Counts) (list : List Member) (at : ℕ) (m : Member) → IsCounted c list → at < length list → ((d : Member) → get_or list at d ≡ m) → ((k : ℕ) (d : Member) → k < at → is_new (get_or list k d) ≡ false) → IsCounted (record c { new_from = at + 1 }) (set list at (given_now m))
-counted_given c list at m counted within here before = grind (arith, nat_tests, get_or-set_same, get_or-set_other, length-set, sum_by-set, position_or_len-set, and_right)
+counted_given c list at m counted within here before =
+    grind (arith, nat_tests, get_or-set_same, get_or-set_other, length-set, sum_by-set, position_or_len-set, and_right)

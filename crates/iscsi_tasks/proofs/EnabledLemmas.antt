@@ -45,7 +45,14 @@ module _ (s : Members) (h : List Change) (st : StandsFor s h) where
   told_enabled ticket (task, same, (k, inside, in_live), was) =
       let within : k < length s.list = omega (arith, long) in
       let d : Member = record { task = task; enabled = false; given = false } in
-      grind (arith, nat_tests, task_at k d within, flag_of task h was, st.enabled k d within, list_any_at (λ x. x.task.ticket == ticket && x.enabled) s.list k d within)
+      grind (
+        arith,
+        nat_tests,
+        task_at k d within,
+        flag_of task h was,
+        st.enabled k d within,
+        list_any_at (λ x. x.task.ticket == ticket && x.enabled) s.list k d within,
+      )
 
 -- the flag, in terms of the history
 pub enabled_is : (s : Members) (ticket : ℕ) (b : Bool) → b ≡ is_enabled_in ticket s.list → (h : List Change) → StandsFor s h → IsTrue b ↔ IsEnabled ticket h

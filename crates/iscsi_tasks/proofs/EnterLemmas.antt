@@ -19,7 +19,7 @@ module _ (c : Counts) (task : Task) where
   free_ordered : (list : List Member) → task.attr ≡ Ordered → All (λ m. m.task.ticket < task.ticket) list → is_free_among task (list ++ record { task = task; enabled = false; given = false } ∷ []) ≡ (length list == 0)
   free_ordered [] is newest =
       free_none task (record { task = task; enabled = false; given = false } ∷ []) (All-push (λ m. bars_in task m ≡ false) [] (record { task = task; enabled = false; given = false }) (λ k d l. absurd (omega arith)) (younger_passes Ordered task (record { task = task; enabled = false; given = false }) is (ap is_head_of is) (omega arith)))
-  free_ordered (x ∷ xs) is newest = grind (arith, nat_tests, free_barred, older_bars, ne_eqb, older_bars task x is (newest 0 x (omega arith)))
+  free_ordered (x ∷ xs) is newest = grind (arith, nat_tests, free_barred, ne_eqb, older_bars task x is (newest 0 x (omega arith)))
 
   -- SIMPLE is free where no HEAD OF QUEUE and no ORDERED is in front
   free_simple : (list : List Member) → IsCounted c list → task.attr ≡ Simple → All (λ m. m.task.ticket < task.ticket) list → is_free_among task (list ++ record { task = task; enabled = false; given = false } ∷ []) ≡ (c.heads == 0 && c.ordered_at == length list)

@@ -32,7 +32,13 @@ pub ascending_none : (most : ℤ) → IsAscendingTo most []
 ascending_none most = record { ascending = λ i j d below within. absurd (omega (arith, within)); within = All-nil (λ (m : Member). covered_from m.task ≤ℤ most) }
 
 pub ascending_filter : (most : ℤ) (p : Member → Bool) (list : List Member) → IsAscendingTo most list → IsAscendingTo most (filter p list)
-ascending_filter most p list up = grind (arith, nat_tests, AllPairs-filter, All-filter, AllPairs-filter (λ (a b : Member). covered_from a.task ≤ℤ covered_from b.task) p list up.ascending, All-filter p (λ (m : Member). covered_from m.task ≤ℤ most) list up.within)
+ascending_filter most p list up =
+    grind (
+      arith,
+      nat_tests,
+      AllPairs-filter (λ (a b : Member). covered_from a.task ≤ℤ covered_from b.task) p list up.ascending,
+      All-filter p (λ (m : Member). covered_from m.task ≤ℤ most) list up.within,
+    )
 
 -- a moment passes
 ascending_looked : (most : ℤ) (list : List Member) → IsAscendingTo most list → IsAscendingTo most (after_moment list)
@@ -67,4 +73,5 @@ ascending_push ascends most (x ∷ xs) m kept up =
 
 -- one more is looked at
 pub ascending_more : (ascends : Bool) (most : ℤ) (list : List Member) (k : ℕ) (m : Member) → k < length list → m ≡ get_or list k m → (ascends ≡ true → IsAscendingTo most (take k list)) → ascends_with ascends most k m.task ≡ true → IsAscendingTo (covered_from m.task) (take (k + 1) list)
-ascending_more ascends most list k m within read kept up = grind (arith, nat_tests, length-take-le, take_more, ascending_push, length-take-le k list (omega arith), take_more list k m within)
+ascending_more ascends most list k m within read kept up =
+    grind (arith, nat_tests, ascending_push, length-take-le k list (omega arith), take_more list k m within)

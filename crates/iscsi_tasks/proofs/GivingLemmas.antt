@@ -36,7 +36,16 @@ all-given : (P : Member → Type 0) (list : List Member) → ((m : Member) → P
 all-given P [] kept all = all
 all-given P (m ∷ ms) kept all =
     let rest = all-given P ms kept (All-tail P m ms all) in
-    grind (arith, nat_tests, given_in_new, given_in_old, All-cons P (given_now m) ms, All-cons P m (given_in ms) (all 0 m (omega arith)) rest, kept m (all 0 m (omega arith)), All-tail P m ms all)
+    grind (
+      arith,
+      nat_tests,
+      given_in_new,
+      given_in_old,
+      All-cons P (given_now m) ms,
+      All-cons P m (given_in ms) (all 0 m (omega arith)) rest,
+      kept m (all 0 m (omega arith)),
+      All-tail P m ms all,
+    )
 
 pub enabled-given : (e : Task → Bool) (list : List Member) → All (λ m. m.enabled ≡ e m.task) list → All (λ m. m.enabled ≡ e m.task) (given_in list)
 enabled-given e list all = all-given (λ m. m.enabled ≡ e m.task) list (λ m here. here) all
@@ -44,7 +53,8 @@ enabled-given e list all = all-given (λ m. m.enabled ≡ e m.task) list (λ m h
 -- the ticket that comes next is that of a member
 pub next_in_above : (a t : ℕ) (list : List Member) → All (λ m. a < m.task.ticket) list → next_in list ≡ Some t → a < t
 next_in_above a t [] all next = cc
-next_in_above a t (m ∷ ms) all next = grind (arith, nat_tests, next_in_above a t ms (All-tail (λ k. a < k.task.ticket) m ms all), all 0 m (omega arith), next_in_new m ms, next_in_old m ms)
+next_in_above a t (m ∷ ms) all next =
+    grind (arith, nat_tests, next_in_above a t ms (All-tail (λ k. a < k.task.ticket) m ms all), all 0 m (omega arith), next_in_new m ms, next_in_old m ms)
 
 -- after it is given, the flags tell so
 pub flags-given : (g : ℕ → Bool) (t : ℕ) (list : List Member) → InOrder list → next_in list ≡ Some t → All (λ m. m.given ≡ g m.task.ticket) list → All (λ m. m.given ≡ (t == m.task.ticket || g m.task.ticket)) (given_in list)
@@ -73,7 +83,8 @@ next_from_history s h st = grind (arith, nat_tests, find-agree, find-map)
 
 StandsFor-giving_of : (s : Members) (next : Option ℕ) (h : List Change) → next_in s.list ≡ next → InOrder s.list → StandsFor s h → StandsFor (given_by s) (after_giving next h)
 StandsFor-giving_of s None h none order st = subst (λ (l : List Member). StandsFor (record s { list = l }) h) (sym (given_in_none s.list none)) st
-StandsFor-giving_of s (Some t) h next order st = grind (arith, tasks-given s.list, enabled-given (λ k. was_free k h) s.list st.enabled, flags-given (λ k. was_given k h) t s.list order next st.given)
+StandsFor-giving_of s (Some t) h next order st =
+    grind (arith, tasks-given s.list, enabled-given (λ k. was_free k h) s.list st.enabled, flags-given (λ k. was_given k h) t s.list order next st.given)
 
 pub StandsFor-giving : (s : Members) (h : List Change) → InOrder s.list → StandsFor s h → (next_in s.list ≡ next_after h) × StandsFor (given_by s) (after_giving (next_in s.list) h)
 StandsFor-giving s h order st = (next_from_history s h st, StandsFor-giving_of s (next_in s.list) h refl order st)

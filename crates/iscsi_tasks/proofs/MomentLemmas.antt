@@ -84,7 +84,16 @@ ordered_of a ordered = grind (arith, nat_tests)
 -- without HEAD OF QUEUE: those before the oldest ORDERED, and the oldest of all
 module _ (list : List Member) (order : InOrder list) (plain : All (λ m. is_head_in m ≡ false) list) where
   passes_below : (k j : ℕ) (d e : Member) → k < length list → j < length list → k < max 1 (position_or_len is_ordered_in list) → bars_in (get_or list k d).task (get_or list j e) ≡ false
-  passes_below k j d e within l below = grind (arith, nat_tests, simple_passes, fails_before_first, younger_passes, get_or_default, fails_before_first is_ordered_in list k d, fails_before_first is_ordered_in list j e, get_or_default list j d e l)
+  passes_below k j d e within l below =
+      grind (
+        arith,
+        nat_tests,
+        simple_passes,
+        younger_passes,
+        fails_before_first is_ordered_in list k d,
+        fails_before_first is_ordered_in list j e,
+        get_or_default list j d e l,
+      )
 
   pub free_below : (k : ℕ) (d : Member) → k < length list → k < max 1 (position_or_len is_ordered_in list) → is_free_among (get_or list k d).task list ≡ true
   free_below k d within below = free_none (get_or list k d).task list (λ j e l. passes_below k j d e within l below)
@@ -116,7 +125,8 @@ barred_by_head list h k d order inside within head plain =
 
 pub none_counted : (p : Member → Bool) (xs : List Member) → count_by p xs ≡ 0 → All (λ m. p m ≡ false) xs
 none_counted p [] zero_all = All-nil (λ m. p m ≡ false)
-none_counted p (x ∷ xs) zero_all = grind (arith, nat_tests, none_counted p xs, All-cons (λ m. p m ≡ false) x xs, sum_by-cons (λ (m : Member). cond {A = ℕ} (p m) 1 0) x xs)
+none_counted p (x ∷ xs) zero_all =
+    grind (arith, nat_tests, none_counted p xs, All-cons (λ m. p m ≡ false) x xs, sum_by-cons (λ (m : Member). cond {A = ℕ} (p m) 1 0) x xs)
 
 pub some_counted : (p : Member → Bool) (xs : List Member) → 0 < count_by p xs → list_any p xs ≡ true
 some_counted p [] some = absurd (omega arith)

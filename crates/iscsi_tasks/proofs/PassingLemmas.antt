@@ -43,7 +43,7 @@ module _ {X : Type 0} (covers : X → Bool) where
 
   -- from here on none is covered
   pub yet_all : (xs : List X) (k : ℕ) → All (λ x. covers x ≡ false) (drop k xs) → kept_yet xs k ≡ filter (λ x. not (covers x)) xs
-  yet_all xs k none = grind (arith, nat_tests, none_filtered, filter-append, take-append-drop, none_filtered (drop k xs) none, take-append-drop k xs)
+  yet_all xs k none = grind (arith, nat_tests, filter-append, none_filtered (drop k xs) none, take-append-drop k xs)
 
 module _ (covers : Task → Bool) where
   tickets_append : (xs ys : List Member) → covered_tickets covers (xs ++ ys) ≡ covered_tickets covers xs ++ covered_tickets covers ys

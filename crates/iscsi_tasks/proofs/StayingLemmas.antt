@@ -53,4 +53,4 @@ staying_set covers s = grind (arith, nat_tests)
 
 -- where none is covered, the set stays as it is
 pub set_stays : (covers : Task → Bool) (s : Members) → All (λ t. covers t ≡ false) (tasks_in s) → set_staying covers s ≡ s
-set_stays covers s none = grind (arith, nat_tests, list_any-map, list_any_none, list_any_none covers (tasks_in s) none)
+set_stays covers s none = grind (arith, nat_tests, list_any-map, list_any_none covers (tasks_in s) none)

@@ -38,7 +38,8 @@ returns-then-marks-gt0-clause-state c =
     ])
 
 pub returns-then-not-is_before-clause-state : goal.returns-then-not-is_before-clause-state
-returns-then-not-is_before-clause-state c = grind (arith, common_steps, dormant_in, first-le, unchanged c.args.marks.now c.args.chain.now.slots c.args.chain.now.members c.requires)
+returns-then-not-is_before-clause-state c =
+    grind (arith, common_steps, dormant_in, first-le, unchanged c.args.marks.now c.args.chain.now.slots c.args.chain.now.members c.requires)
 
 pub enable-requires : goal.enable-requires
 enable-requires c = grind (arith, common_steps, dormant_in, first-le)
