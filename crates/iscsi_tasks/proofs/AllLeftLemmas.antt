@@ -1,7 +1,7 @@
 -- The history of commands that leave together: it is as if they left one after the other.
-use Rattle.std.proofs.Common.{◌≡◌, ◌∙◌, ◌<◌, ℕ, ◌==◌, ◌||◌, ◌&&◌, not, cond, Bool, true, false, List, [], ◌∷◌, length, map, filter, get_or, All, refl, ap, sym, subst, arith, ⊎_elim, true≢false, ne_eqb, eq-eqb}
+use Rattle.std.proofs.Common.{◌≡◌, ◌∙◌, ◌<◌, ℕ, ◌==◌, ◌||◌, ◌&&◌, not, cond, Bool, true, false, List, [], ◌∷◌, length, map, filter, get_or, All, refl, ap, sym, subst, arith, ⊎_elim, true≢false, eq-eqb}
 use Rattle.std.specs.List.{list_any, AllPairs}
-use Rattle.std.proofs.lemmas.Bool.{cases_Bool, cases_eq, cases_lt, and_parts, and_from, and_left, and_right}
+use Rattle.std.proofs.lemmas.Bool.{cases_Bool, and_parts, and_from}
 use Rattle.std.proofs.lemmas.List.{get_or_default, get_or-map, length-map}
 use Rattle.std.proofs.lemmas.List.Elements.{All-filter, All-head, All-tail, All-map}
 use Rattle.std.proofs.lemmas.List.Folds.{list_any_at, list_any_none}
@@ -79,13 +79,7 @@ covered_by_ticket covers tasks order k d within =
 tasks_ordered : (list : List Member) → InOrder list → AllPairs (λ (a b : Task). a.ticket < b.ticket) (map (λ m. m.task) list)
 tasks_ordered list order i j d below within =
     let m : Member = record { task = d; enabled = false; given = false } in
-    grind (
-      arith,
-      length-map list (λ (x : Member). x.task),
-      order i j m,
-      get_or-map (λ (x : Member). x.task) list i m d,
-      get_or-map (λ (x : Member). x.task) list j m d,
-    )
+    grind (arith, length-map list (λ (x : Member). x.task), order i j m, get_or-map (λ (x : Member). x.task) list i m d, get_or-map (λ (x : Member). x.task) list j m d)
 
 module _ (s : Members) (covers : Task → Bool) (h : List Change) (order : InOrder s.list) (st : StandsFor s h) where
   abbrev ts : List Task

@@ -1,7 +1,6 @@
 -- A chain stays one as a member enters, as one leaves, and as one is written.
 use Rattle.std.proofs.Common.{◌≡◌, ◌≢◌, ℕ, suc, ◌+◌, ◌-◌, ◌<◌, ◌≤◌, List, [], ◌∷◌, ◌++◌, length, map, get_or, set, refl, ap, sym, subst, ◌∙◌, arith, ⊎_elim}
 use Rattle.std.specs.List.{remove}
-use Rattle.std.proofs.lemmas.Bool.{cases_eq}
 use Rattle.iscsi_tasks.proofs.Names.{nat_tests, times, AreShared, Member, Node, AreApart, Chained, chained, BLANK_NODE, node_at, after_of, before_of, member_of}
 use Rattle.iscsi_tasks.proofs.Names.{member_at, order_from, order_in, free_in, linked_to, freed_before, IsLinked, IsChained, IsReused, IsAdded, IsTaken}
 use Rattle.std.proofs.lemmas.List.{get_or-set_same, get_or-set_other, get_or_past, get_or_push, get_or_append_left, get_or-map, get_or_default, same_lists, length-set, length_push, length-map, map-append}
@@ -116,21 +115,7 @@ module _ {nodes : List Node} {capacity free len room : ℕ} (chained : IsChained
 
     linked_without : IsLinked now rest
     linked_without =
-        grind (
-          arith,
-          nat_tests,
-          rest_long,
-          ring_below,
-          after_other,
-          get_or-remove_below,
-          before_is,
-          after_before,
-          after_is,
-          get_or-remove_above,
-          ring_above,
-          before_other,
-          before_after,
-        )
+        grind (arith, nat_tests, rest_long, ring_below, after_other, get_or-remove_below, before_is, after_before, after_is, get_or-remove_above, ring_above, before_other, before_after)
 
     pub order_without : order_in now (len - 1) ≡ rest
     order_without =
@@ -162,26 +147,7 @@ module _ {nodes : List Node} {capacity free len room : ℕ} (chained : IsChained
 
     pub chained_without : IsChained now capacity slot (len - 1) room
     chained_without =
-        grind (
-          arith,
-          nat_tests,
-          order_without,
-          free_without,
-          now_long,
-          times_remove,
-          linked_without,
-          get_or-set_same,
-          slot_closed,
-          get_or-set_other,
-          before_else,
-          before_in,
-          after_in,
-          not_free,
-          after_is,
-          in_ring,
-          long,
-          length-remove slots p l,
-        )
+        grind (arith, nat_tests, order_without, free_without, now_long, times_remove, linked_without, get_or-set_same, slot_closed, get_or-set_other, before_else, before_in, after_in, not_free, after_is, in_ring, long, length-remove slots p l)
 
     pub members_without : map (member_at now) (order_in now (len - 1)) ≡ remove (map (member_at nodes) slots) p
     members_without =
@@ -207,16 +173,7 @@ module _ {nodes : List Node} {capacity free len room : ℕ} (chained : IsChained
   written_at : (n : Node) (k i : ℕ) (d : Member) → k < length slots → i < length slots → get_or (map (member_at (set nodes (get_or slots k 0) n)) slots) i d ≡ get_or (set (map (member_at nodes) slots) k (member_of n)) i d
   written_at n k i d l i_in =
       let there = inside_order chained.shared (get_or slots k 0) (times_at slots k l) in
-      grind (
-        arith,
-        nat_tests,
-        get_or-map (member_at (set nodes (get_or slots k 0) n)) slots i 0 d,
-        get_or-map (member_at nodes) slots i 0 d,
-        get_or-set_same,
-        get_or-set_other,
-        same_place slots apart.once i k,
-        length-map slots (member_at nodes),
-      )
+      grind (arith, nat_tests, get_or-map (member_at (set nodes (get_or slots k 0) n)) slots i 0 d, get_or-map (member_at nodes) slots i 0 d, get_or-set_same, get_or-set_other, same_place slots apart.once i k, length-map slots (member_at nodes))
 
   pub members_written : (n : Node) (k : ℕ) → k < length slots → n.after ≡ after_of nodes (get_or slots k 0) → n.before ≡ before_of nodes (get_or slots k 0)
       → map (member_at (set nodes (get_or slots k 0) n)) (order_in (set nodes (get_or slots k 0) n) len) ≡ set (map (member_at nodes) slots) k (member_of n)
@@ -373,23 +330,7 @@ module _ {nodes : List Node} {capacity free len room : ℕ} (chained : IsChained
 
     linked_with : IsLinked (entered_in nodes n0 slot) (order_in nodes len ++ slot ∷ [])
     linked_with =
-        grind (
-          arith,
-          nat_tests,
-          order_long,
-          same_ring,
-          same_order,
-          old_after,
-          old_before,
-          last_is,
-          after_last,
-          after_new,
-          order_last,
-          order_past,
-          ring_last,
-          before_new,
-          before_zero,
-        )
+        grind (arith, nat_tests, order_long, same_ring, same_order, old_after, old_before, last_is, after_last, after_new, order_last, order_past, ring_last, before_new, before_zero)
 
     pub order_with : order_in (entered_in nodes n0 slot) (len + 1) ≡ (order_in nodes len ++ slot ∷ [])
     order_with = ap (order_in (entered_in nodes n0 slot)) (sym order_long) ∙ order_is (entered_in nodes n0 slot) 0 (order_in nodes len ++ slot ∷ []) (λ k k_in. linked_with.after k (omega (arith, k_in)))
@@ -401,21 +342,7 @@ module _ {nodes : List Node} {capacity free len room : ℕ} (chained : IsChained
 
     pub chained_with : IsChained (entered_in nodes n0 slot) capacity next (len + 1) room
     chained_with =
-        grind (
-          arith,
-          nat_tests,
-          order_with,
-          order_same,
-          after_old,
-          not_last,
-          length_linked,
-          shared_with,
-          linked_with,
-          free_before,
-          before_old,
-          at_most_once,
-          times_at,
-        )
+        grind (arith, nat_tests, order_with, order_same, after_old, not_last, length_linked, shared_with, linked_with, free_before, before_old, at_most_once, times_at)
 
     pub members_with : map (member_at (entered_in nodes n0 slot)) (order_in (entered_in nodes n0 slot) (len + 1)) ≡ map (member_at nodes) (order_in nodes len) ++ member_of node ∷ []
     members_with = grind (arith, nat_tests, order_with, map-append, members_same, member_linked, slot_n1, zero_n1, last_fresh, slot_fresh, is)

@@ -41,17 +41,7 @@ counted_none_yet = grind (arith, nat_tests)
 module _ (c : Counts) (list : List Member) (counted : IsCounted c list) (m : Member) (newest : All (λ x. x.task.ticket < m.task.ticket) list) (head : is_head_in m ≡ true → m.enabled ≡ true) where
   pub counted_push : (from to : ℕ) → to ≤ length list + 1 → ((k : ℕ) (d : Member) → k < length list → is_new (get_or list k d) ≡ true → (from ≤ k) × (k < to)) → (is_new m ≡ true → (from ≤ length list) × (length list < to)) → IsCounted (with_last c (length list) m from to) (list ++ m ∷ [])
   counted_push from to upto old new =
-      grind (
-        arith,
-        nat_tests,
-        all_pairs_push,
-        sum_by_push,
-        get_or_append_left,
-        get_or_push,
-        All-push,
-        first_push is_ordered_in list m c.ordered_at counted.ordered_at,
-        length_push list m,
-      )
+      grind (arith, nat_tests, all_pairs_push, sum_by_push, get_or_append_left, get_or_push, All-push, first_push is_ordered_in list m c.ordered_at counted.ordered_at, length_push list m)
 
 -- ---- a command leaves
 

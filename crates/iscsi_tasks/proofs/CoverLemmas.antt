@@ -1,5 +1,5 @@
 -- The oldest command that passes a test, by the place that a search along the set gave.
-use Rattle.std.proofs.Common.{◌≡◌, ℕ, Bool, false, Some, None, position, find, option_map, get_or, arith}
+use Rattle.std.proofs.Common.{◌≡◌, ℕ, Bool, false, Some, None, position, find, get_or, arith}
 use Rattle.std.proofs.lemmas.List.Quantifiers.{position-Some}
 use Rattle.iscsi_tasks.proofs.Names.{nat_tests, Task, Member, Members, tasks_in}
 use Rattle.iscsi_tasks.proofs.ListLemmas.{find-map}

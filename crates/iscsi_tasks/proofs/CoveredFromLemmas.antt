@@ -1,11 +1,10 @@
 -- From which number on functions may cover commands of a set.
-use Rattle.std.proofs.Common.{◌≡◌, ◌∙◌, ◌&&◌, ◌==◌, not, Bool, ℕ, zero, suc, ◌<◌, ℤ, ◌≤ℤ◌, cond, true, false, nat_lt, int_lt, List, [], ◌∷◌, ◌++◌, length, map, get_or, All, ap, sym, subst, arith}
+use Rattle.std.proofs.Common.{◌≡◌, ◌∙◌, ◌==◌, not, Bool, ℕ, zero, suc, ◌<◌, ℤ, ◌≤ℤ◌, cond, true, false, List, [], ◌∷◌, ◌++◌, length, map, get_or, All, ap, sym, subst, arith}
 use Rattle.std.specs.Int.{int_min}
 use Rattle.std.specs.List.{fold}
-use Rattle.std.specs.Ordering.{int_eq}
 use Rattle.std.proofs.lemmas.Int.{ints, clamps}
 use Rattle.std.proofs.lemmas.Bool.{and_left, and_right, or_from, ne_eqb, false_from_ne_true, true_from_ne_false}
-use Rattle.iscsi_tasks.proofs.Names.{nat_tests, Task, Cover, Below, Member, is_covered, after_moment, without, uncovered, list_staying, IsCoveredFrom, is_below}
+use Rattle.iscsi_tasks.proofs.Names.{nat_tests, Task, Cover, Member, is_covered, after_moment, without, uncovered, list_staying, IsCoveredFrom, is_below}
 use Rattle.iscsi_tasks.proofs.Names.{covered_from, greatest_number, covered_from_with, covered_from_in, covered_from_first, IsAscending}
 use Rattle.std.proofs.lemmas.Bool.Decides.{Decides-int_eq}
 use Rattle.std.proofs.lemmas.List.Elements.{All-cons, All-filter, All-map, All-nil, All-push}

@@ -1,6 +1,6 @@
 -- A flag tells that there was a moment.
-use Rattle.std.proofs.Common.{◌≡◌, ◌↔◌, ℕ, ◌<◌, ◌==◌, ◌&&◌, Bool, IsTrue, true, false, List, [], ◌∷◌, ◌++◌, length, get_or, ap, sym, ◌∙◌, arith, eq-eqb}
-use Rattle.std.proofs.lemmas.Bool.{or_cases, or_left, or_right, and_parts, and_from, eqb-true}
+use Rattle.std.proofs.Common.{◌≡◌, ◌↔◌, ℕ, ◌<◌, ◌==◌, ◌&&◌, Bool, IsTrue, true, false, List, [], ◌∷◌, ◌++◌, length, get_or, ap, sym, ◌∙◌, arith}
+use Rattle.std.proofs.lemmas.Bool.{or_cases, or_left, or_right, and_parts, eqb-true}
 use Rattle.std.proofs.lemmas.List.{length-map, get_or-map}
 use Rattle.std.proofs.lemmas.List.Folds.{Any-from_list_any, list_any_at}
 use Rattle.iscsi_tasks.proofs.Names.{nat_tests, Task, Member, Members, is_enabled_in, Change, Entered, Left, Gave, live, is_free_in, was_free, IsMoment}
@@ -45,14 +45,7 @@ module _ (s : Members) (h : List Change) (st : StandsFor s h) where
   told_enabled ticket (task, same, (k, inside, in_live), was) =
       let within : k < length s.list = omega (arith, long) in
       let d : Member = record { task = task; enabled = false; given = false } in
-      grind (
-        arith,
-        nat_tests,
-        task_at k d within,
-        flag_of task h was,
-        st.enabled k d within,
-        list_any_at (λ x. x.task.ticket == ticket && x.enabled) s.list k d within,
-      )
+      grind (arith, nat_tests, task_at k d within, flag_of task h was, st.enabled k d within, list_any_at (λ x. x.task.ticket == ticket && x.enabled) s.list k d within)
 
 -- the flag, in terms of the history
 pub enabled_is : (s : Members) (ticket : ℕ) (b : Bool) → b ≡ is_enabled_in ticket s.list → (h : List Change) → StandsFor s h → IsTrue b ↔ IsEnabled ticket h

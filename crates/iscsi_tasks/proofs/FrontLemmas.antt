@@ -1,7 +1,7 @@
 -- Sets along which the numbers from which on functions may cover the commands go up.
-use Rattle.std.proofs.Common.{◌≡◌, ◌∙◌, ℕ, suc, ◌<◌, ◌+◌, ◌==◌, ◌||◌, ◌&&◌, not, ℤ, ◌≤ℤ◌, int_lt, Bool, true, false, List, [], ◌∷◌, ◌++◌, length, map, filter, take, get_or, All, ap, sym, arith, ne_eqb, true≢false}
+use Rattle.std.proofs.Common.{◌≡◌, ◌∙◌, ℕ, suc, ◌<◌, ◌+◌, ◌==◌, ◌||◌, ◌&&◌, not, ℤ, ◌≤ℤ◌, int_lt, Bool, true, List, [], ◌∷◌, ◌++◌, length, map, filter, take, get_or, All, ap, sym, arith, ne_eqb}
 use Rattle.std.proofs.lemmas.Int.{ints}
-use Rattle.std.proofs.lemmas.Bool.{and_parts, false_from_ne_true}
+use Rattle.std.proofs.lemmas.Bool.{and_parts}
 use Rattle.std.proofs.lemmas.List.{get_or-map, length-map, length-take-le, take_more}
 use Rattle.std.proofs.lemmas.List.Elements.{All-push, All-nil, All-filter}
 use Rattle.std.proofs.lemmas.List.Kept.{AllPairs-filter}
@@ -33,12 +33,7 @@ ascending_none most = record { ascending = λ i j d below within. absurd (omega 
 
 pub ascending_filter : (most : ℤ) (p : Member → Bool) (list : List Member) → IsAscendingTo most list → IsAscendingTo most (filter p list)
 ascending_filter most p list up =
-    grind (
-      arith,
-      nat_tests,
-      AllPairs-filter (λ (a b : Member). covered_from a.task ≤ℤ covered_from b.task) p list up.ascending,
-      All-filter p (λ (m : Member). covered_from m.task ≤ℤ most) list up.within,
-    )
+    grind (arith, nat_tests, AllPairs-filter (λ (a b : Member). covered_from a.task ≤ℤ covered_from b.task) p list up.ascending, All-filter p (λ (m : Member). covered_from m.task ≤ℤ most) list up.within)
 
 -- a moment passes
 ascending_looked : (most : ℤ) (list : List Member) → IsAscendingTo most list → IsAscendingTo most (after_moment list)

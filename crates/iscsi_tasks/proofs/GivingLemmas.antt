@@ -1,5 +1,5 @@
 -- Tickets that are given: each once, the oldest first.
-use Rattle.std.proofs.Common.{◌≡◌, ℕ, suc, ◌<◌, ◌==◌, ◌||◌, not, cond, Bool, true, false, List, [], ◌∷◌, length, map, find, get_or, set, refl, ap, sym, ◌∙◌, arith, All, eq-eqb, Option, Some, None, option_map, subst, ⊎_elim}
+use Rattle.std.proofs.Common.{◌≡◌, ℕ, suc, ◌<◌, ◌==◌, ◌||◌, cond, Bool, true, false, List, [], ◌∷◌, length, map, find, get_or, set, refl, ap, sym, ◌∙◌, arith, All, Option, Some, None, option_map, subst, ⊎_elim}
 use Rattle.std.proofs.lemmas.Bool.{cases_Bool}
 use Rattle.iscsi_tasks.proofs.Names.{nat_tests, Task, Member, Members, InOrder, queued, is_free, is_free_among, is_new, given_in, given_by, next_in, IsSettled}
 use Rattle.iscsi_tasks.proofs.Names.{given_now, Change, was_free, was_given, StandsFor, next_after, after_giving}
@@ -36,16 +36,7 @@ all-given : (P : Member → Type 0) (list : List Member) → ((m : Member) → P
 all-given P [] kept all = all
 all-given P (m ∷ ms) kept all =
     let rest = all-given P ms kept (All-tail P m ms all) in
-    grind (
-      arith,
-      nat_tests,
-      given_in_new,
-      given_in_old,
-      All-cons P (given_now m) ms,
-      All-cons P m (given_in ms) (all 0 m (omega arith)) rest,
-      kept m (all 0 m (omega arith)),
-      All-tail P m ms all,
-    )
+    grind (arith, nat_tests, given_in_new, given_in_old, All-cons P (given_now m) ms, All-cons P m (given_in ms) (all 0 m (omega arith)) rest, kept m (all 0 m (omega arith)), All-tail P m ms all)
 
 pub enabled-given : (e : Task → Bool) (list : List Member) → All (λ m. m.enabled ≡ e m.task) list → All (λ m. m.enabled ≡ e m.task) (given_in list)
 enabled-given e list all = all-given (λ m. m.enabled ≡ e m.task) list (λ m here. here) all

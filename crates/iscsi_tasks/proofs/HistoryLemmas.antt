@@ -1,11 +1,10 @@
 -- What a set stands for, after each change.
-use Rattle.std.proofs.Common.{◌≡◌, ℕ, suc, ◌<◌, ◌==◌, ◌||◌, ◌&&◌, not, Bool, true, false, List, [], ◌∷◌, ◌++◌, length, map, filter, get_or, set, refl, ap, sym, ◌∙◌, arith, All, eq-eqb, Some, subst}
-use Rattle.iscsi_tasks.proofs.Names.{nat_tests, Task, Member, Members, queued, is_free, is_free_among, looked_at, after_moment, without, entered_to, left_by}
-use Rattle.iscsi_tasks.proofs.Names.{IsNewest, Change, Entered, Left, Gave, is_free_in, is_live, live, was_free, was_given, AllBelow, StandsFor}
-use Rattle.std.proofs.lemmas.List.{map-append, length-map, get_or-map}
+use Rattle.std.proofs.Common.{◌≡◌, ℕ, suc, ◌<◌, ◌==◌, ◌||◌, not, Bool, false, List, [], ◌∷◌, ◌++◌, map, filter, get_or, set, refl, ap, sym, ◌∙◌, arith, All, eq-eqb, Some}
+use Rattle.iscsi_tasks.proofs.Names.{nat_tests, Task, Member, Members, queued, looked_at, after_moment, without, entered_to, left_by}
+use Rattle.iscsi_tasks.proofs.Names.{Change, Entered, Left, Gave, is_free_in, is_live, live, was_free, was_given, AllBelow, StandsFor}
+use Rattle.std.proofs.lemmas.List.{map-append}
 use Rattle.std.proofs.lemmas.List.Elements.{All-map, All-push, All-filter, All-nil}
 use Rattle.std.proofs.lemmas.List.Folds.{list_any_at}
-use Rattle.std.specs.List.{list_any}
 use Rattle.iscsi_tasks.proofs.ListLemmas.{list_any-map, filter-map}
 
 pub tasks-looked : (list xs : List Member) → map (λ m. m.task) (map (looked_at list) xs) ≡ map (λ m. m.task) xs

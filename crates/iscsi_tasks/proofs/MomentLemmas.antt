@@ -1,5 +1,5 @@
 -- A moment: which commands are free, and what becomes enabled.
-use Rattle.std.proofs.Common.{◌≡◌, ℕ, zero, suc, ◌<◌, ◌≤◌, ◌==◌, ◌||◌, ◌&&◌, ◌≢◌, not, nat_lt, min, max, cond, Bool, true, false, List, [], ◌∷◌, ◌++◌, length, map, take, drop, get_or, All, count_by, refl, ap, sym, ◌∙◌, arith, ⊎_elim, ne_eqb, lt-ltb, le-ltb, rules}
+use Rattle.std.proofs.Common.{◌≡◌, ℕ, zero, suc, ◌<◌, ◌≤◌, ◌==◌, ◌||◌, ◌&&◌, ◌≢◌, not, nat_lt, min, max, cond, Bool, true, false, List, [], ◌∷◌, ◌++◌, length, map, take, drop, get_or, All, count_by, refl, ap, sym, ◌∙◌, arith, ⊎_elim, ne_eqb, lt-ltb, le-ltb}
 use Rattle.std.specs.List.{list_any, position_or_len}
 use Rattle.std.proofs.lemmas.Bool.{cases_Bool, or_left, or_right, or_from, and_left, and_right, and_from}
 use Rattle.std.proofs.lemmas.List.{get_or_default}
@@ -85,15 +85,7 @@ ordered_of a ordered = grind (arith, nat_tests)
 module _ (list : List Member) (order : InOrder list) (plain : All (λ m. is_head_in m ≡ false) list) where
   passes_below : (k j : ℕ) (d e : Member) → k < length list → j < length list → k < max 1 (position_or_len is_ordered_in list) → bars_in (get_or list k d).task (get_or list j e) ≡ false
   passes_below k j d e within l below =
-      grind (
-        arith,
-        nat_tests,
-        simple_passes,
-        younger_passes,
-        fails_before_first is_ordered_in list k d,
-        fails_before_first is_ordered_in list j e,
-        get_or_default list j d e l,
-      )
+      grind (arith, nat_tests, simple_passes, younger_passes, fails_before_first is_ordered_in list k d, fails_before_first is_ordered_in list j e, get_or_default list j d e l)
 
   pub free_below : (k : ℕ) (d : Member) → k < length list → k < max 1 (position_or_len is_ordered_in list) → is_free_among (get_or list k d).task list ≡ true
   free_below k d within below = free_none (get_or list k d).task list (λ j e l. passes_below k j d e within l below)
@@ -101,19 +93,7 @@ module _ (list : List Member) (order : InOrder list) (plain : All (λ m. is_head
   pub free_above : (k : ℕ) (d : Member) → k < length list → max 1 (position_or_len is_ordered_in list) ≤ k → is_free_among (get_or list k d).task list ≡ false
   free_above k d within above =
       let m = get_or list k d in let p = position_or_len is_ordered_in list in
-      grind (
-        arith,
-        nat_tests,
-        free_barred m.task list 0 d,
-        free_barred m.task list p d,
-        older_bars m.task (get_or list 0 d),
-        ordered_of m.task.attr,
-        order 0 k d,
-        order p k d,
-        passes_at_first is_ordered_in list d,
-        ordered_bars m.task.attr m.task (get_or list p d) refl,
-        plain k d,
-      )
+      grind (arith, nat_tests, free_barred m.task list 0 d, free_barred m.task list p d, older_bars m.task (get_or list 0 d), ordered_of m.task.attr, order 0 k d, order p k d, passes_at_first is_ordered_in list d, ordered_bars m.task.attr m.task (get_or list p d) refl, plain k d)
 
 -- with HEAD OF QUEUE: no other one
 pub barred_by_head : (list : List Member) (h k : ℕ) (d : Member) → InOrder list → h < length list → k < length list → is_head_in (get_or list h d) ≡ true → is_head_in (get_or list k d) ≡ false → is_free_among (get_or list k d).task list ≡ false

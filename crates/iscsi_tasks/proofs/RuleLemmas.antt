@@ -1,5 +1,5 @@
 -- Laws of the rules themselves.
-use Rattle.std.proofs.Common.{◌≡◌, not, cond, Bool, false, List, [], ◌∷◌, filter, refl, ap, arith}
+use Rattle.std.proofs.Common.{◌≡◌, not, Bool, false, List, [], ◌∷◌, filter, refl, ap, arith}
 use Rattle.std.specs.List.{list_any}
 use Rattle.std.proofs.lemmas.Bool.{or_parts, or_from, not-true}
 use Rattle.iscsi_tasks.proofs.Names.{nat_tests, bars, StaysFree}

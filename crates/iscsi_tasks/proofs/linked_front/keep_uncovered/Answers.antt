@@ -1,12 +1,10 @@
-use Rattle.std.proofs.Common.{◌≡◌, ◌∙◌, ◌+◌, ◌<◌, ◌≤◌, ◌≤ℤ◌, ◌++◌, ◌∷◌, [], ℕ, suc, List, Bool, true, false, length, get_or, take, drop, All, ap, sym, arith, ⊎_elim}
+use Rattle.std.proofs.Common.{◌≡◌, ◌∙◌, ◌+◌, ◌<◌, ◌≤ℤ◌, ◌++◌, ◌∷◌, [], ℕ, suc, List, Bool, true, false, length, get_or, take, drop, All, ap, sym, arith}
 use Rattle.std.specs.List.{remove}
 use Rattle.std.proofs.lemmas.Int.{ints}
-use Rattle.std.proofs.lemmas.Bool.{cases_eq}
 use Rattle.std.proofs.lemmas.List.{get_or_default, get_or-drop, length-drop, append_assoc, append-nil}
 use Rattle.std.proofs.lemmas.List.Edits.{get_or-remove_above}
-use Rattle.iscsi_tasks.proofs.Names.{common_steps, times, Task, Member, is_covered, IsAscending, covered_from, BLANK, Chained, member_of, covered_tickets}
-use Rattle.iscsi_tasks.proofs.PassingLemmas.{place_in, kept_yet, passed, yet_at, yet_inside, yet_without, yet_with, yet_all, tickets_more, tickets_all}
-use Rattle.iscsi_tasks.proofs.MarkedLemmas.{some_at}
+use Rattle.iscsi_tasks.proofs.Names.{common_steps, Task, Member, is_covered, IsAscending, covered_from, BLANK, Chained, member_of, covered_tickets}
+use Rattle.iscsi_tasks.proofs.PassingLemmas.{place_in, kept_yet, passed, yet_at, yet_without, yet_with, yet_all, tickets_more, tickets_all}
 use Rattle.iscsi_tasks.proofs.linked_front.keep_uncovered.Goals as goal
 
 -- the command there, as it was read

@@ -1,12 +1,11 @@
-use Rattle.std.proofs.Common.{◌≡◌, ◌∙◌, ◌<◌, ◌≤◌, ℕ, List, length, max, min, refl, ap, sym, arith, ⊎_elim}
+use Rattle.std.proofs.Common.{◌≡◌, ◌∙◌, ◌<◌, ◌≤◌, ℕ, List, length, max, min, refl, ap, sym, arith}
 use Rattle.std.specs.List.{position_or_len}
-use Rattle.std.proofs.lemmas.Bool.{cases_lt}
-use Rattle.iscsi_tasks.proofs.Names.{common_steps, times, Member, Marks, after_moment, is_ordered_in, chained, IsMarked}
+use Rattle.iscsi_tasks.proofs.Names.{common_steps, Member, Marks, after_moment, is_ordered_in, chained, IsMarked}
 use Rattle.iscsi_tasks.proofs.PlaceLemmas.{enabled_so_far}
 use Rattle.iscsi_tasks.proofs.MomentLemmas.{moment_with_heads, moment_without_heads}
 use Rattle.iscsi_tasks.proofs.CountLemmas.{first-le, enabled_up_to}
 use Rattle.iscsi_tasks.proofs.ChainLemmas.{not_end}
-use Rattle.iscsi_tasks.proofs.MarkedLemmas.{some_at, within_some}
+use Rattle.iscsi_tasks.proofs.MarkedLemmas.{within_some}
 use Rattle.iscsi_tasks.proofs.linked_queue.enable_free.Goals.{then-marks-gt0-via-then-marks-gt0, then-marks-gt0-via-else-marks-gt0+then-marks-eq-ENDS}
 use Rattle.iscsi_tasks.proofs.linked_queue.enable_free.Goals as goal
 

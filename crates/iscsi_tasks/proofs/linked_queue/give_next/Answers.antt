@@ -3,7 +3,7 @@ use Rattle.std.proofs.lemmas.List.{get_or_default}
 use Rattle.std.proofs.lemmas.List.Quantifiers.{position-Some}
 use Rattle.iscsi_tasks.proofs.Names.{Member, is_new, given_now, BLANK, Chained, chained, IsMarked, IsFirstNew}
 use Rattle.iscsi_tasks.proofs.GivingLemmas.{next_in_at, given_in_at}
-use Rattle.iscsi_tasks.proofs.MarkedLemmas.{some_at, marked_given}
+use Rattle.iscsi_tasks.proofs.MarkedLemmas.{marked_given}
 use Rattle.iscsi_tasks.proofs.linked_queue.give_next.Goals as goal
 
 -- where the first new one stands

@@ -1,11 +1,10 @@
-use Rattle.std.proofs.Common.{◌≡◌, ◌∙◌, ◌+◌, ◌<◌, ◌≤◌, ℕ, List, length, get_or, false, ap, sym, arith, ⊎_elim}
+use Rattle.std.proofs.Common.{◌≡◌, ◌∙◌, ◌+◌, ◌<◌, ◌≤◌, ℕ, List, length, get_or, false, ap, sym, arith}
 use Rattle.std.specs.List.{position_or_len}
-use Rattle.std.proofs.lemmas.Bool.{cases_lt}
 use Rattle.std.proofs.lemmas.List.{get_or_past}
 use Rattle.iscsi_tasks.proofs.Names.{common_steps, Member, is_ordered_in, IsPastNone}
 use Rattle.iscsi_tasks.proofs.PlaceLemmas.{place_is, no_place}
 use Rattle.iscsi_tasks.proofs.ChainLemmas.{not_end}
-use Rattle.iscsi_tasks.proofs.MarkedLemmas.{some_at, within_some}
+use Rattle.iscsi_tasks.proofs.MarkedLemmas.{within_some}
 use Rattle.iscsi_tasks.proofs.linked_queue.next_ordered.Goals.{then-slot-eq-ENDS-via-then-slot-eq-ENDS, then-slot-eq-ENDS-via-else-slot-eq-ENDS+then-is_ordered}
 use Rattle.iscsi_tasks.proofs.linked_queue.next_ordered.Goals as goal
 

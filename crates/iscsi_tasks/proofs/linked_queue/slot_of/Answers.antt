@@ -1,5 +1,5 @@
-use Rattle.std.proofs.Common.{◌∙◌, ap, sym, arith}
-use Rattle.iscsi_tasks.proofs.Names.{common_steps, Member}
+use Rattle.std.proofs.Common.{arith}
+use Rattle.iscsi_tasks.proofs.Names.{common_steps}
 use Rattle.iscsi_slots.proofs.SlotLemmas.{stands}
 use Rattle.iscsi_tasks.proofs.linked_queue.slot_of.Goals as goal
 

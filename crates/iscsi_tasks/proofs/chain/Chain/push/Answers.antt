@@ -17,14 +17,7 @@ take-slot-requires c = grind (arith, common_steps, free_inside c.self.invariant,
 
 pub link-requires : goal.link-requires
 link-requires c =
-    grind (
-      arith,
-      common_steps,
-      last_is c.self.invariant c.from.result c.index.result.now c.from.ensures c.index.ensures,
-      last_fresh c.self.invariant (few_yet c.self.invariant c.args.self.now c.self.view_is c.requires) c.take-slot.ensures.taken,
-      few_yet c.self.invariant c.args.self.now c.self.view_is c.requires,
-      slot_fresh c.self.invariant (few_yet c.self.invariant c.args.self.now c.self.view_is c.requires) c.take-slot.ensures.taken,
-    )
+    grind (arith, common_steps, last_is c.self.invariant c.from.result c.index.result.now c.from.ensures c.index.ensures, last_fresh c.self.invariant (few_yet c.self.invariant c.args.self.now c.self.view_is c.requires) c.take-slot.ensures.taken, few_yet c.self.invariant c.args.self.now c.self.view_is c.requires, slot_fresh c.self.invariant (few_yet c.self.invariant c.args.self.now c.self.view_is c.requires) c.take-slot.ensures.taken)
 
 pub link-requires-2-clause-first : goal.link-requires-2-clause-first
 link-requires-2-clause-first c =

@@ -1,5 +1,5 @@
-use Rattle.std.proofs.Common.{◌≡◌, ◌∙◌, None, find, ap, sym, subst, arith}
-use Rattle.iscsi_tasks.proofs.Names.{common_steps, Members, tasks_in, left_by, is_covered, StandsFor, Linked}
+use Rattle.std.proofs.Common.{◌≡◌, ◌∙◌, None, find, ap, sym, arith}
+use Rattle.iscsi_tasks.proofs.Names.{common_steps, tasks_in, left_by, is_covered, StandsFor, Linked}
 use Rattle.iscsi_tasks.proofs.CoverLemmas.{absent, present}
 use Rattle.iscsi_tasks.proofs.SearchLemmas.{find_nowhere}
 use Rattle.iscsi_tasks.proofs.set.TaskSet.leave_first.Goals as goal

@@ -1,4 +1,4 @@
-use Rattle.std.proofs.Common.{◌≡◌, ◌∙◌, ◌<◌, Some, ℕ, List, length, get_or, ap, sym, subst, arith}
+use Rattle.std.proofs.Common.{◌≡◌, ◌∙◌, ◌<◌, Some, ℕ, List, length, get_or, ap, sym, arith}
 use Rattle.std.specs.List.{remove}
 use Rattle.iscsi_tasks.proofs.Names.{common_steps, Members, left_by, StandsFor, BLANK, Linked, linked, IsPlaced}
 use Rattle.iscsi_slots.specs.Queued.{Queued}
