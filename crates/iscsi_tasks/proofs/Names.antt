@@ -8,7 +8,6 @@ pub use Rattle.iscsi_tasks.specs.Marked.{HasTicket, IsFirstNew, IsKeptLinked, Is
 pub use Rattle.iscsi_tasks.specs.Rules.{Queued, StaysFree, bars, is_head_of, is_ordered_of}
 pub use Rattle.iscsi_tasks.specs.Sets.{InOrder, IsNewest, Members, after_moment, entered_to, given_by, given_in, is_covered, is_enabled_in, is_enabled_with, is_free, is_free_among, is_new, left_by, list_staying, looked_at, next_in, queued, set_staying, tasks_in, uncovered, with_tag, with_ticket, without}
 pub use Rattle.iscsi_tasks.specs.declared.cover.Cover.{Cover}
-pub use Rattle.iscsi_tasks.specs.declared.cover.Cover.TheVariants.{Below}
 pub use Rattle.iscsi_tasks.specs.declared.marks.Marks.{Marks}
 pub use Rattle.iscsi_tasks.specs.declared.member.Member.{Member}
 pub use Rattle.iscsi_tasks.specs.declared.node.Node.{Node}
