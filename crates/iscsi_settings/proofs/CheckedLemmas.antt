@@ -8,14 +8,15 @@ use Rattle.std.proofs.lemmas.List.{length-map, get_or-map}
 use Rattle.std.proofs.lemmas.List.Elements.{All-get_or}
 use Rattle.std.proofs.lemmas.List.Folds.{list_any_at}
 use Rattle.std.proofs.lemmas.Slice.Eq.{bytes_eq-Decides}
+use Rattle.std.proofs.lemmas.Bool.Decides.{nat_tests}
 use Rattle.clap.specs.Texts.{items_of}
-use Rattle.clap.specs.Facts.{Entry, EntryPasses, EntryValuesPass, IsFilledEntry, IsGroupEntry, PassesArg, ValuesPass, WantsDefault, args_of, groups_of, least_values, parser_of, parser_of_value, unwrap_or_range}
+use Rattle.clap.specs.Facts.{Entry, EntryPasses, EntryValuesPass, IsFilledEntry, IsGroupEntry, PassesArg, ValuesPass, WantsDefault, args_of, groups_of, least_values, parser_of, unwrap_or_range}
 use Rattle.clap.specs.Built.{IsAuto, IsParsedFrom, NamesNoGroup, SameRules}
 use Rattle.clap.specs.Matches.{found_of, first_value, matched_of}
 use Rattle.clap.specs.Simple.{App, HasReadyLeaves, IsSimple, IsSimpleArg, app_of, is_ready, is_ready_leaf, shape_of}
 use Rattle.clap.specs.Values.{Accepts}
 use Rattle.clap.specs.Walk.{Rule, Text, first_of, rows_of, rule_of, rules_of}
-use Rattle.clap.specs.declared.builder.action.ArgAction.TheVariants.{Set, Count}
+use Rattle.clap.specs.declared.builder.action.ArgAction.TheVariants.{Set}
 use Rattle.clap.specs.declared.builder.arg.Arg.{Arg}
 use Rattle.clap.specs.declared.builder.range.ValueRange.{ValueRange}
 use Rattle.clap.specs.declared.builder.command.Command.{Command}
@@ -36,17 +37,14 @@ all_differ (r ∷ rs) = not (list_any (λ x. bytes_eq x.id r.id) rs) && all_diff
 
 clash : (r : Rule) (rs : List Rule) (k : ℕ) (d : Rule) → not (list_any (λ x. bytes_eq x.id r.id) rs) ≡ true → k < length rs
     → bytes_eq (slice_index_or rs k d).id r.id ≡ true → ⊥
-clash r rs k d none lt hit =
-    true≢false (sym (list_any_at (λ x. bytes_eq x.id r.id) rs k d lt hit) ∙ is_false _ none)
+clash r rs k d none lt hit = grind (arith, nat_tests, list_any_at, is_false)
 
 -- an id stands in one place
 one_place : (rs : List Rule) (j k : ℕ) (d e : Rule) → all_differ rs ≡ true → j < length rs → k < length rs
     → bytes_eq (slice_index_or rs j e).id (slice_index_or rs k d).id ≡ true → j ≡ k
 one_place [] j k d e all low high same = absurd (omega arith)
 one_place (r ∷ rs) zero zero d e all low high same = refl
-one_place (r ∷ rs) zero (suc k) d e all low high same =
-    let equal : r.id ≡ (slice_index_or rs k d).id = (bytes_eq-Decides _ _).0 same in
-    absurd (clash r rs k d (both _ _ all).0 (omega arith) ((bytes_eq-Decides _ _).1 (sym equal)))
+one_place (r ∷ rs) zero (suc k) d e all low high same = grind (arith, nat_tests, bytes_eq-Decides, clash, both)
 one_place (r ∷ rs) (suc j) zero d e all low high same = absurd (clash r rs j e (both _ _ all).0 (omega arith) same)
 one_place (r ∷ rs) (suc j) (suc k) d e all low high same = ap suc (one_place rs j k d e (both _ _ all).1 (omega arith) (omega arith) same)
 
@@ -100,10 +98,7 @@ head_value m a x P (v ∷ vs) is found some all passes =
     (v, rw (found, is) refl, passes v (All-get_or P (v ∷ vs) 0 v (omega arith) all))
 
 accepted : (a y : Arg) (q : ValueParser) (t : Text) → SameRules a y → a.value_parser ≡ Some q → Accepts y.ignore_case (parser_of y) t → Accepts a.ignore_case q t
-accepted a y q t s parser read =
-    let is_q : parser_of y ≡ q = ap parser_of_value (s.parser q parser) in
-    let as_q : Accepts y.ignore_case q t = subst (λ (w : ValueParser). Accepts y.ignore_case w t) is_q read in
-    subst (λ (b : Bool). Accepts b q t) s.ignore_case as_q
+accepted a y q t s parser read = grind (arith, nat_tests)
 
 -- each argument with this id keeps the rules of a
 abbrev Keeps : Command → Arg → Text → Type 0
@@ -114,21 +109,8 @@ entry_filled : (built : Command) (a : Arg) (e : Entry) → Keeps built a e.0.now
     → (e.1.is_group ≡ true → ⊥) → IsFilledEntry built e → 0 < length e.1.vals.items
 entry_filled built a e same action least delim no_group (inl h) = absurd (no_group h.0)
 entry_filled built a e same action least delim no_group (inr (inl v)) = v
-entry_filled built a e same action least delim no_group (inr (inr (inl h))) =
-    let s = same h.1.0 h.1.1 h.1.2 h.1.3 h.1.4.0 in
-    let is_set : h.1.1.action ≡ Some Set = s.action Set action in
-    let bad : Set ≡ Count = rw is_set at h.1.4.1 in
-    cc
-entry_filled built a e same action least delim no_group (inr (inr (inr h))) =
-    let s = same h.0 h.1 h.2 h.3 h.4.0 in
-    elim h.4.1 [
-      | inl none ↦
-          let one = s.least action least in
-          absurd (omega arith)
-      | inr has ↦
-          let bad : false ≡ true = rw (s.val_delim, delim) at has in
-          cc
-    ]
+entry_filled built a e same action least delim no_group (inr (inr (inl h))) = grind (arith, nat_tests)
+entry_filled built a e same action least delim no_group (inr (inr (inr h))) = grind (arith, nat_tests)
 
 -- the values of an option's entry passed its parser
 entry_passed : (built : Command) (e : Entry) → (e.1.is_group ≡ true → ⊥) → EntryValuesPass built e → All (λ v. PassesArg built e.0.now v.now) e.1.vals.items
@@ -144,12 +126,7 @@ entry_value built m a e same action least delim no_group found pass =
 
 -- no entry is a group's
 not_group : (built : Command) (e : Entry) → groups_of built ≡ [] → (e.0.now ≡ [] → ⊥) → IsGroupEntry built e → e.1.is_group ≡ true → ⊥
-not_group built e none named known g = elim (known g) [
-  | inl empty ↦ named empty
-  | inr lots ↦
-      let bad : 0 < 0 = rw none at lots in
-      omega arith
-]
+not_group built e none named known g = grind (arith, nat_tests)
 
 option_value : (c : Command) (m : ArgMatches) → IsParsedFrom c m → IsOptions c → (k : ℕ) (d : Arg) → k < length (args_of c)
     → IsOption (slice_index_or (args_of c) k d) → Value m (slice_index_or (args_of c) k d)

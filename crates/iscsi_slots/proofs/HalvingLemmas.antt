@@ -1,7 +1,8 @@
 -- A binary search by ticket.
 use Rattle.std.proofs.Common.{◌≡◌, ◌≢◌, ℕ, ◌+◌, ◌-◌, ◌/◌, ◌<◌, ◌≤◌, ◌==◌, false, List, length, All, get_or, sym, subst, arith, ⊎_elim, ne_eqb}
 use Rattle.std.proofs.Math.Nat.{div-lt_self}
-use Rattle.std.proofs.lemmas.Bool.{cases_eq, cases_lt}
+use Rattle.std.proofs.lemmas.Bool.{cases_eq}
+use Rattle.std.proofs.lemmas.Bool.Decides.{nat_tests}
 use Rattle.iscsi_slots.specs.Places.{AreAscending}
 
 module _ {X : Type 0} (ticket : X → ℕ) (xs : List X) (n : ℕ) where
@@ -54,10 +55,4 @@ middle_to low high l = omega (arith, l)
 
 -- the ticket isn't there, as the first of those that aren't lower, if there is one, has another
 pub not_there : {X : Type 0} (ticket : X → ℕ) (xs : List X) (n at : ℕ) → AreAscending ticket xs → ((k : ℕ) (d : X) → k < at → ticket (get_or xs k d) < n) → ((k : ℕ) (d : X) → at ≤ k → k < length xs → n ≤ ticket (get_or xs k d)) → (at < length xs → (d : X) → ticket (get_or xs at d) ≢ n) → All (λ x. (ticket x == n) ≡ false) xs
-not_there ticket xs n at ascending below above other = λ k d l. ne_eqb (ticket (get_or xs k d)) n (λ same. ⊎_elim
-    (λ lower. let is = below k d lower in omega (arith, is, same))
-    (λ higher. ⊎_elim
-    (λ here. other (omega (arith, here, l)) d (subst (λ j. ticket (get_or xs j d) ≡ n) here same))
-    (λ apart. let up : ticket (get_or xs at d) < ticket (get_or xs k d) = ascending at k d (omega (arith, higher, apart)) l in let least = above at d (omega arith) (omega (arith, higher, l)) in omega (arith, up, least, same))
-    (cases_eq k at))
-    (cases_lt k at))
+not_there ticket xs n at ascending below above other = grind (arith, nat_tests, ne_eqb)

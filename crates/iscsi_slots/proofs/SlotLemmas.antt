@@ -3,6 +3,7 @@ use Rattle.std.proofs.Common.{◌≡◌, ◌≢◌, ℕ, zero, suc, ◌+◌, ◌
 use Rattle.std.specs.List.{remove, insert}
 use Rattle.std.proofs.lemmas.Bool.{cases_eq}
 use Rattle.std.proofs.lemmas.List.{length-drop, get_or-set_other}
+use Rattle.std.proofs.lemmas.Bool.Decides.{nat_tests}
 use Rattle.iscsi_slots.specs.Slots.{times, values}
 
 -- a slot that stands first is counted
@@ -14,15 +15,8 @@ times_apart slot s order ne = let step : times slot (s ∷ order) ≡ cond false
 
 -- a slot that stands somewhere is counted
 pub times_at : (order : List ℕ) (k : ℕ) → k < length order → 1 ≤ times (get_or order k 0) order
-times_at [] k within = absurd (omega arith)
-times_at (s ∷ order) zero within = let first = times_first s order in omega (arith, first)
-times_at (s ∷ order) (suc k) within =
-    let rest = times_at order k (omega arith) in
-    let slot : ℕ = get_or order k 0 in
-    ⊎_elim
-    (λ same. subst (λ n. 1 ≤ times n (s ∷ order)) same (let first = times_first s order in omega (arith, first)))
-    (λ apart. let more = times_apart slot s order apart in omega (arith, more, rest))
-    (cases_eq s slot)
+times_at (s ∷ order) (suc k) within = grind (arith, nat_tests, times_at order k (omega arith), times_first, times_apart)
+times_at order k within = grind (arith, nat_tests, times_first)
 
 module _ {X : Type 0} (blank : X) (slots : List X) where
   -- what is written into a slot isn't seen by the others
@@ -41,9 +35,8 @@ times_append slot [] ys = omega arith
 times_append slot (x ∷ xs) ys = let rest = times_append slot xs ys in omega (arith, rest)
 
 pub times_remove : (slot : ℕ) (xs : List ℕ) (k : ℕ) → k < length xs → times slot xs ≡ times slot (remove xs k) + times slot (get_or xs k 0 ∷ [])
-times_remove slot [] k within = absurd (omega arith)
-times_remove slot (x ∷ xs) zero within = omega arith
 times_remove slot (x ∷ xs) (suc k) within = let rest = times_remove slot xs k (omega arith) in omega (arith, rest)
+times_remove slot xs k within = grind (arith, nat_tests)
 
 pub map-remove : {X Y : Type 0} (f : X → Y) (xs : List X) (k : ℕ) → map f (remove xs k) ≡ remove (map f xs) k
 map-remove f [] zero = refl
@@ -52,11 +45,10 @@ map-remove f (x ∷ xs) zero = refl
 map-remove f (x ∷ xs) (suc k) = ap (λ ys. f x ∷ ys) (map-remove f xs k)
 
 pub drop-remove : {X : Type 0} (xs : List X) (n k : ℕ) → n + k < length xs → drop n (remove xs (n + k)) ≡ remove (drop n xs) k
-drop-remove xs zero k within = let same : 0 + k ≡ k = omega arith in ap (remove xs) same
-drop-remove [] (suc n) k within = absurd (omega arith)
 drop-remove (x ∷ xs) (suc n) k within =
     let same : suc n + k ≡ suc (n + k) = omega arith in
     ap (λ i. drop (suc n) (remove (x ∷ xs) i)) same ∙ drop-remove xs n k (omega arith)
+drop-remove xs n k within = grind (arith, nat_tests)
 
 -- those before a place move over it
 pub drop-moved_down : {X : Type 0} (xs : List X) (n k i : ℕ) → n + k < length xs → i ≡ n + 1 + k → drop (suc n) ((take (suc n) xs ++ take k (drop n xs)) ++ drop i xs) ≡ remove (drop n xs) k
@@ -77,16 +69,14 @@ drop-moved_block xs m f n k i sum within is =
     ∙ ap (λ ys. remove ys k) (drop-drop f m xs ∙ ap (λ j. drop j xs) (sym sum))
 
 pub drop-insert : {X : Type 0} (xs : List X) (n k : ℕ) (x : X) → n + k ≤ length xs → drop n (insert xs (n + k) x) ≡ insert (drop n xs) k x
-drop-insert xs zero k x within = let same : 0 + k ≡ k = omega arith in ap (λ i. insert xs i x) same
-drop-insert [] (suc n) k x within = absurd (omega arith)
 drop-insert (y ∷ xs) (suc n) k x within =
     let same : suc n + k ≡ suc (n + k) = omega arith in
     ap (λ i. drop (suc n) (insert (y ∷ xs) i x)) same ∙ drop-insert xs n k x (omega arith)
+drop-insert xs n k x within = grind (arith, nat_tests)
 
 pub times_insert : (slot : ℕ) (xs : List ℕ) (k s : ℕ) → k ≤ length xs → times slot (insert xs k s) ≡ times slot xs + times slot (s ∷ [])
-times_insert slot xs zero s within = omega arith
-times_insert slot [] (suc k) s within = absurd (omega arith)
 times_insert slot (x ∷ xs) (suc k) s within = let rest = times_insert slot xs k s (omega (arith, within)) in omega (arith, rest)
+times_insert slot xs k s within = grind (arith, nat_tests)
 
 pub map-insert : {X Y : Type 0} (f : X → Y) (xs : List X) (k : ℕ) (x : X) → map f (insert xs k x) ≡ insert (map f xs) k (f x)
 map-insert f xs zero x = refl

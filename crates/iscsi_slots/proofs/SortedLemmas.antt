@@ -1,29 +1,20 @@
 -- Lists whose keys go up.
-use Rattle.std.proofs.Common.{◌≡◌, ℕ, zero, suc, ◌+◌, ◌-◌, ◌<◌, ◌≤◌, ◌==◌, not, cond, false, List, [], ◌∷◌, ◌++◌, length, filter, find, get_or, All, Some, None, refl, ap, sym, ◌∙◌, arith, ⊎_elim, eq-eqb, ne_eqb}
+use Rattle.std.proofs.Common.{◌≡◌, ℕ, zero, suc, ◌-◌, ◌<◌, ◌≤◌, ◌==◌, not, cond, false, List, [], ◌∷◌, ◌++◌, length, filter, find, get_or, All, Some, None, refl, ap, sym, ◌∙◌, arith, eq-eqb, ne_eqb}
 use Rattle.std.specs.List.{remove, insert}
-use Rattle.std.proofs.lemmas.Bool.{cases_eq, cases_lt}
 use Rattle.std.proofs.lemmas.List.Edits.{length-insert, get_or-insert_at, get_or-insert_below, get_or-insert_above}
 use Rattle.std.proofs.lemmas.List.Elements.{All-head, All-tail}
 use Rattle.std.proofs.lemmas.List.Quantifiers.{all_pairs_push, all_pairs_remove}
+use Rattle.std.proofs.lemmas.Bool.Decides.{nat_tests}
 use Rattle.iscsi_slots.specs.Places.{AreAscending}
 
 module _ {X : Type 0} (key : X → ℕ) where
   -- no two places have the same key
   pub same_place : (xs : List X) → AreAscending key xs → (i j : ℕ) (d : X) → i < length xs → j < length xs → key (get_or xs i d) ≡ key (get_or xs j d) → i ≡ j
-  same_place xs up i j d li lj same = ⊎_elim
-      (λ below. let u : key (get_or xs i d) < key (get_or xs j d) = up i j d below lj in absurd (omega (arith, u, same)))
-      (λ above. ⊎_elim
-      (λ here. here)
-      (λ apart. let u : key (get_or xs j d) < key (get_or xs i d) = up j i d (omega (arith, above, apart)) li in absurd (omega (arith, u, same)))
-      (cases_eq i j))
-      (cases_lt i j)
+  same_place xs up i j d li lj same = grind (arith, nat_tests)
 
   -- a place before another has no greater key
   pub not_greater : (xs : List X) → AreAscending key xs → (i j : ℕ) (d : X) → i ≤ j → j < length xs → key (get_or xs i d) ≤ key (get_or xs j d)
-  not_greater xs up i j d le l = ⊎_elim
-      (λ same. let is = ap (λ n. key (get_or xs n d)) same in omega (arith, is))
-      (λ apart. let u : key (get_or xs i d) < key (get_or xs j d) = up i j d (omega (arith, le, apart)) l in omega (arith, u))
-      (cases_eq i j)
+  not_greater xs up i j d le l = grind (arith, nat_tests)
 
   up_head : (x : X) (xs : List X) → AreAscending key (x ∷ xs) → (k : ℕ) (d : X) → k < length xs → key x < key (get_or xs k d)
   up_head x xs up k d l = up zero (suc k) d (omega arith) (omega (arith, l))
@@ -45,27 +36,11 @@ module _ {X : Type 0} (key : X → ℕ) where
     low_is i d low = ap key (get_or-insert_below xs at x d i low within)
 
     high_is : (i : ℕ) (d : X) → at < i → key (get_or (insert xs at x) i d) ≡ key (get_or xs (i - 1) d)
-    high_is i d high =
-        let same : i ≡ i - 1 + 1 = omega (arith, high) in
-        ap (λ n. key (get_or (insert xs at x) n d)) same ∙ ap key (get_or-insert_above xs at x d (i - 1) (omega (arith, high)) within)
+    high_is i d high = grind (arith, nat_tests, get_or-insert_above)
 
     -- a value is inserted at its place
     pub inserted_up : AreAscending key (insert xs at x)
-    inserted_up i j d lt l =
-        let long = length-insert xs at x within in
-        ⊎_elim
-        (λ i_low. let a = low_is i d i_low in ⊎_elim
-        (λ j_low. let b = low_is j d j_low in let u : key (get_or xs i d) < key (get_or xs j d) = up i j d lt (omega (arith, j_low, within)) in omega (arith, a, b, u))
-        (λ j_up. ⊎_elim
-        (λ j_at. let b = at_is j d j_at in let u = below i d i_low in omega (arith, a, b, u))
-        (λ j_over. let b = high_is j d (omega (arith, j_up, j_over)) in let u : key (get_or xs i d) < key (get_or xs (j - 1) d) = up i (j - 1) d (omega (arith, i_low, j_up, j_over)) (omega (arith, l, long, j_up, j_over)) in omega (arith, a, b, u))
-        (cases_eq j at))
-        (cases_lt j at))
-        (λ i_up. let b = high_is j d (omega (arith, i_up, lt)) in ⊎_elim
-        (λ i_at. let a = at_is i d i_at in let u = above (j - 1) d (omega (arith, i_at, lt)) (omega (arith, l, long, lt)) in omega (arith, a, b, u))
-        (λ i_over. let a = high_is i d (omega (arith, i_up, i_over)) in let u : key (get_or xs (i - 1) d) < key (get_or xs (j - 1) d) = up (i - 1) (j - 1) d (omega (arith, i_up, i_over, lt)) (omega (arith, l, long, lt)) in omega (arith, a, b, u))
-        (cases_eq i at))
-        (cases_lt i at)
+    inserted_up i j d lt l = grind (arith, nat_tests, length-insert, low_is, at_is, high_is)
 
   -- ---- the value with a key
 
@@ -76,13 +51,8 @@ module _ {X : Type 0} (key : X → ℕ) where
       ∙ find_nowhere n xs (All-tail (λ y. (key y == n) ≡ false) x xs none)
 
   pub find_here : (xs : List X) (k : ℕ) (d : X) → AreAscending key xs → k < length xs → find (λ x. key x == key (get_or xs k d)) xs ≡ Some (get_or xs k d)
-  find_here [] k d up l = absurd (omega arith)
-  find_here (x ∷ xs) zero d up l = ap (λ b. cond b (Some x) (find (λ y. key y == key x) xs)) (eq-eqb (key x) (key x) refl)
-  find_here (x ∷ xs) (suc k) d up l =
-      let n : ℕ = key (get_or xs k d) in
-      let u = up_head x xs up k d (omega (arith, l)) in
-      ap (λ b. cond b (Some x) (find (λ y. key y == n) xs)) (ne_eqb (key x) n (λ same. omega (arith, u, same)))
-      ∙ find_here xs k d (up_tail x xs up) (omega (arith, l))
+  find_here (x ∷ xs) (suc k) d up l = grind (arith, nat_tests, find_here xs k d (up_tail x xs up) (omega (arith, l)), up_head, ne_eqb, up_tail)
+  find_here xs k d up l = grind (arith, nat_tests, eq-eqb)
 
   pub filter_nowhere : (n : ℕ) (xs : List X) → All (λ x. (key x == n) ≡ false) xs → filter (λ x. not (key x == n)) xs ≡ xs
   filter_nowhere n [] none = refl
@@ -97,8 +67,4 @@ module _ {X : Type 0} (key : X → ℕ) where
       let n : ℕ = key x in
       let none : All (λ y. (key y == n) ≡ false) xs = λ j e m. ne_eqb (key (get_or xs j e)) n (λ same. let u = up_head x xs up j e m in omega (arith, u, same)) in
       sym (ap (λ b. cond (not b) (x ∷ filter (λ y. not (key y == n)) xs) (filter (λ y. not (key y == n)) xs)) (eq-eqb n n refl) ∙ filter_nowhere n xs none)
-  remove_is (x ∷ xs) (suc k) d up l =
-      let n : ℕ = key (get_or xs k d) in
-      let u = up_head x xs up k d (omega (arith, l)) in
-      ap (λ ys. x ∷ ys) (remove_is xs k d (up_tail x xs up) (omega (arith, l)))
-      ∙ sym (ap (λ b. cond (not b) (x ∷ filter (λ y. not (key y == n)) xs) (filter (λ y. not (key y == n)) xs)) (ne_eqb (key x) n (λ same. omega (arith, u, same))))
+  remove_is (x ∷ xs) (suc k) d up l = grind (arith, nat_tests, remove_is xs k d (up_tail x xs up) (omega (arith, l)), up_head, up_tail, ne_eqb)

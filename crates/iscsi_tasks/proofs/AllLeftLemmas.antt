@@ -1,25 +1,24 @@
 -- The history of commands that leave together: it is as if they left one after the other.
-use Rattle.std.proofs.Common.{◌≡◌, ◌∙◌, ◌<◌, ℕ, ◌==◌, ◌||◌, ◌&&◌, not, cond, Bool, true, false, List, [], ◌∷◌, length, map, filter, get_or, All, refl, ap, sym, subst, arith, ⊎_elim, true≢false, ne_eqb, eq-eqb}
+use Rattle.std.proofs.Common.{◌≡◌, ◌∙◌, ◌<◌, ℕ, ◌==◌, ◌||◌, ◌&&◌, not, cond, Bool, true, false, List, [], ◌∷◌, length, map, filter, get_or, All, refl, ap, sym, subst, arith, ⊎_elim, true≢false, eq-eqb}
 use Rattle.std.specs.List.{list_any, AllPairs}
-use Rattle.std.proofs.lemmas.Bool.{cases_Bool, cases_eq, cases_lt, and_parts, and_from, and_left, and_right}
+use Rattle.std.proofs.lemmas.Bool.{cases_Bool, and_parts, and_from}
 use Rattle.std.proofs.lemmas.List.{get_or_default, get_or-map, length-map}
 use Rattle.std.proofs.lemmas.List.Elements.{All-filter, All-head, All-tail, All-map}
 use Rattle.std.proofs.lemmas.List.Folds.{list_any_at, list_any_none}
-use Rattle.iscsi_tasks.specs.declared.task.Task.{Task}
-use Rattle.iscsi_tasks.specs.declared.member.Member.{Member}
-use Rattle.iscsi_tasks.specs.Rules.{Queued, is_free}
-use Rattle.iscsi_tasks.specs.Sets.{Members, InOrder, queued, looked_at, after_moment, uncovered, set_staying}
-use Rattle.iscsi_tasks.specs.Changes.{Change, Left, StandsFor, live, is_live, is_free_in, was_free, was_given, after_all_left}
+use Rattle.iscsi_tasks.proofs.Names.{nat_tests, Task, Member, Queued, Members, InOrder, queued, looked_at, after_moment, uncovered, set_staying, Change, Left}
+use Rattle.iscsi_tasks.proofs.Names.{StandsFor, live, is_live, is_free_in, was_free, was_given, after_all_left}
+use Rattle.iscsi_tasks.specs.Rules.{is_free}
 use Rattle.iscsi_tasks.proofs.HistoryLemmas.{looked_at_enabled, tasks-looked}
 use Rattle.iscsi_tasks.proofs.ListLemmas.{filter-map, list_any-map}
 use Rattle.iscsi_tasks.proofs.RuleLemmas.{stays_free}
 
 any_filter : {X : Type 0} (p q : X → Bool) (xs : List X) → list_any p (filter q xs) ≡ list_any (λ x. q x && p x) xs
 any_filter p q [] = refl
-any_filter p q (x ∷ xs) = elim (q x) as (λ b. list_any p (cond b (x ∷ filter q xs) (filter q xs)) ≡ ((b && p x) || list_any (λ y. q y && p y) xs)) [
-  | true ↦ ap (λ b. p x || b) (any_filter p q xs)
-  | false ↦ any_filter p q xs
-]
+any_filter p q (x ∷ xs) = grind (arith, nat_tests, any_filter p q xs)
+
+any_kept : {X : Type 0} (q : X → Bool) (xs : List X) → list_any (λ x. true) (filter q xs) ≡ list_any q xs
+any_kept q [] = refl
+any_kept q (x ∷ xs) = grind (arith, nat_tests, any_kept q xs)
 
 filter_agree : {X : Type 0} (p q : X → Bool) (xs : List X) → All (λ x. p x ≡ q x) xs → filter p xs ≡ filter q xs
 filter_agree p q [] same = refl
@@ -33,10 +32,7 @@ filter_true (x ∷ xs) = ap (λ r. x ∷ r) (filter_true xs)
 
 filter_filter : {X : Type 0} (p q : X → Bool) (xs : List X) → filter (λ x. not (q x)) (filter (λ x. not (p x)) xs) ≡ filter (λ x. not (p x || q x)) xs
 filter_filter p q [] = refl
-filter_filter p q (x ∷ xs) = elim (p x) as (λ b. filter (λ y. not (q y)) (cond (not b) (x ∷ filter (λ y. not (p y)) xs) (filter (λ y. not (p y)) xs)) ≡ cond (not (b || q x)) (x ∷ filter (λ y. not (p y || q y)) xs) (filter (λ y. not (p y || q y)) xs)) [
-  | true ↦ filter_filter p q xs
-  | false ↦ ap (λ r. cond (not (q x)) (x ∷ r) r) (filter_filter p q xs)
-]
+filter_filter p q (x ∷ xs) = grind (arith, nat_tests, filter_filter p q xs)
 
 -- one of these commands has this ticket
 abbrev has_ticket : List Task → ℕ → Bool
@@ -53,11 +49,6 @@ free_fewer task ts set there free =
     and_from _ _ there
     (ap (is_free (queued task)) (sym (filter-map stays queued set)) ∙ stays_free (queued task) (map queued set) stays (and_parts (is_live task set) _ free).1)
 
-absorb : (e m w : Bool) → (m ≡ true → e ≡ true) → (e || (m || w)) ≡ (e || w)
-absorb true m w h = refl
-absorb false true w h = absurd (true≢false (sym (h refl)))
-absorb false false w h = refl
-
 -- the moments between tell nothing of those that stay
 was-all_left : (task x : Task) (xs : List Task) (h : List Change) → is_live task (live (after_all_left (x ∷ xs) h)) ≡ true → was_free task (after_all_left (x ∷ xs) h) ≡ (is_free_in task (live (after_all_left (x ∷ xs) h)) || was_free task h)
 was-all_left task x [] h there = refl
@@ -65,37 +56,30 @@ was-all_left task x (y ∷ ys) h there =
     let mid : List Change = Left x.ticket ∷ h in
     let end : List Task = live (after_all_left (y ∷ ys) mid) in
     let is = live-all_left (y ∷ ys) mid in
-    was-all_left task y ys mid there
-    ∙ absorb (is_free_in task end) (is_free_in task (live mid)) (was_free task h)
-    (λ free. ap (is_free_in task) is ∙ free_fewer task (y ∷ ys) (live mid) (sym (ap (is_live task) is) ∙ there) free)
+    grind (arith, nat_tests, was-all_left task y ys, free_fewer)
 
 given-all_left : (ticket : ℕ) (ts : List Task) (h : List Change) → was_given ticket (after_all_left ts h) ≡ was_given ticket h
 given-all_left ticket [] h = refl
 given-all_left ticket (x ∷ xs) h = given-all_left ticket xs (Left x.ticket ∷ h)
 
+-- no two commands have one ticket
+one_ticket : (tasks : List Task) → AllPairs (λ a b. a.ticket < b.ticket) tasks → (j k : ℕ) (d e : Task) → j < length tasks → k < length tasks → (get_or tasks j e).ticket ≡ (get_or tasks k d).ticket → get_or tasks j e ≡ get_or tasks k d
+one_ticket tasks order j k d e l within alike = grind (arith, nat_tests, order j k d, order k j d, get_or_default tasks j e d l)
+
 -- the covered ones are those with a ticket of theirs
 covered_by_ticket : (covers : Task → Bool) (tasks : List Task) → AllPairs (λ a b. a.ticket < b.ticket) tasks → All (λ t. has_ticket (filter covers tasks) t.ticket ≡ covers t) tasks
 covered_by_ticket covers tasks order k d within =
-    let t : Task = get_or tasks k d in
+    let t : Task = get_or tasks k d in let same : Task → Bool = λ x. covers x && t.ticket == x.ticket in
     any_filter (λ x. t.ticket == x.ticket) covers tasks
     ∙ ⊎_elim
-    (λ yes. list_any_at (λ x. covers x && t.ticket == x.ticket) tasks k d within (and_from _ _ yes (eq-eqb t.ticket t.ticket refl)) ∙ sym yes)
-    (λ no. list_any_none (λ x. covers x && t.ticket == x.ticket) tasks (λ j e l. ⊎_elim
-    (λ same. and_left _ _ (ap covers (get_or_default tasks j e d l ∙ ap (λ n. get_or tasks n d) same) ∙ no))
-    (λ other. and_right _ _ (ne_eqb t.ticket (get_or tasks j e).ticket (λ alike. ⊎_elim
-    (λ below. let up : (get_or tasks j d).ticket < t.ticket = order j k d below within in let one : (get_or tasks j e).ticket ≡ (get_or tasks j d).ticket = ap (λ (x : Task). x.ticket) (get_or_default tasks j e d l) in omega (arith, alike))
-    (λ above. let up : t.ticket < (get_or tasks j d).ticket = order k j d (omega arith) l in let one : (get_or tasks j e).ticket ≡ (get_or tasks j d).ticket = ap (λ (x : Task). x.ticket) (get_or_default tasks j e d l) in omega (arith, alike))
-    (cases_lt j k))))
-    (cases_eq j k)) ∙ sym no)
+    (λ yes. list_any_at same tasks k d within (grind (arith, nat_tests)) ∙ sym yes)
+    (λ no. list_any_none same tasks (λ j e l. grind (arith, nat_tests, one_ticket tasks order j k d e l within)) ∙ sym no)
     (cases_Bool (covers t))
 
 tasks_ordered : (list : List Member) → InOrder list → AllPairs (λ (a b : Task). a.ticket < b.ticket) (map (λ m. m.task) list)
 tasks_ordered list order i j d below within =
     let m : Member = record { task = d; enabled = false; given = false } in
-    let long : length (map (λ (x : Member). x.task) list) ≡ length list = length-map list (λ (x : Member). x.task) in
-    let up : (get_or list i m).task.ticket < (get_or list j m).task.ticket = order i j m below (omega (arith, long)) in
-    subst (λ (t : Task). t.ticket < (get_or (map (λ (x : Member). x.task) list) j d).ticket) (sym (get_or-map (λ (x : Member). x.task) list i m d (omega (arith, long))))
-    (subst (λ (t : Task). (get_or list i m).task.ticket < t.ticket) (sym (get_or-map (λ (x : Member). x.task) list j m d (omega (arith, long)))) up)
+    grind (arith, length-map list (λ (x : Member). x.task), order i j m, get_or-map (λ (x : Member). x.task) list i m d, get_or-map (λ (x : Member). x.task) list j m d)
 
 module _ (s : Members) (covers : Task → Bool) (h : List Change) (order : InOrder s.list) (st : StandsFor s h) where
   abbrev ts : List Task
@@ -114,17 +98,7 @@ module _ (s : Members) (covers : Task → Bool) (h : List Change) (order : InOrd
   was task (x ∷ xs) some there = was-all_left task x xs h there
 
   some_left : list_any (λ m. covers m.task) s.list ≡ true → list_any (λ (t : Task). true) ts ≡ true
-  some_left some =
-      any_filter (λ (t : Task). true) covers (live h) ∙ ap (list_any (λ t. covers t && true)) (sym st.tasks)
-      ∙ list_any-map (λ t. covers t && true) (λ (m : Member). m.task) s.list ∙ any_alike s.list ∙ some
-    where
-      and_true : (b : Bool) → (b && true) ≡ b
-      and_true true = refl
-      and_true false = refl
-
-      any_alike : (list : List Member) → list_any (λ m. covers m.task && true) list ≡ list_any (λ m. covers m.task) list
-      any_alike [] = refl
-      any_alike (m ∷ ms) = ap (λ b. b || list_any (λ m. covers m.task && true) ms) (and_true (covers m.task)) ∙ ap (λ b. covers m.task || b) (any_alike ms)
+  some_left some = any_kept covers (live h) ∙ ap (list_any covers) (sym st.tasks) ∙ list_any-map covers (λ (m : Member). m.task) s.list ∙ some
 
   some_case : list_any (λ m. covers m.task) s.list ≡ true → StandsFor (record s { list = after_moment (uncovered covers s.list) }) (after_all_left ts h)
   some_case some =
@@ -152,16 +126,10 @@ module _ (s : Members) (covers : Task → Bool) (h : List Change) (order : InOrd
     where
       none_filtered : (xs : List Task) → list_any covers xs ≡ false → filter covers xs ≡ []
       none_filtered [] nothing = refl
-      none_filtered (x ∷ xs) nothing = ⊎_elim
-          (λ yes. absurd (true≢false (sym (ap (λ b. b || list_any covers xs) yes) ∙ nothing)))
-          (λ here. ap (λ b. cond b (x ∷ filter covers xs) (filter covers xs)) here ∙ none_filtered xs (sym (ap (λ b. b || list_any covers xs) here) ∙ nothing))
-          (cases_Bool (covers x))
+      none_filtered (x ∷ xs) nothing = grind (arith, nat_tests, none_filtered xs)
 
   pub StandsFor-all_left : StandsFor (set_staying covers s) (after_all_left (filter covers (live h)) h)
-  StandsFor-all_left = ⊎_elim
-      (λ yes. subst (λ (x : Members). StandsFor x (after_all_left ts h)) (sym (ap (λ b. cond b (record s { list = after_moment (uncovered covers s.list) }) s) yes)) (some_case yes))
-      (λ no. subst (λ (x : Members). StandsFor x (after_all_left ts h)) (sym (ap (λ b. cond b (record s { list = after_moment (uncovered covers s.list) }) s) no)) (none_case no))
-      (cases_Bool (list_any (λ (m : Member). covers m.task) s.list))
+  StandsFor-all_left = grind (arith, nat_tests, some_case, none_case)
 
 -- so does the set that became so
 pub StandsFor-staying : (s : Members) (covers : Task → Bool) (h : List Change) → InOrder s.list → StandsFor s h → (t : Members) → t ≡ set_staying covers s → StandsFor t (after_all_left (filter covers (live h)) h)

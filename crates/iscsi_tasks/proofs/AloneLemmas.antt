@@ -1,12 +1,9 @@
 -- A command enters a set in which none waits for its ticket to be given, and its own is given at once if it is enabled.
-use Rattle.std.proofs.Common.{◌≡◌, ◌∙◌, ◌++◌, ◌<◌, cond, Bool, true, false, List, [], ◌∷◌, All, Some, None, Option, ℕ, refl, ap, sym, subst}
+use Rattle.std.proofs.Common.{◌≡◌, ◌∙◌, ◌++◌, ◌<◌, cond, Bool, false, List, [], ◌∷◌, All, Some, None, Option, ℕ, refl, ap, sym, subst, arith}
 use Rattle.std.proofs.lemmas.List.Elements.{All-head, All-tail}
 use Rattle.std.proofs.lemmas.List.Quantifiers.{all_pairs_push}
-use Rattle.iscsi_tasks.specs.declared.task.Task.{Task}
-use Rattle.iscsi_tasks.specs.declared.member.Member.{Member}
-use Rattle.iscsi_tasks.specs.Sets.{Members, InOrder, IsNewest, entered_to, is_new, given_in, given_by, next_in}
-use Rattle.iscsi_tasks.specs.Changes.{Change, Entered, AllBelow, StandsFor, next_after, after_giving}
-use Rattle.iscsi_tasks.specs.Counted.{taken_in}
+use Rattle.iscsi_tasks.proofs.Names.{nat_tests, Task, Member, Members, InOrder, IsNewest, entered_to, is_new, given_in, given_by, next_in, Change, Entered}
+use Rattle.iscsi_tasks.proofs.Names.{AllBelow, StandsFor, next_after, after_giving, taken_in}
 use Rattle.iscsi_tasks.proofs.GivingLemmas.{given_in_old, next_in_old, StandsFor-giving}
 use Rattle.iscsi_tasks.proofs.HistoryLemmas.{StandsFor-entered}
 
@@ -22,12 +19,10 @@ next_last (x ∷ xs) m none =
 
 module _ (s : Members) (task : Task) (none : All (λ m. is_new m ≡ false) s.list) where
   taken_given : (e : Bool) → given_by (taken_in s task e false) ≡ taken_in s task e e
-  taken_given true = ap (λ l. let t : Members = record { depth = s.depth; looked = 1; list = l } in t) (given_last s.list (record { task = task; enabled = true; given = false }) none)
-  taken_given false = ap (λ l. let t : Members = record { depth = s.depth; looked = 1; list = l } in t) (given_last s.list (record { task = task; enabled = false; given = false }) none)
+  taken_given e = grind (arith, nat_tests, given_last)
 
   taken_next : (e : Bool) → next_in (taken_in s task e false).list ≡ cond e (Some task.ticket) None
-  taken_next true = next_last s.list (record { task = task; enabled = true; given = false }) none
-  taken_next false = next_last s.list (record { task = task; enabled = false; given = false }) none
+  taken_next e = grind (arith, nat_tests, next_last)
 
   module _ (e : Bool) (entered : entered_to s task ≡ taken_in s task e false) where
     -- the set, once it is given
@@ -42,7 +37,5 @@ module _ (s : Members) (task : Task) (none : All (λ m. is_new m ≡ false) s.li
     alone_stands order newest h st below r new next state =
         let last : Member = record { task = task; enabled = e; given = false } in
         let up : InOrder (entered_to s task).list = subst (λ (t : Members). InOrder t.list) (sym entered) (all_pairs_push (λ (a b : Member). a.task.ticket < b.task.ticket) s.list last order newest) in
-        let both = StandsFor-giving (entered_to s task) (Entered task ∷ h) up (StandsFor-entered s task h st below) in (
-          next ∙ both.0,
-          subst (λ (o : Option ℕ). StandsFor new (after_giving o (Entered task ∷ h))) (sym next) (subst (λ (t : Members). StandsFor t (after_giving (next_in (entered_to s task).list) (Entered task ∷ h))) (sym state) both.1),
-        )
+        let both = StandsFor-giving (entered_to s task) (Entered task ∷ h) up (StandsFor-entered s task h st below) in
+        grind (arith, nat_tests)

@@ -1,20 +1,14 @@
 -- Members in slots, each linked to those beside it.
-use Rattle.std.proofs.Common.{◌≡◌, ◌≢◌, ℕ, zero, suc, ◌+◌, ◌<◌, ◌≤◌, List, [], ◌∷◌, length, map, get_or, set, refl, ap, sym, subst, ◌∙◌, arith, ⊎_elim}
-use Rattle.std.proofs.lemmas.Bool.{cases_eq, cases_lt}
-use Rattle.std.proofs.lemmas.Bool.Decides.{nat_tests}
+use Rattle.std.proofs.Common.{◌≡◌, ◌≢◌, ℕ, zero, suc, ◌+◌, ◌<◌, ◌≤◌, List, [], ◌∷◌, length, map, get_or, set, refl, ap, subst, ◌∙◌, arith}
+use Rattle.iscsi_tasks.proofs.Names.{nat_tests, times, AreShared, Node, AreApart, BLANK_NODE, node_at, after_of, before_of, member_of, member_at, order_from}
+use Rattle.iscsi_tasks.proofs.Names.{with_after, with_before, points_to, linked_to}
 use Rattle.std.proofs.lemmas.List.{get_or-set_same, get_or-set_other, get_or_past, length-set}
-use Rattle.iscsi_slots.specs.Slots.{times, AreShared}
 use Rattle.iscsi_slots.proofs.SlotLemmas.{times_at, stands}
 use Rattle.iscsi_slots.proofs.ShareLemmas.{at_most_once, order_within}
-use Rattle.iscsi_tasks.specs.declared.node.Node.{Node}
-use Rattle.iscsi_tasks.specs.Chains.{AreApart, BLANK_NODE, node_at, after_of, before_of, member_of, member_at, order_from, with_after, with_before, points_to, linked_to}
 
 -- what a write to a node leaves as it is, it leaves of all
 pub kept_by_set : {X : Type 0} (f : Node → X) (nodes : List Node) (i j : ℕ) (n : Node) → i < length nodes → f n ≡ f (node_at nodes i) → f (node_at (set nodes i n) j) ≡ f (node_at nodes j)
-kept_by_set f nodes i j n l same = ⊎_elim
-    (λ (e : j ≡ i). ap (λ k. f (node_at (set nodes i n) k)) e ∙ ap f (get_or-set_same nodes i n BLANK_NODE l) ∙ same ∙ ap (λ k. f (node_at nodes k)) (sym e))
-    (λ apart. ap f (get_or-set_other nodes i j n BLANK_NODE apart))
-    (cases_eq j i)
+kept_by_set f nodes i j n l same = grind (arith, nat_tests, get_or-set_same, get_or-set_other)
 
 module _ (nodes : List Node) (first second : ℕ) where
   abbrev pointed : List Node
@@ -79,41 +73,22 @@ times_here s order = grind (arith, nat_tests)
 pub same_place : (order : List ℕ) → ((s : ℕ) → times s order ≤ 1) → (i j : ℕ) → i < length order → j < length order → get_or order i 0 ≡ get_or order j 0 → i ≡ j
 same_place [] once i j li lj same = absurd (omega arith)
 same_place (s ∷ order) once zero zero li lj same = refl
-same_place (s ∷ order) once zero (suc j) li lj same =
-    let there = times_at order j (omega arith) in let first = times_here s order in let one = once s in
-    absurd (let some : 1 ≤ times s order = subst (λ n. 1 ≤ times n order) (sym same) there in omega (arith, first, one, some))
-same_place (s ∷ order) once (suc i) zero li lj same =
-    let there = times_at order i (omega arith) in let first = times_here s order in let one = once s in
-    absurd (let some : 1 ≤ times s order = subst (λ n. 1 ≤ times n order) same there in omega (arith, first, one, some))
+same_place (s ∷ order) once zero (suc j) li lj same = grind (arith, nat_tests, times_at order j (omega arith), times_here s order)
+same_place (s ∷ order) once (suc i) zero li lj same = grind (arith, nat_tests, times_at order i (omega arith), times_here s order)
 same_place (s ∷ order) once (suc i) (suc j) li lj same = ap suc (same_place order (λ t. let one = once t in omega (arith, one)) i j (omega arith) (omega arith) same)
 
 module _ {order : List ℕ} (apart : AreApart order) where
   -- a place of the order has a slot
   pub not_end : (k : ℕ) → k < length order → get_or order k 0 ≢ 0
-  not_end k l is =
-      let there = times_at order k l in let none = apart.some in
-      let some : 1 ≤ times 0 order = subst (λ n. 1 ≤ times n order) is there in
-      absurd (omega (arith, some, none))
+  not_end k l is = grind (arith, nat_tests, times_at)
 
   -- places up to the end with the same slot are one
   pub same_to_end : (i j : ℕ) → i ≤ length order → j ≤ length order → get_or order i 0 ≡ get_or order j 0 → i ≡ j
-  same_to_end i j li lj same = ⊎_elim
-      (λ below. ⊎_elim
-      (λ too. same_place order apart.once i j below too same)
-      (λ past. absurd (not_end i below (same ∙ get_or_past order j 0 past)))
-      (cases_lt j (length order)))
-      (λ past. ⊎_elim
-      (λ below. absurd (not_end j below (sym same ∙ get_or_past order i 0 past)))
-      (λ too. omega arith)
-      (cases_lt j (length order)))
-      (cases_lt i (length order))
+  same_to_end i j li lj same = grind (arith, nat_tests, same_place, not_end, get_or_past)
 
 module _ {order free : List ℕ} {n room : ℕ} (shared : AreShared (0 ∷ order) free n room) where
   pub apart_in : AreApart order
-  apart_in = record {
-    once = λ s. let one = at_most_once shared s in omega (arith, one);
-    some = let one = at_most_once shared 0 in let first = times_here 0 order in omega (arith, one, first);
-  }
+  apart_in = grind (arith, nat_tests, at_most_once, times_here)
 
   -- a slot that stands there is one of the slots
   pub inside : (s : ℕ) → 1 ≤ times s (0 ∷ order) → s < n

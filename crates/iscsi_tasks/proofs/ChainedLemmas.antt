@@ -1,16 +1,12 @@
 -- A chain stays one as a member enters, as one leaves, and as one is written.
 use Rattle.std.proofs.Common.{◌≡◌, ◌≢◌, ℕ, suc, ◌+◌, ◌-◌, ◌<◌, ◌≤◌, List, [], ◌∷◌, ◌++◌, length, map, get_or, set, refl, ap, sym, subst, ◌∙◌, arith, ⊎_elim}
 use Rattle.std.specs.List.{remove}
-use Rattle.std.proofs.lemmas.Bool.{cases_eq, cases_lt}
-use Rattle.std.proofs.lemmas.Bool.Decides.{nat_tests}
+use Rattle.iscsi_tasks.proofs.Names.{nat_tests, times, AreShared, Member, Node, AreApart, Chained, chained, BLANK_NODE, node_at, after_of, before_of, member_of}
+use Rattle.iscsi_tasks.proofs.Names.{member_at, order_from, order_in, free_in, linked_to, freed_before, IsLinked, IsChained, IsReused, IsAdded, IsTaken}
 use Rattle.std.proofs.lemmas.List.{get_or-set_same, get_or-set_other, get_or_past, get_or_push, get_or_append_left, get_or-map, get_or_default, same_lists, length-set, length_push, length-map, map-append}
 use Rattle.std.proofs.lemmas.List.Edits.{length-remove, get_or-remove_below, get_or-remove_above}
-use Rattle.iscsi_slots.specs.Slots.{times, AreShared}
 use Rattle.iscsi_slots.proofs.SlotLemmas.{times_at, times_remove, times_append, map-remove, stands}
 use Rattle.iscsi_slots.proofs.ShareLemmas.{at_most_once, none_beyond}
-use Rattle.iscsi_tasks.specs.declared.member.Member.{Member}
-use Rattle.iscsi_tasks.specs.declared.node.Node.{Node}
-use Rattle.iscsi_tasks.specs.Chains.{AreApart, Chained, chained, BLANK_NODE, node_at, after_of, before_of, member_of, member_at, order_from, order_in, free_in, linked_to, freed_before, IsLinked, IsChained, IsReused, IsAdded, IsTaken}
 use Rattle.iscsi_tasks.proofs.ChainLemmas.{kept_by_set, length_linked, after_here, after_else, before_here, before_else, member_linked, order_is, order_same, length_order, members_same, same_place, same_to_end, not_end, apart_in, inside, inside_order}
 
 module _ {nodes : List Node} {capacity free len room : ℕ} (chained : IsChained nodes capacity free len room) where
@@ -37,25 +33,13 @@ module _ {nodes : List Node} {capacity free len room : ℕ} (chained : IsChained
 
   -- a place of the ring and the end of the order have slots of the ring
   in_ring : (k : ℕ) → k ≤ len → 1 ≤ times (get_or slots k 0) (0 ∷ slots)
-  in_ring k l = ⊎_elim
-      (λ below. times_at (0 ∷ slots) (suc k) (omega (arith, below)))
-      (λ past. subst (λ s. 1 ≤ times s (0 ∷ slots)) (sym (get_or_past slots k 0 past)) (times_at (0 ∷ slots) 0 (omega arith)))
-      (cases_lt k (length slots))
+  in_ring k l = grind (arith, nat_tests, times_at, get_or_past)
 
   pub last_inside : before_of nodes 0 < length nodes
-  last_inside =
-      let at : before_of nodes 0 ≡ get_or (0 ∷ slots) len 0 = ap (before_of nodes) (sym (get_or_past slots len 0 (let a = long in omega (arith, a)))) ∙ chained.linked.before len (let a = long in omega (arith, a)) in
-      subst (λ s. s < length nodes) (sym at) (inside chained.shared (get_or (0 ∷ slots) len 0) (times_at (0 ∷ slots) len (let a = long in omega (arith, a))))
+  last_inside = grind (arith, nat_tests, get_or_past, long, inside, times_at)
 
   pub free_inside : len + 1 < length nodes → free < length nodes
-  free_inside some = ⊎_elim
-      (λ below. below)
-      (λ above.
-      let none = none_beyond chained.shared free above in
-      let n : length nodes - 1 - len ≡ suc (length nodes - 1 - len - 1) = omega (arith, some) in
-      let first : 1 ≤ times free frees = subst (λ m. 1 ≤ times free (order_from nodes free m)) (sym n) (times_at (free ∷ order_from nodes (after_of nodes free) (length nodes - 1 - len - 1)) 0 (omega arith)) in
-      absurd (omega (arith, none, first)))
-      (cases_lt free (length nodes))
+  free_inside some = grind (arith, nat_tests, none_beyond, times_at)
 
   -- ---- a member leaves
 
@@ -108,59 +92,30 @@ module _ {nodes : List Node} {capacity free len room : ℕ} (chained : IsChained
     ring_above : (k : ℕ) → p < k → get_or (0 ∷ rest) k 0 ≡ get_or (0 ∷ slots) (k + 1) 0
     ring_above k a = get_or-remove_above (0 ∷ slots) (suc p) 0 k (omega arith) (omega (arith, l))
 
+    ring_apart : (i j : ℕ) → i ≤ len → j ≤ p + 1 → i ≢ j → get_or (0 ∷ slots) i 0 ≢ get_or (0 ∷ slots) j 0
+    ring_apart i j i_in j_in other same = other (same_place (0 ∷ slots) once_in_ring i j (omega (arith, i_in, long)) (omega (arith, j_in, l)) same)
+
     -- what the nodes of others tell
     after_other : (i : ℕ) → i ≤ len → i ≢ p → i ≢ p + 1 → after_of now (get_or (0 ∷ slots) i 0) ≡ get_or slots i 0
     after_other i within not_before not_it =
-        let a = long in
         let j : ℕ = get_or (0 ∷ slots) i 0 in
-        let there : i < length (0 ∷ slots) = omega (arith, within, a) in
-        let it : j ≢ slot = λ same. let e = same_place (0 ∷ slots) once_in_ring i (suc p) there (omega (arith, l)) same in not_it (omega (arith, e)) in
-        let first : j ≢ before = λ same. let e = same_place (0 ∷ slots) once_in_ring i p there (omega (arith, l)) (same ∙ before_is) in not_before e in
-        ap (λ (n : Node). n.after) (get_or-set_other closed slot j (freed_before free (node_at closed slot)) BLANK_NODE it)
-        ∙ after_else nodes before after before_in after_in j first
-        ∙ chained.linked.after i (omega (arith, within, a))
+        ap (λ (n : Node). n.after) (get_or-set_other closed slot j (freed_before free (node_at closed slot)) BLANK_NODE (ring_apart i (suc p) within (omega arith) (λ e. not_it (omega arith))))
+        ∙ after_else nodes before after before_in after_in j (λ same. ring_apart i p within (omega arith) not_before (same ∙ before_is))
+        ∙ chained.linked.after i (omega (arith, within, long))
 
     after_before : after_of now before ≡ after
-    after_before =
-        let a = long in
-        let it : before ≢ slot = λ same. let e = same_place (0 ∷ slots) once_in_ring p (suc p) (omega (arith, l)) (omega (arith, l)) (sym before_is ∙ same) in absurd (omega (arith, e)) in
-        ap (λ (n : Node). n.after) (get_or-set_other closed slot before (freed_before free (node_at closed slot)) BLANK_NODE it)
-        ∙ after_here nodes before after before_in after_in
+    after_before = grind (arith, nat_tests, long, same_place, once_in_ring, before_is, get_or-set_other, after_here, before_in, after_in)
 
     before_other : (i : ℕ) → i ≤ len → i ≢ p → i ≢ p + 1 → before_of now (get_or slots i 0) ≡ get_or (0 ∷ slots) i 0
     before_other i within not_it not_after =
-        let a = long in
-        let j : ℕ = get_or slots i 0 in
-        let it : j ≢ slot = λ same. not_it (same_to_end apart i p (omega (arith, within, a)) (omega (arith, l)) same) in
-        let second : j ≢ after = λ same. not_after (same_to_end apart i (p + 1) (omega (arith, within, a)) (omega (arith, l)) (same ∙ after_is)) in
-        ap (λ (n : Node). n.before) (get_or-set_other closed slot j (freed_before free (node_at closed slot)) BLANK_NODE it)
-        ∙ before_else nodes before after before_in after_in j second
-        ∙ chained.linked.before i (omega (arith, within, a))
+        grind (arith, nat_tests, long, same_to_end apart i, after_is, get_or-set_other, before_else nodes before after before_in after_in)
 
     before_after : before_of now after ≡ before
-    before_after =
-        let a = long in
-        let it : after ≢ slot = λ same. let e = same_to_end apart (p + 1) p (omega (arith, l)) (omega (arith, l)) (sym after_is ∙ same) in absurd (omega (arith, e)) in
-        ap (λ (n : Node). n.before) (get_or-set_other closed slot after (freed_before free (node_at closed slot)) BLANK_NODE it)
-        ∙ before_here nodes before after before_in after_in
+    before_after = grind (arith, nat_tests, long, same_to_end apart (p + 1) p, after_is, get_or-set_other, before_here nodes before after before_in after_in)
 
     linked_without : IsLinked now rest
-    linked_without = record {
-      after = λ k within. let a = rest_long in ⊎_elim
-          (λ below. ap (after_of now) (ring_below k (omega arith)) ∙ after_other k (omega (arith, a, within)) (λ e. omega (arith, e)) (λ e. omega (arith, e)) ∙ sym (get_or-remove_below slots p 0 k below l))
-          (λ above. ⊎_elim
-          (λ (here : k ≡ p). ap (λ n. after_of now (get_or (0 ∷ rest) n 0)) here ∙ ap (after_of now) (ring_below p (omega arith) ∙ sym before_is) ∙ after_before ∙ after_is ∙ sym (get_or-remove_above slots p 0 p (omega arith) l) ∙ ap (λ n. get_or rest n 0) (sym here))
-          (λ more. ap (after_of now) (ring_above k (omega (arith, above, more))) ∙ after_other (k + 1) (omega (arith, a, within)) (λ e. omega (arith, e, above)) (λ e. more (omega (arith, e))) ∙ sym (get_or-remove_above slots p 0 k above l))
-          (cases_eq k p))
-          (cases_lt k p);
-      before = λ k within. let a = rest_long in ⊎_elim
-          (λ below. ap (before_of now) (get_or-remove_below slots p 0 k below l) ∙ before_other k (omega (arith, a, within)) (λ e. omega (arith, e)) (λ e. omega (arith, e)) ∙ sym (ring_below k (omega arith)))
-          (λ above. ⊎_elim
-          (λ (here : k ≡ p). ap (λ n. before_of now (get_or rest n 0)) here ∙ ap (before_of now) (get_or-remove_above slots p 0 p (omega arith) l ∙ sym after_is) ∙ before_after ∙ before_is ∙ sym (ring_below p (omega arith)) ∙ ap (λ n. get_or (0 ∷ rest) n 0) (sym here))
-          (λ more. ap (before_of now) (get_or-remove_above slots p 0 k above l) ∙ before_other (k + 1) (omega (arith, a, within)) (λ e. omega (arith, e, above)) (λ e. more (omega (arith, e))) ∙ sym (ring_above k (omega (arith, above, more))))
-          (cases_eq k p))
-          (cases_lt k p);
-    }
+    linked_without =
+        grind (arith, nat_tests, rest_long, ring_below, after_other, get_or-remove_below, before_is, after_before, after_is, get_or-remove_above, ring_above, before_other, before_after)
 
     pub order_without : order_in now (len - 1) ≡ rest
     order_without =
@@ -170,19 +125,13 @@ module _ {nodes : List Node} {capacity free len room : ℕ} (chained : IsChained
 
     -- a slot of the ring isn't free
     not_free : (s j : ℕ) → 1 ≤ times s (0 ∷ slots) → 1 ≤ times j frees → j ≢ s
-    not_free s j used some same =
-        let one = at_most_once chained.shared s in
-        let too : 1 ≤ times s frees = subst (λ t. 1 ≤ times t frees) same some in
-        absurd (omega (arith, one, used, too))
+    not_free s j used some same = grind (arith, nat_tests, at_most_once)
 
     slot_used : 1 ≤ times slot (0 ∷ slots)
     slot_used = times_at (0 ∷ slots) (suc p) (omega (arith, l))
 
     before_used : 1 ≤ times before (0 ∷ slots)
     before_used = subst (λ s. 1 ≤ times s (0 ∷ slots)) (sym before_is) (times_at (0 ∷ slots) p (omega (arith, l)))
-
-    after_used : 1 ≤ times after (0 ∷ slots)
-    after_used = subst (λ s. 1 ≤ times s (0 ∷ slots)) (sym after_is) (in_ring (p + 1) (let a = long in omega (arith, a, l)))
 
     free_without : free_in now slot (len - 1) ≡ slot ∷ frees
     free_without =
@@ -198,30 +147,7 @@ module _ {nodes : List Node} {capacity free len room : ℕ} (chained : IsChained
 
     pub chained_without : IsChained now capacity slot (len - 1) room
     chained_without =
-        let order = order_without in
-        record {
-          shared = subst (λ o. AreShared (0 ∷ o) (free_in now slot (len - 1)) (length now) (room + 1)) (sym order)
-              (subst (λ f. AreShared (0 ∷ rest) f (length now) (room + 1)) (sym free_without)
-              (subst (λ n. AreShared (0 ∷ rest) (slot ∷ frees) n (room + 1)) (sym now_long)
-              (record {
-                once = λ s. let is = chained.shared.once s in let a = times_remove s slots p l in omega (arith, is, a);
-                all = let is = chained.shared.all in let a = length-remove slots p l in omega (arith, is, a);
-                most = chained.shared.most;
-              })));
-          linked = subst (IsLinked now) (sym order) linked_without;
-          freed = λ s some.
-              let there : 1 ≤ times s (slot ∷ frees) = subst (λ f. 1 ≤ times s f) free_without some in
-              ⊎_elim
-              (λ (same : s ≡ slot). ap (before_of now) same ∙ ap (λ (x : Node). x.before) (get_or-set_same closed slot (freed_before free (node_at closed slot)) BLANK_NODE slot_closed))
-              (λ other.
-              let too : 1 ≤ times s frees = grind (arith, nat_tests) in
-              ap (λ (x : Node). x.before) (get_or-set_other closed slot s (freed_before free (node_at closed slot)) BLANK_NODE other)
-              ∙ before_else nodes before after before_in after_in s (not_free after s after_used too)
-              ∙ chained.freed s too)
-              (cases_eq s slot);
-          has_room = chained.has_room;
-          short = chained.short;
-        }
+        grind (arith, nat_tests, order_without, free_without, now_long, times_remove, linked_without, get_or-set_same, slot_closed, get_or-set_other, before_else, before_in, after_in, not_free, after_is, in_ring, long, length-remove slots p l)
 
     pub members_without : map (member_at now) (order_in now (len - 1)) ≡ remove (map (member_at nodes) slots) p
     members_without =
@@ -241,22 +167,13 @@ module _ {nodes : List Node} {capacity free len room : ℕ} (chained : IsChained
     pub order_written : order_in (set nodes slot n) len ≡ slots
     order_written = ap (λ s. order_from (set nodes slot n) s len) (after_written 0) ∙ order_same nodes (set nodes slot n) (after_of nodes 0) len (λ j some. after_written j)
 
-    free_written : free_in (set nodes slot n) free len ≡ frees
-    free_written = ap (λ m. order_from (set nodes slot n) free (m - 1 - len)) (length-set nodes slot n) ∙ order_same nodes (set nodes slot n) free (length nodes - 1 - len) (λ j some. after_written j)
-
     pub chained_written : IsChained (set nodes slot n) capacity free len room
-    chained_written = record {
-      shared = subst (λ o. AreShared (0 ∷ o) (free_in (set nodes slot n) free len) (length (set nodes slot n)) (room + 1)) (sym order_written)
-          (subst (λ f. AreShared (0 ∷ slots) f (length (set nodes slot n)) (room + 1)) (sym free_written)
-          (subst (λ m. AreShared (0 ∷ slots) frees m (room + 1)) (sym (length-set nodes slot n)) chained.shared));
-      linked = subst (IsLinked (set nodes slot n)) (sym order_written) (record {
-        after = λ k k_in. after_written (get_or (0 ∷ slots) k 0) ∙ chained.linked.after k k_in;
-        before = λ k k_in. before_written (get_or slots k 0) ∙ chained.linked.before k k_in;
-      });
-      freed = λ s some. before_written s ∙ chained.freed s (subst (λ f. 1 ≤ times s f) free_written some);
-      has_room = chained.has_room;
-      short = chained.short;
-    }
+    chained_written = grind (arith, nat_tests, order_written, order_same, length-set, after_written, before_written)
+
+  written_at : (n : Node) (k i : ℕ) (d : Member) → k < length slots → i < length slots → get_or (map (member_at (set nodes (get_or slots k 0) n)) slots) i d ≡ get_or (set (map (member_at nodes) slots) k (member_of n)) i d
+  written_at n k i d l i_in =
+      let there = inside_order chained.shared (get_or slots k 0) (times_at slots k l) in
+      grind (arith, nat_tests, get_or-map (member_at (set nodes (get_or slots k 0) n)) slots i 0 d, get_or-map (member_at nodes) slots i 0 d, get_or-set_same, get_or-set_other, same_place slots apart.once i k, length-map slots (member_at nodes))
 
   pub members_written : (n : Node) (k : ℕ) → k < length slots → n.after ≡ after_of nodes (get_or slots k 0) → n.before ≡ before_of nodes (get_or slots k 0)
       → map (member_at (set nodes (get_or slots k 0) n)) (order_in (set nodes (get_or slots k 0) n) len) ≡ set (map (member_at nodes) slots) k (member_of n)
@@ -266,15 +183,7 @@ module _ {nodes : List Node} {capacity free len room : ℕ} (chained : IsChained
       ap (map (member_at (set nodes slot n))) (order_written slot n there same_after same_before)
       ∙ same_lists (map (member_at (set nodes slot n)) slots) (set (map (member_at nodes) slots) k (member_of n))
       (length-map slots (member_at (set nodes slot n)) ∙ sym (length-set (map (member_at nodes) slots) k (member_of n) ∙ length-map slots (member_at nodes)))
-      (λ i d i_in.
-      let inside_i : i < length slots = let a = length-map slots (member_at (set nodes slot n)) in omega (arith, i_in, a) in
-      get_or-map (member_at (set nodes slot n)) slots i 0 d inside_i
-      ∙ ⊎_elim
-      (λ (same : i ≡ k). ap (λ x. member_at (set nodes slot n) (get_or slots x 0)) same ∙ ap member_of (get_or-set_same nodes slot n BLANK_NODE there)
-      ∙ sym (ap (λ x. get_or (set (map (member_at nodes) slots) k (member_of n)) x d) same ∙ get_or-set_same (map (member_at nodes) slots) k (member_of n) d (let a = length-map slots (member_at nodes) in omega (arith, a, l))))
-      (λ other. ap member_of (get_or-set_other nodes slot (get_or slots i 0) n BLANK_NODE (λ e. other (same_place slots apart.once i k inside_i l e)))
-      ∙ sym (get_or-set_other (map (member_at nodes) slots) k i (member_of n) d other ∙ get_or-map (member_at nodes) slots i 0 d inside_i))
-      (cases_eq i k))
+      (λ i d i_in. written_at n k i d l (omega (arith, i_in, length-map slots (member_at (set nodes slot n)))))
 
 -- ---- a member enters
 
@@ -302,35 +211,19 @@ module _ {nodes : List Node} {capacity free len room : ℕ} (chained : IsChained
     long_reused = ap length reused.written ∙ length-set nodes free node
 
     free_split : free_in nodes free len ≡ slot ∷ (left_in nodes n0 next len)
-    free_split =
-        let a = long_reused in let b = reused.some in
-        let n : length nodes - 1 - len ≡ suc (length n0 - 1 - (len + 1)) = omega (arith, a, b) in
-        ap (order_from nodes free) n ∙ ap (λ s. free ∷ order_from nodes s (length n0 - 1 - (len + 1))) (sym reused.next) ∙ ap (λ s. s ∷ (left_in nodes n0 next len)) (sym reused.last)
+    free_split = grind (arith, nat_tests, long_reused)
 
     alone_reused : times slot (0 ∷ (order_in nodes len)) + times slot (left_in nodes n0 next len) ≡ 0
-    alone_reused =
-        let one = at_most_once chained.shared slot in
-        let split = ap (times slot) free_split in
-        let first = times_at (slot ∷ []) 0 (omega arith) in
-        omega (arith, one, split, first)
+    alone_reused = grind (arith, nat_tests, at_most_once, free_split, times_at)
 
     fresh_reused : Fresh nodes n0 (order_in nodes len) (left_in nodes n0 next len) node slot
-    fresh_reused = record {
-      here = let a = long_reused in let b = free_inside chained reused.some in let e = reused.last in omega (arith, a, b, e);
-      more = let a = long_reused in omega (arith, a);
-      new = ap (λ ns. node_at ns slot) reused.written ∙ ap (λ s. node_at (set nodes free node) s) reused.last ∙ get_or-set_same nodes free node BLANK_NODE (free_inside chained reused.some);
-      same = λ j some. ap (λ ns. node_at ns j) reused.written ∙ get_or-set_other nodes free j node BLANK_NODE
-          (λ e. let none = alone_reused in
-          let too : 1 ≤ times slot (0 ∷ (order_in nodes len)) + times slot (left_in nodes n0 next len) = subst (λ s. 1 ≤ times s (0 ∷ (order_in nodes len)) + times s (left_in nodes n0 next len)) (e ∙ sym reused.last) some in absurd (omega (arith, none, too)));
-      none = alone_reused;
-    }
+    fresh_reused =
+        let free_in_nodes = free_inside chained reused.some in
+        let apart_from : (j : ℕ) → 1 ≤ times j (0 ∷ (order_in nodes len)) + times j (left_in nodes n0 next len) → j ≢ free = grind (arith, nat_tests, alone_reused) in
+        grind (arith, nat_tests, long_reused, get_or-set_same nodes free node BLANK_NODE, get_or-set_other, alone_reused)
 
     shared_reused : AreShared (0 ∷ ((order_in nodes len) ++ slot ∷ [])) (left_in nodes n0 next len) (length n0) (room + 1)
-    shared_reused = subst (λ n. AreShared (0 ∷ ((order_in nodes len) ++ slot ∷ [])) (left_in nodes n0 next len) n (room + 1)) (sym long_reused) (record {
-      once = λ s. let is = chained.shared.once s in let a = times_append s (order_in nodes len) (slot ∷ []) in let b = ap (times s) free_split in omega (arith, is, a, b);
-      all = let is = chained.shared.all in let a = length_push (order_in nodes len) slot in let b = ap length free_split in omega (arith, is, a, b);
-      most = chained.shared.most;
-    })
+    shared_reused = grind (arith, nat_tests, long_reused, times_append, free_split, length_push)
 
   module _ (added : IsAdded nodes free len node n0 next slot) where
     long_added : length n0 ≡ length nodes + 1
@@ -339,30 +232,14 @@ module _ {nodes : List Node} {capacity free len room : ℕ} (chained : IsChained
     none_left : (left_in nodes n0 next len) ≡ []
     none_left = let a = long_added in let b = added.none in let n : length n0 - 1 - (len + 1) ≡ 0 = omega (arith, a, b) in ap (order_from nodes next) n
 
-    none_free : free_in nodes free len ≡ []
-    none_free = let b = added.none in let n : length nodes - 1 - len ≡ 0 = omega (arith, b) in ap (order_from nodes free) n
-
     fresh_added : Fresh nodes n0 (order_in nodes len) (left_in nodes n0 next len) node slot
-    fresh_added = record {
-      here = let a = long_added in let b = added.new in omega (arith, a, b);
-      more = let a = long_added in omega (arith, a);
-      new = ap (λ ns. node_at ns slot) added.added ∙ get_or_push nodes node BLANK_NODE slot (sym added.new);
-      same = λ j some.
-          let none = ap (times j) none_left in
-          let j_in : j < length nodes = inside chained.shared j (omega (arith, some, none)) in
-          ap (λ ns. node_at ns j) added.added ∙ get_or_append_left nodes (node ∷ []) BLANK_NODE j j_in;
-      none = let a = none_beyond chained.shared slot (let b = added.new in omega (arith, b)) in let e = ap (times slot) none_left in omega (arith, a, e);
-    }
+    fresh_added =
+        let none = none_beyond chained.shared slot (omega (arith, added.new)) in
+        let old : (j : ℕ) → 1 ≤ times j (0 ∷ (order_in nodes len)) → j < length nodes = λ j some. inside chained.shared j some in
+        grind (arith, nat_tests, long_added, none_left, get_or_push nodes node BLANK_NODE slot, get_or_append_left)
 
     shared_added : AreShared (0 ∷ ((order_in nodes len) ++ slot ∷ [])) (left_in nodes n0 next len) (length n0) (room + 1)
-    shared_added = record {
-      once = λ s.
-          let is = chained.shared.once s in let a = times_append s (order_in nodes len) (slot ∷ []) in
-          let b = ap (times s) none_free in let e = ap (times s) none_left in let new = added.new in let grown = long_added in
-          grind (arith, nat_tests);
-      all = let is = chained.shared.all in let a = length_push (order_in nodes len) slot in let b = ap length none_free in let e = ap length none_left in let grown = long_added in omega (arith, is, a, b, e, grown);
-      most = let a = long_added in let b = added.none in omega (arith, a, b, few_yet);
-    }
+    shared_added = grind (arith, nat_tests, times_append, none_left, long_added, length_push)
 
   fresh_slot : IsTaken nodes free len node n0 next slot → Fresh nodes n0 (order_in nodes len) (left_in nodes n0 next len) node slot
   fresh_slot taken = ⊎_elim fresh_reused fresh_added taken
@@ -372,10 +249,7 @@ module _ {nodes : List Node} {capacity free len room : ℕ} (chained : IsChained
 
   -- the slots that are free now were free before
   free_before : IsTaken nodes free len node n0 next slot → (s : ℕ) → 1 ≤ times s (left_in nodes n0 next len) → 1 ≤ times s (free_in nodes free len)
-  free_before taken s some = ⊎_elim
-      (λ reused. let b = ap (times s) (free_split reused) in omega (arith, b, some))
-      (λ added. let b = ap (times s) (none_left added) in absurd (omega (arith, b, some)))
-      taken
+  free_before taken s some = grind (arith, nat_tests, free_split, none_left)
 
   module _ (taken : IsTaken nodes free len node n0 next slot) where
     is : Fresh nodes n0 (order_in nodes len) (left_in nodes n0 next len) node slot
@@ -393,9 +267,6 @@ module _ {nodes : List Node} {capacity free len room : ℕ} (chained : IsChained
     zero_n1 : 0 < length (end_in nodes n0 slot)
     zero_n1 = let b = slot_n1 in omega (arith, b)
 
-    entered_long : length (entered_in nodes n0 slot) ≡ length n0
-    entered_long = length_linked (end_in nodes n0 slot) slot 0 ∙ length_linked n0 (before_of nodes 0) slot
-
     order_long : length (order_in nodes len ++ slot ∷ []) ≡ len + 1
     order_long = let a = length_push (order_in nodes len) slot in let b = long chained in omega (arith, a, b)
 
@@ -404,10 +275,7 @@ module _ {nodes : List Node} {capacity free len room : ℕ} (chained : IsChained
 
     -- a slot that was there or is free isn't the new one
     not_slot : (j : ℕ) → 1 ≤ times j (0 ∷ (order_in nodes len)) + times j (left_in nodes n0 next len) → j ≢ slot
-    not_slot j some same =
-        let none = is.none in
-        let too : 1 ≤ times slot (0 ∷ (order_in nodes len)) + times slot (left_in nodes n0 next len) = subst (λ s. 1 ≤ times s (0 ∷ (order_in nodes len)) + times s (left_in nodes n0 next len)) same some in
-        absurd (omega (arith, none, too))
+    not_slot j some same = grind (arith, nat_tests, is)
 
     ring_old : (k : ℕ) → k ≤ len → 1 ≤ times (get_or (0 ∷ (order_in nodes len)) k 0) (0 ∷ (order_in nodes len)) + times (get_or (0 ∷ (order_in nodes len)) k 0) (left_in nodes n0 next len)
     ring_old k k_in = let a = long chained in let there = times_at (0 ∷ (order_in nodes len)) k (omega (arith, k_in, a)) in omega (arith, there)
@@ -440,8 +308,7 @@ module _ {nodes : List Node} {capacity free len room : ℕ} (chained : IsChained
         ∙ after_here n0 (before_of nodes 0) slot last_fresh slot_fresh
 
     after_old : (j : ℕ) → 1 ≤ times j (0 ∷ (order_in nodes len)) + times j (left_in nodes n0 next len) → j ≢ (before_of nodes 0) → after_of (entered_in nodes n0 slot) j ≡ after_of nodes j
-    after_old j some other =
-        after_else (end_in nodes n0 slot) slot 0 slot_n1 zero_n1 j (not_slot j some) ∙ after_else n0 (before_of nodes 0) slot last_fresh slot_fresh j other ∙ ap (λ (n : Node). n.after) (is.same j some)
+    after_old j some other = grind (arith, nat_tests, after_else, slot_n1, zero_n1, not_slot, last_fresh, slot_fresh, is)
 
     before_zero : before_of (entered_in nodes n0 slot) 0 ≡ slot
     before_zero = before_here (end_in nodes n0 slot) slot 0 slot_n1 zero_n1
@@ -450,76 +317,35 @@ module _ {nodes : List Node} {capacity free len room : ℕ} (chained : IsChained
     before_new = before_else (end_in nodes n0 slot) slot 0 slot_n1 zero_n1 slot (λ e. not_slot 0 zero_old (sym e)) ∙ before_here n0 (before_of nodes 0) slot last_fresh slot_fresh
 
     before_old : (j : ℕ) → 1 ≤ times j (0 ∷ (order_in nodes len)) + times j (left_in nodes n0 next len) → j ≢ 0 → before_of (entered_in nodes n0 slot) j ≡ before_of nodes j
-    before_old j some other =
-        before_else (end_in nodes n0 slot) slot 0 slot_n1 zero_n1 j other ∙ before_else n0 (before_of nodes 0) slot last_fresh slot_fresh j (not_slot j some) ∙ ap (λ (n : Node). n.before) (is.same j some)
+    before_old j some other = grind (arith, nat_tests, before_else, slot_n1, zero_n1, last_fresh, slot_fresh, not_slot, is)
 
-    member_old : (j : ℕ) → 1 ≤ times j (0 ∷ (order_in nodes len)) + times j (left_in nodes n0 next len) → member_at (entered_in nodes n0 slot) j ≡ member_at nodes j
-    member_old j some = member_linked (end_in nodes n0 slot) slot 0 slot_n1 zero_n1 j ∙ member_linked n0 (before_of nodes 0) slot last_fresh slot_fresh j ∙ ap member_of (is.same j some)
+    old_after : (k : ℕ) → k < len → after_of (entered_in nodes n0 slot) (get_or (0 ∷ (order_in nodes len)) k 0) ≡ get_or (order_in nodes len) k 0
+    old_after k below =
+        after_old (get_or (0 ∷ (order_in nodes len)) k 0) (ring_old k (omega arith))
+        (λ same. let e = same_place (0 ∷ (order_in nodes len)) (once_in_ring chained) k len (omega (arith, below, long chained)) (omega (arith, long chained)) (same ∙ last_is) in omega (arith, below, e))
+        ∙ chained.linked.after k (omega (arith, below, long chained))
+
+    old_before : (k : ℕ) → k < len → before_of (entered_in nodes n0 slot) (get_or (order_in nodes len) k 0) ≡ get_or (0 ∷ (order_in nodes len)) k 0
+    old_before k below = grind (arith, nat_tests, before_old (get_or (order_in nodes len) k 0), ring_old (suc k), not_end (apart chained) k, long chained)
 
     linked_with : IsLinked (entered_in nodes n0 slot) (order_in nodes len ++ slot ∷ [])
-    linked_with = record {
-      after = λ k within. let a = order_long in ⊎_elim
-          (λ below. ap (after_of (entered_in nodes n0 slot)) (same_ring k (omega (arith, below)))
-          ∙ after_old (get_or (0 ∷ (order_in nodes len)) k 0) (ring_old k (omega (arith, below)))
-          (λ same. let b = long chained in let e = same_place (0 ∷ (order_in nodes len)) (once_in_ring chained) k len (omega (arith, below, b)) (omega (arith, b)) (same ∙ last_is) in omega (arith, below, e))
-          ∙ chained.linked.after k (let b = long chained in omega (arith, below, b)) ∙ sym (same_order k below))
-          (λ above. ⊎_elim
-          (λ (here : k ≡ len). ap (λ n. after_of (entered_in nodes n0 slot) (get_or (0 ∷ (order_in nodes len ++ slot ∷ [])) n 0)) here ∙ ap (after_of (entered_in nodes n0 slot)) (same_ring len (omega arith) ∙ sym last_is) ∙ after_last ∙ sym (ap (λ n. get_or (order_in nodes len ++ slot ∷ []) n 0) here ∙ order_last))
-          (λ more. let end : k ≡ len + 1 = omega (arith, above, more, within, a) in
-          ap (λ n. after_of (entered_in nodes n0 slot) (get_or (0 ∷ (order_in nodes len ++ slot ∷ [])) n 0)) end ∙ ap (after_of (entered_in nodes n0 slot)) ring_last ∙ after_new ∙ sym (ap (λ n. get_or (order_in nodes len ++ slot ∷ []) n 0) end ∙ order_past))
-          (cases_eq k len))
-          (cases_lt k len);
-      before = λ k within. let a = order_long in ⊎_elim
-          (λ below. let b = long chained in
-          ap (before_of (entered_in nodes n0 slot)) (same_order k below)
-          ∙ before_old (get_or (order_in nodes len) k 0) (ring_old (suc k) (omega (arith, below))) (not_end (apart chained) k (omega (arith, below, b)))
-          ∙ chained.linked.before k (omega (arith, below, b)) ∙ sym (same_ring k (omega (arith, below))))
-          (λ above. ⊎_elim
-          (λ (here : k ≡ len). ap (λ n. before_of (entered_in nodes n0 slot) (get_or (order_in nodes len ++ slot ∷ []) n 0)) here ∙ ap (before_of (entered_in nodes n0 slot)) order_last ∙ before_new ∙ last_is ∙ sym (ap (λ n. get_or (0 ∷ (order_in nodes len ++ slot ∷ [])) n 0) here ∙ same_ring len (omega arith)))
-          (λ more. let end : k ≡ len + 1 = omega (arith, above, more, within, a) in
-          ap (λ n. before_of (entered_in nodes n0 slot) (get_or (order_in nodes len ++ slot ∷ []) n 0)) end ∙ ap (before_of (entered_in nodes n0 slot)) order_past ∙ before_zero ∙ sym (ap (λ n. get_or (0 ∷ (order_in nodes len ++ slot ∷ [])) n 0) end ∙ ring_last))
-          (cases_eq k len))
-          (cases_lt k len);
-    }
+    linked_with =
+        grind (arith, nat_tests, order_long, same_ring, same_order, old_after, old_before, last_is, after_last, after_new, order_last, order_past, ring_last, before_new, before_zero)
 
     pub order_with : order_in (entered_in nodes n0 slot) (len + 1) ≡ (order_in nodes len ++ slot ∷ [])
     order_with = ap (order_in (entered_in nodes n0 slot)) (sym order_long) ∙ order_is (entered_in nodes n0 slot) 0 (order_in nodes len ++ slot ∷ []) (λ k k_in. linked_with.after k (omega (arith, k_in)))
 
-    free_with : free_in (entered_in nodes n0 slot) next (len + 1) ≡ (left_in nodes n0 next len)
-    free_with = ap (λ m. order_from (entered_in nodes n0 slot) next (m - 1 - (len + 1))) entered_long
-        ∙ order_same nodes (entered_in nodes n0 slot) next (length n0 - 1 - (len + 1)) (λ j some. after_old j (omega (arith, some))
-        (λ same.
-        let one = at_most_once (shared_with taken) j in
-        let there = ring_old len (omega arith) in
-        let used : 1 ≤ times j (0 ∷ (order_in nodes len)) = subst (λ s. 1 ≤ times s (0 ∷ (order_in nodes len))) (sym (same ∙ last_is)) (times_at (0 ∷ (order_in nodes len)) len (let b = long chained in omega (arith, b))) in
-        let split = times_append j (order_in nodes len) (slot ∷ []) in
-        absurd (omega (arith, one, used, some, split))))
+    -- a slot that is free isn't the last one
+    not_last : (j : ℕ) → 1 ≤ times j (left_in nodes n0 next len) → j ≢ (before_of nodes 0)
+    not_last j some same =
+        grind (arith, nat_tests, at_most_once (shared_with taken) j, times_at (0 ∷ (order_in nodes len)) len, last_is, long chained, times_append)
 
     pub chained_with : IsChained (entered_in nodes n0 slot) capacity next (len + 1) room
-    chained_with = record {
-      shared = subst (λ o. AreShared (0 ∷ o) (free_in (entered_in nodes n0 slot) next (len + 1)) (length (entered_in nodes n0 slot)) (room + 1)) (sym order_with)
-          (subst (λ f. AreShared (0 ∷ (order_in nodes len ++ slot ∷ [])) f (length (entered_in nodes n0 slot)) (room + 1)) (sym free_with)
-          (subst (λ m. AreShared (0 ∷ (order_in nodes len ++ slot ∷ [])) (left_in nodes n0 next len) m (room + 1)) (sym entered_long) (shared_with taken)));
-      linked = subst (IsLinked (entered_in nodes n0 slot)) (sym order_with) linked_with;
-      freed = λ s some.
-          let there : 1 ≤ times s (left_in nodes n0 next len) = subst (λ f. 1 ≤ times s f) free_with some in
-          let was = free_before taken s there in
-          before_old s (omega (arith, there)) (λ e.
-          let one = at_most_once chained.shared 0 in
-          let too : 1 ≤ times 0 (free_in nodes free len) = subst (λ t. 1 ≤ times t (free_in nodes free len)) e was in
-          let first = times_at (0 ∷ (order_in nodes len)) 0 (omega arith) in
-          absurd (omega (arith, one, too, first)))
-          ∙ chained.freed s was;
-      has_room = chained.has_room;
-      short = chained.short;
-    }
+    chained_with =
+        grind (arith, nat_tests, order_with, order_same, after_old, not_last, length_linked, shared_with, linked_with, free_before, before_old, at_most_once, times_at)
 
     pub members_with : map (member_at (entered_in nodes n0 slot)) (order_in (entered_in nodes n0 slot) (len + 1)) ≡ map (member_at nodes) (order_in nodes len) ++ member_of node ∷ []
-    members_with =
-        ap (map (member_at (entered_in nodes n0 slot))) order_with
-        ∙ map-append (member_at (entered_in nodes n0 slot)) (order_in nodes len) (slot ∷ [])
-        ∙ ap (λ r. r ++ member_at (entered_in nodes n0 slot) slot ∷ []) (members_same nodes (entered_in nodes n0 slot) (order_in nodes len) (λ j some. member_old j (omega (arith, some))))
-        ∙ ap (λ m. map (member_at nodes) (order_in nodes len) ++ m ∷ []) (member_linked (end_in nodes n0 slot) slot 0 slot_n1 zero_n1 slot ∙ member_linked n0 (before_of nodes 0) slot last_fresh slot_fresh slot ∙ ap member_of is.new)
+    members_with = grind (arith, nat_tests, order_with, map-append, members_same, member_linked, slot_n1, zero_n1, last_fresh, slot_fresh, is)
 
 -- ---- a member is written in place
 
@@ -542,18 +368,9 @@ module _ {nodes : List Node} {capacity free len room : ℕ} (is : IsChained node
       let slots = order_in nodes len in
       let k_in : k < length slots = subst (λ (w : Chained). k < length w.slots) (sym view) l in
       let found : get_or slots k 0 ≡ slot = ap (λ (w : Chained). get_or w.slots k 0) view ∙ here in
-      let a : (write node).after ≡ after_of nodes slot = same_after node ∙ ap (λ (n : Node). n.after) node_is in
-      let b : (write node).before ≡ before_of nodes slot = same_before node ∙ ap (λ (n : Node). n.before) node_is in
-      let ns : List Node = set nodes slot (write node) in
-      let members : map (member_at ns) (order_in ns len) ≡ set (map (member_at nodes) slots) k (member_of (write node)) =
-      subst (λ s. map (member_at (set nodes s (write node))) (order_in (set nodes s (write node)) len) ≡ set (map (member_at nodes) slots) k (member_of (write node))) found
-      (members_written is (write node) k k_in (a ∙ ap (after_of nodes) (sym found)) (b ∙ ap (before_of nodes) (sym found))) in
-      let member : member_of (write node) ≡ change (get_or (map (member_at nodes) slots) k d) =
-      changed node ∙ ap (λ n. change (member_of n)) (node_is ∙ ap (node_at nodes) (sym found)) ∙ sym (ap change (get_or-map (member_at nodes) slots k 0 d k_in)) in
-      ap (λ j. chained (order_in (set nodes j (write node)) len) (map (member_at (set nodes j (write node))) (order_in (set nodes j (write node)) len)) room) at
-      ∙ ap (λ o. chained o (map (member_at ns) (order_in ns len)) room) (order_written is slot (write node) slot_there a b)
-      ∙ ap (λ ms. chained slots ms room) (members ∙ ap (set (map (member_at nodes) slots) k) member)
-      ∙ ap (λ (w : Chained). record w { members = set w.members k (change (get_or w.members k d)) }) view
+      let members = members_written is (write node) k k_in (grind (arith, same_after node, node_is, found)) (grind (arith, same_before node, node_is, found)) in
+      let order = order_written is slot (write node) slot_there (grind (arith, same_after node, node_is)) (grind (arith, same_before node, node_is)) in
+      grind (arith, nat_tests, node_is, members, order, changed node, get_or-map (member_at nodes) slots k 0 d k_in)
 
 -- what stands before a slot that has a member is another slot
 pub slot_marked : {nodes : List Node} {capacity free len room : ℕ} → IsChained nodes capacity free len room → (slot : ℕ) → 1 ≤ times slot (order_in nodes len) → (slot < length nodes) × (before_of nodes slot < 65535)

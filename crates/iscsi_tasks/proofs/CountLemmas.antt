@@ -1,50 +1,24 @@
 -- The counts stay those of the set.
-use Rattle.std.proofs.Common.{◌≡◌, ℕ, zero, suc, ◌+◌, ◌-◌, ◌<◌, ◌≤◌, ◌==◌, ◌&&◌, ◌≢◌, ◌⊎◌, inl, inr, not, cond, Bool, true, false, List, [], ◌∷◌, ◌++◌, length, map, take, drop, set, get_or, All, count_by, refl, ap, sym, ◌∙◌, arith, subst, ⊎_elim, true≢false, eqb-true, lt-ltb, le-ltb}
+use Rattle.std.proofs.Common.{◌≡◌, ℕ, zero, suc, ◌+◌, ◌-◌, ◌<◌, ◌≤◌, ◌==◌, ◌&&◌, ◌⊎◌, inl, inr, not, cond, Bool, true, false, List, [], ◌∷◌, ◌++◌, length, map, take, drop, set, get_or, All, count_by, refl, ap, sym, ◌∙◌, arith, eqb-true, lt-ltb, le-ltb}
 use Rattle.std.specs.List.{position_or_len, remove}
-use Rattle.std.proofs.lemmas.Bool.{cases_lt, cases_eq, cases_Bool, and_parts, and_right, cond-true, cond-false}
+use Rattle.std.proofs.lemmas.Bool.{and_right, cond-true, cond-false}
 use Rattle.std.proofs.lemmas.List.{length_push, get_or_append_left, get_or_push, get_or-set_same, get_or-set_other, length-set}
 use Rattle.std.proofs.lemmas.List.Edits.{length-remove, get_or-remove_below, get_or-remove_above}
 use Rattle.std.proofs.lemmas.List.Elements.{All-push}
 use Rattle.std.proofs.lemmas.List.Folds.{position_or_len_push, position_or_len-set}
 use Rattle.std.proofs.lemmas.List.Quantifiers.{all_pairs_push, all_pairs_remove}
 use Rattle.std.proofs.lemmas.List.Sums.{fails_before_first, sum_by-remove, sum_by_push, sum_by-cons, sum_by-set, prefix_len-le-length}
-use Rattle.iscsi_tasks.specs.declared.task.Attr.{Attr}
-use Rattle.iscsi_tasks.specs.declared.task.Task.{Task}
-use Rattle.iscsi_tasks.specs.declared.member.Member.{Member}
-use Rattle.iscsi_tasks.specs.Sets.{is_head_of, is_new}
-use Rattle.iscsi_tasks.specs.Counted.{Counts, IsCounted, is_head_in, is_ordered_in, plus_one_if, shifted_by, without_one, enabled_now, given_now}
+use Rattle.iscsi_tasks.proofs.Names.{nat_tests, Attr, Member, is_new, Counts, IsCounted, is_head_in, is_ordered_in, plus_one_if, shifted_by, without_one}
+use Rattle.iscsi_tasks.proofs.Names.{enabled_now, given_now}
+use Rattle.iscsi_tasks.specs.Sets.{is_head_of}
 
 -- a first place is within the list or its end
 pub first-le : {X : Type 0} (p : X → Bool) (xs : List X) → position_or_len p xs ≤ length xs
 first-le p xs = prefix_len-le-length (λ x. not (p x)) xs
 
-plus_one : (b : Bool) (n : ℕ) → n + cond b 1 0 ≡ plus_one_if b n
-plus_one true n = refl
-plus_one false n = omega arith
-
-count_push : (p : Member → Bool) (xs : List Member) (y : Member) → count_by p (xs ++ y ∷ []) ≡ plus_one_if (p y) (count_by p xs)
-count_push p xs y = sum_by_push (λ m. cond (p m) 1 0) xs y ∙ plus_one (p y) (count_by p xs)
-
--- a place that is the end moves on where it should
-moved_on : (at len : ℕ) (b : Bool) → at ≤ len → plus_one_if (at == len && b) at ≤ len + 1
-moved_on at len b within = ⊎_elim
-    (λ yes. subst (λ t. plus_one_if t at ≤ len + 1) (sym yes) (omega arith))
-    (λ no. subst (λ t. plus_one_if t at ≤ len + 1) (sym no) (omega arith))
-    (cases_Bool (at == len && b))
-
-last_one : (at : ℕ) (b : Bool) → plus_one_if (true && not b) at ≡ at + cond b 0 1
-last_one at true = omega arith
-last_one at false = refl
-
 -- the place of the first one, with one more at the end
 first_push : (p : Member → Bool) (xs : List Member) (y : Member) (at : ℕ) → at ≡ position_or_len p xs → plus_one_if (at == length xs && not (p y)) at ≡ position_or_len p (xs ++ y ∷ [])
-first_push p xs y at is = ⊎_elim
-    (λ end. let same : at ≡ length xs = eqb-true at (length xs) end in
-    ap (λ b. plus_one_if (b && not (p y)) at) end ∙ last_one at (p y) ∙ ap (λ n. n + cond (p y) 0 1) same
-    ∙ sym (position_or_len_push p xs y ∙ cond-true (position_or_len p xs == length xs) _ _ (ap (λ n. n == length xs) (sym is) ∙ end)))
-    (λ before. ap (λ b. plus_one_if (b && not (p y)) at) before ∙ is
-    ∙ sym (position_or_len_push p xs y ∙ cond-false (position_or_len p xs == length xs) _ _ (ap (λ n. n == length xs) (sym is) ∙ before)))
-    (cases_Bool (at == length xs))
+first_push p xs y at is = grind (arith, nat_tests, eqb-true, position_or_len_push, cond-true, cond-false)
 
 -- one command more, the last, with what is new between these places
 abbrev pub with_last : Counts → ℕ → Member → ℕ → ℕ → Counts
@@ -62,73 +36,35 @@ with_enabled c end from to = record { heads = c.heads; ordered_at = c.ordered_at
 
 -- the counts of no command
 pub counted_none_yet : IsCounted (record { heads = 0; ordered_at = 0; enabled_to = 0; new_from = 0; new_to = 0 }) []
-counted_none_yet = record {
-  order = λ i j d b l. absurd (omega arith);
-  heads = refl;
-  ordered_at = refl;
-  enabled_to = omega arith;
-  enabled = λ k d l. absurd (omega arith);
-  heads_enabled = λ k d l. absurd (omega arith);
-  new_to = omega arith;
-  new = λ k d l. absurd (omega arith);
-}
+counted_none_yet = grind (arith, nat_tests)
 
 module _ (c : Counts) (list : List Member) (counted : IsCounted c list) (m : Member) (newest : All (λ x. x.task.ticket < m.task.ticket) list) (head : is_head_in m ≡ true → m.enabled ≡ true) where
-  pub at_push : (P : Member → Type 0) (k : ℕ) (d : Member) → k < length list + 1 → (k < length list → P (get_or list k d)) → (k ≡ length list → P m) → P (get_or (list ++ m ∷ []) k d)
-  at_push P k d within before last = ⊎_elim
-      (λ below. subst P (sym (get_or_append_left list (m ∷ []) d k below)) (before below))
-      (λ above. subst P (sym (get_or_push list m d k (omega arith))) (last (omega arith)))
-      (cases_lt k (length list))
-
-  pub counted_push : (from to : ℕ) → to ≤ length list + 1 → ((k : ℕ) (d : Member) → k < length list + 1 → is_new (get_or (list ++ m ∷ []) k d) ≡ true → (from ≤ k) × (k < to)) → IsCounted (with_last c (length list) m from to) (list ++ m ∷ [])
-  counted_push from to upto between =
-      let len : ℕ = length list in
-      let long : length (list ++ m ∷ []) ≡ len + 1 = length_push list m in
-      record {
-        order = all_pairs_push (λ a b. a.task.ticket < b.task.ticket) list m counted.order newest;
-        heads = ap (plus_one_if (is_head_in m)) counted.heads ∙ sym (count_push is_head_in list m);
-        ordered_at = first_push is_ordered_in list m c.ordered_at counted.ordered_at;
-        enabled_to = subst (λ n. plus_one_if (c.enabled_to == len && m.enabled) c.enabled_to ≤ n) (sym long) (moved_on c.enabled_to len m.enabled counted.enabled_to);
-        enabled = λ k d l. ⊎_elim
-            (λ yes. let parts = and_parts (c.enabled_to == len) m.enabled yes in
-            let end : c.enabled_to ≡ len = eqb-true _ _ parts.0 in
-            let below : k < c.enabled_to + 1 = subst (λ b. k < plus_one_if b c.enabled_to) yes l in
-            at_push (λ x. x.enabled ≡ true) k d (omega arith) (λ b. counted.enabled k d (omega arith)) (λ e. parts.1))
-            (λ no. let below : k < c.enabled_to = subst (λ b. k < plus_one_if b c.enabled_to) no l in
-            at_push (λ x. x.enabled ≡ true) k d (omega (arith, counted.enabled_to)) (λ b. counted.enabled k d below) (λ e. absurd (omega (arith, counted.enabled_to))))
-            (cases_Bool (c.enabled_to == len && m.enabled));
-        heads_enabled = All-push (λ k. is_head_in k ≡ true → k.enabled ≡ true) list m counted.heads_enabled head;
-        new_to = omega (arith, long, upto);
-        new = λ k d l. between k d (omega (arith, l, long));
-      }
+  pub counted_push : (from to : ℕ) → to ≤ length list + 1 → ((k : ℕ) (d : Member) → k < length list → is_new (get_or list k d) ≡ true → (from ≤ k) × (k < to)) → (is_new m ≡ true → (from ≤ length list) × (length list < to)) → IsCounted (with_last c (length list) m from to) (list ++ m ∷ [])
+  counted_push from to upto old new =
+      grind (arith, nat_tests, all_pairs_push, sum_by_push, get_or_append_left, get_or_push, All-push, first_push is_ordered_in list m c.ordered_at counted.ordered_at, length_push list m)
 
 -- ---- a command leaves
 
 pub shifted_cases : (at place : ℕ) → ((at < place) × (shifted_by at place ≡ place - 1)) ⊎ ((place ≤ at) × (shifted_by at place ≡ place))
-shifted_cases at place = ⊎_elim
-    (λ before. inl (before, ap (λ b. cond b (place - 1) place) (lt-ltb at place before)))
-    (λ after. inr (after, ap (λ b. cond b (place - 1) place) (le-ltb at place after)))
-    (cases_lt at place)
+shifted_cases at place = grind (arith, nat_tests, lt-ltb, le-ltb)
+
+-- a place between two others is between them still
+shifted_within : (at from to k j : ℕ) → ((k < at) × (j ≡ k)) ⊎ ((at ≤ k) × (j ≡ k + 1)) → from ≤ j → j < to → (shifted_by at from ≤ k) × (k < shifted_by at to)
+shifted_within at from to k j place low high = grind (arith, nat_tests)
 
 module _ (list : List Member) (at : ℕ) (within : at < length list) where
   at_remove : (P : Member → Type 0) (k : ℕ) (d : Member) → (k < at → P (get_or list k d)) → (at ≤ k → P (get_or list (k + 1) d)) → P (get_or (remove list at) k d)
-  at_remove P k d before after = ⊎_elim
-      (λ below. subst P (sym (get_or-remove_below list at d k below within)) (before below))
-      (λ above. subst P (sym (get_or-remove_above list at d k above within)) (after above))
-      (cases_lt k at)
+  at_remove P k d before after = grind (arith, nat_tests, get_or-remove_below, get_or-remove_above)
 
   shorter : length (remove list at) + 1 ≡ length list
   shorter = length-remove list at within
 
   shifted-le : (place : ℕ) → place ≤ length list → shifted_by at place ≤ length (remove list at)
-  shifted-le place inside = ⊎_elim (λ case. omega (arith, shorter, case.0, case.1)) (λ case. omega (arith, shorter, case.0, case.1)) (shifted_cases at place)
+  shifted-le place inside = grind (arith, nat_tests, shorter)
 
   -- what is below a shifted place was below the place
   below_shifted : (P : Member → Type 0) (place : ℕ) → ((k : ℕ) (d : Member) → k < place → P (get_or list k d)) → (k : ℕ) (d : Member) → k < shifted_by at place → P (get_or (remove list at) k d)
-  below_shifted P place before k d below = ⊎_elim
-      (λ case. at_remove P k d (λ b. before k d (omega (arith, case.0, case.1))) (λ a. before (k + 1) d (omega (arith, case.0, case.1))))
-      (λ case. at_remove P k d (λ b. before k d (omega (arith, case.0, case.1))) (λ a. absurd (omega (arith, case.0, case.1))))
-      (shifted_cases at place)
+  below_shifted P place before k d below = grind (arith, nat_tests, get_or-remove_below, get_or-remove_above)
 
   pub ordered_shifted : (place : ℕ) → place ≡ position_or_len is_ordered_in list → (shifted_by at place ≤ length (remove list at)) × ((k : ℕ) (d : Member) → k < shifted_by at place → is_ordered_in (get_or (remove list at) k d) ≡ false)
   ordered_shifted place is = (
@@ -141,15 +77,7 @@ module _ (list : List Member) (at : ℕ) (within : at < length list) where
 
   -- HEAD OF QUEUE is counted, so there is one less
   pub one_less : (c : Counts) (d : Member) (attr : Attr) → c.heads ≡ count_by is_head_in list → attr ≡ (get_or list at d).task.attr → (is_head_of attr ≡ true → 0 < c.heads) × (cond {A = ℕ} (is_head_of attr) (c.heads - 1) c.heads ≡ count_by is_head_in (remove list at))
-  one_less c d attr counted is =
-      let sum = heads_less d in ⊎_elim
-      (λ head.
-      let one : cond {A = ℕ} (is_head_in (get_or list at d)) 1 0 ≡ 1 = ap (λ a. cond {A = ℕ} (is_head_of a) 1 0) (sym is) ∙ ap (λ b. cond {A = ℕ} b 1 0) head in
-      (λ h. omega (arith, sum, one, counted), ap (λ b. cond {A = ℕ} b (c.heads - 1) c.heads) head ∙ omega (arith, sum, one, counted)))
-      (λ other.
-      let none : cond {A = ℕ} (is_head_in (get_or list at d)) 1 0 ≡ 0 = ap (λ a. cond {A = ℕ} (is_head_of a) 1 0) (sym is) ∙ ap (λ b. cond {A = ℕ} b 1 0) other in
-      (λ h. absurd (true≢false (sym h ∙ other)), ap (λ b. cond {A = ℕ} b (c.heads - 1) c.heads) other ∙ omega (arith, sum, none, counted)))
-      (cases_Bool (is_head_of attr))
+  one_less c d attr counted is = grind (arith, nat_tests, heads_less d)
 
   pub counted_remove : (c : Counts) (d : Member) (attr : Attr) (ordered_at : ℕ) → IsCounted c list → attr ≡ (get_or list at d).task.attr → ordered_at ≡ position_or_len is_ordered_in (remove list at) → IsCounted (without_one c at attr ordered_at) (remove list at)
   counted_remove c d attr ordered_at counted is first = record {
@@ -161,14 +89,8 @@ module _ (list : List Member) (at : ℕ) (within : at < length list) where
     heads_enabled = λ k e l. at_remove (λ m. is_head_in m ≡ true → m.enabled ≡ true) k e (λ b. counted.heads_enabled k e (omega arith)) (λ a. counted.heads_enabled (k + 1) e (omega (arith, shorter)));
     new_to = shifted-le c.new_to counted.new_to;
     new = λ k e l. at_remove (λ m. is_new m ≡ true → (shifted_by at c.new_from ≤ k) × (k < shifted_by at c.new_to)) k e
-        (λ b new. let was = counted.new k e (omega arith) new in (
-          ⊎_elim (λ case. omega (arith, was.0, case.0, case.1)) (λ case. omega (arith, was.0, case.0, case.1)) (shifted_cases at c.new_from),
-          ⊎_elim (λ case. omega (arith, was.1, case.0, case.1)) (λ case. omega (arith, was.1, case.0, case.1)) (shifted_cases at c.new_to),
-        ))
-        (λ a new. let was = counted.new (k + 1) e (omega (arith, shorter)) new in (
-          ⊎_elim (λ case. omega (arith, was.0, case.0, case.1)) (λ case. omega (arith, was.0, case.0, case.1)) (shifted_cases at c.new_from),
-          ⊎_elim (λ case. omega (arith, was.1, case.0, case.1)) (λ case. omega (arith, was.1, case.0, case.1)) (shifted_cases at c.new_to),
-        ));
+        (λ b new. let was = counted.new k e (omega arith) new in shifted_within at c.new_from c.new_to k k (inl (b, refl)) was.0 was.1)
+        (λ a new. let was = counted.new (k + 1) e (omega (arith, shorter)) new in shifted_within at c.new_from c.new_to k (k + 1) (inr (a, refl)) was.0 was.1);
   }
 
 -- ---- the first commands are enabled
@@ -185,10 +107,8 @@ parts-task (x ∷ xs) (suc n) zero d = refl
 parts-task (x ∷ xs) (suc n) (suc k) d = parts-task xs n k d
 
 parts-below : (xs : List Member) (n k : ℕ) (d : Member) → k < length xs → k < n → get_or (enabled_up_to n xs) k d ≡ enabled_now (get_or xs k d)
-parts-below [] n k d l b = absurd (omega arith)
-parts-below (x ∷ xs) zero k d l b = absurd (omega arith)
-parts-below (x ∷ xs) (suc n) zero d l b = refl
 parts-below (x ∷ xs) (suc n) (suc k) d l b = parts-below xs n k d (omega arith) (omega arith)
+parts-below xs n k d l b = grind (arith, nat_tests)
 
 parts-above : (xs : List Member) (n k : ℕ) (d : Member) → n ≤ k → get_or (enabled_up_to n xs) k d ≡ get_or xs k d
 parts-above [] zero k d a = refl
@@ -220,71 +140,13 @@ parts-first (x ∷ xs) (suc n) = ap (λ s. cond {A = ℕ} (not (is_ordered_in x)
 
 pub counted_enabled : (c : Counts) (list : List Member) (to : ℕ) → IsCounted c list → c.enabled_to < to → to ≤ length list → (new_from new_to : ℕ) → new_from ≤ c.enabled_to → to ≤ new_to → new_to ≤ length list → ((k : ℕ) (d : Member) → k < length list → is_new (get_or list k d) ≡ true → (new_from ≤ k) × (k < new_to)) → IsCounted (with_enabled c to new_from new_to) (enabled_up_to to list)
 counted_enabled c list to counted more inside new_from new_to low high upto between =
-    let at : (P : Member → Type 0) (k : ℕ) (d : Member) → k < length list → (k < to → P (enabled_now (get_or list k d))) → (to ≤ k → P (get_or list k d)) → P (get_or (enabled_up_to to list) k d) =
-    λ P k d l below above. ⊎_elim
-    (λ b. subst P (sym (parts-below list to k d l b)) (below b))
-    (λ a. subst P (sym (parts-above list to k d a)) (above a))
-    (cases_lt k to) in
-    let long = parts-length list to in
-    record {
-      order = λ i j d b l. let up : (get_or list i d).task.ticket < (get_or list j d).task.ticket = counted.order i j d b (omega (arith, long)) in
-          subst (λ (t : Task). t.ticket < (get_or (enabled_up_to to list) j d).task.ticket) (sym (parts-task list to i d)) (subst (λ (t : Task). (get_or list i d).task.ticket < t.ticket) (sym (parts-task list to j d)) up);
-      heads = counted.heads ∙ sym (parts-heads list to);
-      ordered_at = counted.ordered_at ∙ sym (parts-first list to);
-      enabled_to = omega (arith, long);
-      enabled = λ k d l. at (λ m. m.enabled ≡ true) k d (omega arith) (λ b. refl) (λ a. absurd (omega arith));
-      heads_enabled = λ k d l. at (λ m. is_head_in m ≡ true → m.enabled ≡ true) k d (omega (arith, long)) (λ b head. refl) (λ a head. counted.heads_enabled k d (omega (arith, long)) head);
-      new_to = omega (arith, long, upto);
-      new = λ k d l. at (λ m. is_new m ≡ true → (new_from ≤ k) × (k < new_to)) k d (omega (arith, long))
-          (λ b new. ⊎_elim
-          (λ old.
-          let on : (get_or list k d).enabled ≡ true = counted.enabled k d old in
-          between k d (omega (arith, long)) (ap (λ t. t && not (get_or list k d).given) on ∙ new))
-          (λ fresh. (omega (arith, low, fresh), omega (arith, high, b)))
-          (cases_lt k c.enabled_to))
-          (λ a. between k d (omega (arith, long)));
-    }
+    grind (arith, nat_tests, parts-below, parts-above, parts-length, parts-task, parts-heads, parts-first)
 
 -- ---- a ticket is given
 
 pub counted_none : (c : Counts) (list : List Member) → IsCounted c list → All (λ m. is_new m ≡ false) list → IsCounted (record c { new_from = c.new_to }) list
-counted_none c list counted none = record {
-  order = counted.order;
-  heads = counted.heads;
-  ordered_at = counted.ordered_at;
-  enabled_to = counted.enabled_to;
-  enabled = counted.enabled;
-  heads_enabled = counted.heads_enabled;
-  new_to = counted.new_to;
-  new = λ k d l new. absurd (true≢false (sym new ∙ none k d l));
-}
+counted_none c list counted none = grind (arith, nat_tests)
 
 pub counted_given : (c : Counts) (list : List Member) (at : ℕ) (m : Member) → IsCounted c list → at < length list → ((d : Member) → get_or list at d ≡ m) → ((k : ℕ) (d : Member) → k < at → is_new (get_or list k d) ≡ false) → IsCounted (record c { new_from = at + 1 }) (set list at (given_now m))
 counted_given c list at m counted within here before =
-    let y : Member = given_now m in
-    let at_set : (P : Member → Type 0) (k : ℕ) (d : Member) → (k ≡ at → P y) → (k ≢ at → P (get_or list k d)) → P (get_or (set list at y) k d) =
-    λ P k d same other. ⊎_elim
-    (λ e. subst (λ n. P (get_or (set list at y) n d)) (sym e) (subst P (sym (get_or-set_same list at y d within)) (same e)))
-    (λ ne. subst P (sym (get_or-set_other list at k y d ne)) (other ne))
-    (cases_eq k at) in
-    let task_at : (k : ℕ) (d : Member) → (get_or (set list at y) k d).task ≡ (get_or list k d).task =
-    λ k d. at_set (λ x. x.task ≡ (get_or list k d).task) k d (λ e. sym (ap (λ n. (get_or list n d).task) e ∙ ap (λ (x : Member). x.task) (here d))) (λ ne. refl) in
-    let long : length (set list at y) ≡ length list = length-set list at y in
-    record {
-      order = λ i j d b l. let up : (get_or list i d).task.ticket < (get_or list j d).task.ticket = counted.order i j d b (omega (arith, long)) in
-          subst (λ (t : Task). t.ticket < (get_or (set list at y) j d).task.ticket) (sym (task_at i d)) (subst (λ (t : Task). (get_or list i d).task.ticket < t.ticket) (sym (task_at j d)) up);
-      heads = let sums = sum_by-set (λ x. cond {A = ℕ} (is_head_in x) 1 0) list at y m within in
-          let same : cond {A = ℕ} (is_head_in (get_or list at m)) 1 0 ≡ cond {A = ℕ} (is_head_in m) 1 0 = ap (λ (x : Member). cond {A = ℕ} (is_head_in x) 1 0) (here m) in
-          omega (arith, sums, same, counted.heads);
-      ordered_at = counted.ordered_at ∙ sym (position_or_len-set is_ordered_in list at y m (ap is_ordered_in (sym (here m))));
-      enabled_to = omega (arith, long, counted.enabled_to);
-      enabled = λ k d l. at_set (λ x. x.enabled ≡ true) k d (λ e. ap (λ (x : Member). x.enabled) (sym (here d) ∙ ap (λ n. get_or list n d) (sym e)) ∙ counted.enabled k d l) (λ ne. counted.enabled k d l);
-      heads_enabled = λ k d l. at_set (λ x. is_head_in x ≡ true → x.enabled ≡ true) k d
-          (λ e head. ap (λ (x : Member). x.enabled) (sym (here d)) ∙ counted.heads_enabled at d within (ap is_head_in (here d) ∙ head))
-          (λ ne. counted.heads_enabled k d (omega (arith, long)));
-      new_to = omega (arith, long, counted.new_to);
-      new = λ k d l. at_set (λ x. is_new x ≡ true → (at + 1 ≤ k) × (k < c.new_to)) k d
-          (λ e new. absurd (true≢false (sym new ∙ and_right m.enabled false refl)))
-          (λ ne new. let was = counted.new k d (omega (arith, long)) new in
-          (⊎_elim (λ b. absurd (true≢false (sym new ∙ before k d b))) (λ a. omega arith) (cases_lt k at), was.1));
-    }
+    grind (arith, nat_tests, get_or-set_same, get_or-set_other, length-set, sum_by-set, position_or_len-set, and_right)

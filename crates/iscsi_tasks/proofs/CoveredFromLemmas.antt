@@ -1,47 +1,24 @@
 -- From which number on functions may cover commands of a set.
-use Rattle.std.proofs.Common.{◌≡◌, ◌∙◌, ◌&&◌, ◌==◌, not, Bool, ℕ, zero, suc, ◌<◌, ℤ, pos, ◌+ℤ◌, ◌≤ℤ◌, cond, true, false, nat_lt, int_lt, List, [], ◌∷◌, ◌++◌, length, map, get_or, All, ap, sym, subst, arith, ⊎_elim}
+use Rattle.std.proofs.Common.{◌≡◌, ◌∙◌, ◌==◌, not, Bool, ℕ, zero, suc, ◌<◌, ℤ, ◌≤ℤ◌, cond, true, false, List, [], ◌∷◌, ◌++◌, length, map, get_or, All, ap, sym, subst, arith}
 use Rattle.std.specs.Int.{int_min}
 use Rattle.std.specs.List.{fold}
-use Rattle.std.specs.Ordering.{int_eq}
 use Rattle.std.proofs.lemmas.Int.{ints, clamps}
-use Rattle.std.proofs.lemmas.Bool.{cases_Bool, and_left, and_right, or_from, ne_eqb, false_from_ne_true, true_from_ne_false}
+use Rattle.std.proofs.lemmas.Bool.{and_left, and_right, or_from, ne_eqb, false_from_ne_true, true_from_ne_false}
+use Rattle.iscsi_tasks.proofs.Names.{nat_tests, Task, Cover, Member, is_covered, after_moment, without, uncovered, list_staying, IsCoveredFrom, is_below}
+use Rattle.iscsi_tasks.proofs.Names.{covered_from, greatest_number, covered_from_with, covered_from_in, covered_from_first, IsAscending}
 use Rattle.std.proofs.lemmas.Bool.Decides.{Decides-int_eq}
 use Rattle.std.proofs.lemmas.List.Elements.{All-cons, All-filter, All-map, All-nil, All-push}
-use Rattle.iscsi_tasks.specs.declared.task.Task.{Task}
-use Rattle.iscsi_tasks.specs.declared.cover.Cover.{Cover}
-use Rattle.iscsi_tasks.specs.declared.cover.Cover.TheVariants.{All as AllOfThem, Conn, Below}
-use Rattle.iscsi_tasks.specs.declared.member.Member.{Member}
-use Rattle.iscsi_tasks.specs.Sets.{is_covered, after_moment, without, uncovered, list_staying}
-use Rattle.iscsi_tasks.specs.Counted.{IsCoveredFrom, is_below, covered_from, greatest_number, covered_from_with, covered_from_in, covered_from_first, IsAscending}
 use Rattle.iscsi_tasks.proofs.HistoryLemmas.{tasks-looked}
 use Rattle.iscsi_tasks.proofs.ListLemmas.{filter-map}
 use Rattle.iscsi_tasks.proofs.StayingLemmas.{staying_cases}
 
--- a function doesn't cover a command of a greater number, nor a numbered one of its own
-not_lower : (t : Task) (at : ℤ) (event : ℕ) → at ≤ℤ t.pos → (t.immediate && int_eq t.pos at) ≡ false → is_covered (Below at event) t ≡ false
-not_lower t at event le apart =
-    or_from _ _ (false_from_ne_true (int_lt t.pos at) (λ lt. omega (arith, ints)))
-    (ap (λ b. b && nat_lt t.event event) apart)
-
 -- no function with a number below that of the command covers it
 none_below : (t : Task) (cover : Cover) → is_below (covered_from t) cover ≡ true → is_covered cover t ≡ false
-none_below t AllOfThem below = cc
-none_below t (Conn cid) below = cc
-none_below t (Below at event) below = ⊎_elim
-    (λ immediate.
-    let lt : int_lt at t.pos ≡ true = ap (λ b. int_lt at (cond b t.pos (int_min (t.pos +ℤ pos 1) greatest_number))) (sym immediate) ∙ below in
-    not_lower t at event (omega (arith, ints)) (and_right _ _ (false_from_ne_true (int_eq t.pos at) (λ e. let same = (Decides-int_eq t.pos at).0 e in omega (arith, ints)))))
-    (λ numbered.
-    let lt : int_lt at (int_min (t.pos +ℤ pos 1) greatest_number) ≡ true = ap (λ b. int_lt at (cond b t.pos (int_min (t.pos +ℤ pos 1) greatest_number))) (sym numbered) ∙ below in
-    let next : int_min (t.pos +ℤ pos 1) greatest_number ≤ℤ (t.pos +ℤ pos 1) = omega (arith, ints, clamps) in
-    not_lower t at event (omega (arith, ints)) (and_left _ _ numbered))
-    (cases_Bool t.immediate)
+none_below t cover below = grind (arith, nat_tests, or_from, ints, and_right, false_from_ne_true, Decides-int_eq, clamps, and_left)
 
 -- where a number serves, each lower one does
 is_below-le : (a b : ℤ) (cover : Cover) → a ≤ℤ b → is_below a cover ≡ true → is_below b cover ≡ true
-is_below-le a b AllOfThem le below = cc
-is_below-le a b (Conn cid) le below = cc
-is_below-le a b (Below at event) le below = true_from_ne_false (int_lt at b) (λ no. omega (arith, ints))
+is_below-le a b cover le below = grind (arith, nat_tests, true_from_ne_false, ints)
 
 -- a command entered
 pub covered_from_push : (number : ℤ) (list : List Task) (t : Task) → IsCoveredFrom number list → IsCoveredFrom (covered_from_with number (length list) t) (list ++ t ∷ [])
@@ -73,11 +50,7 @@ covered_from_staying number covers list kept = staying_cases covers list (λ (l 
 -- the commands were looked at
 least : (number : ℤ) (list : List Member) → (fold (λ n m. int_min n (covered_from m.task)) number list ≤ℤ number) × All (λ x. fold (λ n m. int_min n (covered_from m.task)) number list ≤ℤ covered_from x.task) list
 least number [] = (omega (arith, ints), All-nil (λ x. number ≤ℤ covered_from x.task))
-least number (m ∷ ms) =
-    let h = least (int_min number (covered_from m.task)) ms in
-    let low = h.0 in
-    let r : ℤ = fold (λ n x. int_min n (covered_from x.task)) (int_min number (covered_from m.task)) ms in
-    (omega (arith, ints, clamps), All-cons (λ x. r ≤ℤ covered_from x.task) m ms (omega (arith, ints, clamps)) h.1)
+least number (m ∷ ms) = grind (arith, nat_tests, least (int_min number (covered_from m.task)) ms, ints, clamps, All-cons)
 
 pub covered_from_all : (list : List Member) → IsCoveredFrom (covered_from_in list) (map (λ m. m.task) list)
 covered_from_all list cover below = All-map (λ t. is_covered cover t ≡ false) (λ (m : Member). m.task) list

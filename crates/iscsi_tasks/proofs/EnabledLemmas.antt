@@ -1,12 +1,10 @@
 -- A flag tells that there was a moment.
-use Rattle.std.proofs.Common.{◌≡◌, ◌↔◌, ℕ, ◌<◌, ◌==◌, ◌&&◌, Bool, IsTrue, true, false, List, [], ◌∷◌, ◌++◌, length, get_or, refl, ap, sym, ◌∙◌, arith, eq-eqb, ⊎_elim, subst}
-use Rattle.std.proofs.lemmas.Bool.{or_cases, or_left, or_right, and_parts, and_from, eqb-true}
+use Rattle.std.proofs.Common.{◌≡◌, ◌↔◌, ℕ, ◌<◌, ◌==◌, ◌&&◌, Bool, IsTrue, true, false, List, [], ◌∷◌, ◌++◌, length, get_or, ap, sym, ◌∙◌, arith}
+use Rattle.std.proofs.lemmas.Bool.{or_cases, or_left, or_right, and_parts, eqb-true}
 use Rattle.std.proofs.lemmas.List.{length-map, get_or-map}
 use Rattle.std.proofs.lemmas.List.Folds.{Any-from_list_any, list_any_at}
-use Rattle.iscsi_tasks.specs.declared.task.Task.{Task}
-use Rattle.iscsi_tasks.specs.declared.member.Member.{Member}
-use Rattle.iscsi_tasks.specs.Sets.{Members, is_enabled_in}
-use Rattle.iscsi_tasks.specs.Changes.{Change, Entered, Left, Gave, live, is_free_in, was_free, IsMoment, WasFree, IsEnabled, StandsFor}
+use Rattle.iscsi_tasks.proofs.Names.{nat_tests, Task, Member, Members, is_enabled_in, Change, Entered, Left, Gave, live, is_free_in, was_free, IsMoment}
+use Rattle.iscsi_tasks.proofs.Names.{WasFree, IsEnabled, StandsFor}
 
 WasFree-more : (task : Task) (c : Change) (h : List Change) → WasFree task h → WasFree task (c ∷ h)
 WasFree-more task c h (later, earlier, parts, moment, free) = (c ∷ later, earlier, ap (λ r. c ∷ r) parts, moment, free)
@@ -14,21 +12,12 @@ WasFree-more task c h (later, earlier, parts, moment, free) = (c ∷ later, earl
 -- a flag that is set has its moment
 pub moment_of : (task : Task) (h : List Change) → was_free task h ≡ true → WasFree task h
 moment_of task [] was = cc
-moment_of task (Entered t ∷ h) was = ⊎_elim
-    (λ now. ([], Entered t ∷ h, refl, tt, now))
-    (λ before. WasFree-more task (Entered t) h (moment_of task h before))
-    (or_cases (is_free_in task (live (Entered t ∷ h))) (was_free task h) was)
-moment_of task (Left ticket ∷ h) was = ⊎_elim
-    (λ now. ([], Left ticket ∷ h, refl, tt, now))
-    (λ before. WasFree-more task (Left ticket) h (moment_of task h before))
-    (or_cases (is_free_in task (live (Left ticket ∷ h))) (was_free task h) was)
+moment_of task (Entered t ∷ h) was = grind (arith, nat_tests, moment_of task h, WasFree-more, or_cases)
+moment_of task (Left ticket ∷ h) was = grind (arith, nat_tests, moment_of task h, WasFree-more, or_cases)
 moment_of task (Gave ticket ∷ h) was = WasFree-more task (Gave ticket) h (moment_of task h was)
 
 at_moment : (task : Task) (h : List Change) → IsMoment h → is_free_in task (live h) ≡ true → was_free task h ≡ true
-at_moment task [] moment free = absurd moment
-at_moment task (Entered t ∷ h) moment free = or_left _ _ free
-at_moment task (Left ticket ∷ h) moment free = or_left _ _ free
-at_moment task (Gave ticket ∷ h) moment free = absurd moment
+at_moment task h moment free = grind (arith, nat_tests, or_left)
 
 stays : (task : Task) (later earlier : List Change) → was_free task earlier ≡ true → was_free task (later ++ earlier) ≡ true
 stays task [] earlier was = was
@@ -50,23 +39,13 @@ module _ (s : Members) (h : List Change) (st : StandsFor s h) where
   task_at k d within = ap (λ ts. get_or ts k d.task) (sym st.tasks) ∙ get_or-map (λ m. m.task) s.list k d d.task within
 
   pub enabled_told : (ticket : ℕ) → is_enabled_in ticket s.list ≡ true → IsEnabled ticket h
-  enabled_told ticket told =
-      let (k, m, within, read, test) = Any-from_list_any (λ x. x.task.ticket == ticket && x.enabled) s.list told in
-      let parts = and_parts (m.task.ticket == ticket) m.enabled test in
-      let task : (get_or s.list k m).task ≡ m.task = ap (λ (x : Member). x.task) read in
-      let in_live : get_or (live h) k m.task ≡ m.task = task_at k m within ∙ task in
-      let flag : was_free m.task h ≡ true = sym (subst (λ (x : Member). x.enabled ≡ was_free x.task h) read (st.enabled k m within)) ∙ parts.1 in
-      let inside : k < length (live h) = omega (arith, long) in
-      (m.task, eqb-true m.task.ticket ticket parts.0, (k, inside, in_live), moment_of m.task h flag)
+  enabled_told ticket told = grind (arith, nat_tests, Any-from_list_any, and_parts, task_at, long, eqb-true, moment_of)
 
   pub told_enabled : (ticket : ℕ) → IsEnabled ticket h → is_enabled_in ticket s.list ≡ true
   told_enabled ticket (task, same, (k, inside, in_live), was) =
       let within : k < length s.list = omega (arith, long) in
       let d : Member = record { task = task; enabled = false; given = false } in
-      let here : (get_or s.list k d).task ≡ task = sym (task_at k d within) ∙ in_live in
-      let flag : (get_or s.list k d).enabled ≡ true = st.enabled k d within ∙ ap (λ t. was_free t h) here ∙ flag_of task h was in
-      let number : ((get_or s.list k d).task.ticket == ticket) ≡ true = eq-eqb _ _ (ap (λ (t : Task). t.ticket) here ∙ same) in
-      list_any_at (λ x. x.task.ticket == ticket && x.enabled) s.list k d within (and_from _ _ number flag)
+      grind (arith, nat_tests, task_at k d within, flag_of task h was, st.enabled k d within, list_any_at (λ x. x.task.ticket == ticket && x.enabled) s.list k d within)
 
 -- the flag, in terms of the history
 pub enabled_is : (s : Members) (ticket : ℕ) (b : Bool) → b ≡ is_enabled_in ticket s.list → (h : List Change) → StandsFor s h → IsTrue b ↔ IsEnabled ticket h

@@ -1,44 +1,25 @@
 -- A command enters: it alone may become enabled.
-use Rattle.std.proofs.Common.{◌≡◌, ℕ, suc, ◌<◌, ◌==◌, ◌||◌, ◌&&◌, ◌≢◌, not, Bool, true, false, List, [], ◌∷◌, ◌++◌, length, get_or, All, refl, ap, sym, ◌∙◌, arith, ⊎_elim, ne_eqb, eq-eqb}
-use Rattle.std.specs.List.{list_any, position_or_len}
-use Rattle.std.proofs.lemmas.Bool.{cases_Bool, cases_eq, or_left, not-false, and_left, and_right, and_from}
+use Rattle.std.proofs.Common.{◌≡◌, ℕ, ◌<◌, ◌==◌, ◌||◌, ◌&&◌, ◌≢◌, Bool, true, false, List, [], ◌∷◌, ◌++◌, length, get_or, All, refl, ap, sym, ◌∙◌, arith, ⊎_elim, ne_eqb, eq-eqb}
+use Rattle.std.specs.List.{position_or_len}
+use Rattle.std.proofs.lemmas.Bool.{cases_eq, or_left, not-false, and_left, and_right, and_from}
 use Rattle.std.proofs.lemmas.List.{map-append, get_or_append_left, length_push, get_or_default}
 use Rattle.std.proofs.lemmas.List.Elements.{All-push}
 use Rattle.std.proofs.lemmas.List.Folds.{list_any-append, Any-from_list_any}
 use Rattle.std.proofs.lemmas.List.Sums.{fails_before_first, passes_at_first}
-use Rattle.iscsi_tasks.specs.declared.task.Attr.{Attr}
-use Rattle.iscsi_tasks.specs.declared.task.Attr.TheVariants.{Simple, Ordered, Head}
-use Rattle.iscsi_tasks.specs.declared.task.Task.{Task}
-use Rattle.iscsi_tasks.specs.declared.member.Member.{Member}
-use Rattle.iscsi_tasks.specs.Rules.{is_head_of}
-use Rattle.iscsi_tasks.specs.Sets.{queued, is_free, is_free_among, looked_at, after_moment}
-use Rattle.iscsi_tasks.specs.Counted.{Counts, IsCounted, IsSettled, is_head_in, is_ordered_in, is_free_behind}
+use Rattle.iscsi_tasks.proofs.Names.{nat_tests, Attr, Simple, Ordered, Task, Member, is_head_of, queued, is_free, is_free_among, after_moment, Counts}
+use Rattle.iscsi_tasks.proofs.Names.{IsCounted, IsSettled, is_head_in, is_ordered_in, is_free_behind}
 use Rattle.iscsi_tasks.proofs.MomentLemmas.{bars_in, free_among, free_none, free_barred, free_head, head_bars, ordered_bars, older_bars, younger_passes, simple_passes, none_counted, some_counted, map-looked_same}
 use Rattle.iscsi_tasks.proofs.CountLemmas.{first-le}
 
--- what barred the others bars them still
-still_barred : (task : Task) (list : List Member) (m : Member) → is_free_among task list ≡ false → is_free_among task (list ++ m ∷ []) ≡ false
-still_barred task list m barred =
-    let before : list_any (bars_in task) list ≡ true = not-false _ (sym (free_among task list) ∙ barred) in
-    free_among task (list ++ m ∷ []) ∙ ap not (list_any-append (bars_in task) list (m ∷ []) ∙ or_left _ _ before)
-
 still_settled : (list : List Member) (m : Member) → IsSettled list → All (λ x. (x.enabled || is_free_among x.task (list ++ m ∷ [])) ≡ x.enabled) list
-still_settled list m settled k d l =
-    let x = get_or list k d in ⊎_elim
-    (λ on. or_left _ _ on ∙ sym on)
-    (λ off.
-    let barred : is_free_among x.task list ≡ false = ap (λ b. b || is_free_among x.task list) (sym off) ∙ settled k d l ∙ off in
-    ap (λ b. b || is_free_among x.task (list ++ m ∷ [])) off ∙ still_barred x.task list m barred ∙ sym off)
-    (cases_Bool x.enabled)
+still_settled list m settled k d l = grind (arith, nat_tests, or_left, bars_in, not-false, free_among, list_any-append)
 
 module _ (c : Counts) (task : Task) where
   -- ORDERED is free where it is alone
   free_ordered : (list : List Member) → task.attr ≡ Ordered → All (λ m. m.task.ticket < task.ticket) list → is_free_among task (list ++ record { task = task; enabled = false; given = false } ∷ []) ≡ (length list == 0)
   free_ordered [] is newest =
       free_none task (record { task = task; enabled = false; given = false } ∷ []) (All-push (λ m. bars_in task m ≡ false) [] (record { task = task; enabled = false; given = false }) (λ k d l. absurd (omega arith)) (younger_passes Ordered task (record { task = task; enabled = false; given = false }) is (ap is_head_of is) (omega arith)))
-  free_ordered (x ∷ xs) is newest =
-      free_barred task (x ∷ xs ++ record { task = task; enabled = false; given = false } ∷ []) 0 x (omega arith) (older_bars task x is (newest 0 x (omega arith)))
-      ∙ sym (ne_eqb (suc (length xs)) 0 (λ e. omega arith))
+  free_ordered (x ∷ xs) is newest = grind (arith, nat_tests, free_barred, ne_eqb, older_bars task x is (newest 0 x (omega arith)))
 
   -- SIMPLE is free where no HEAD OF QUEUE and no ORDERED is in front
   free_simple : (list : List Member) → IsCounted c list → task.attr ≡ Simple → All (λ m. m.task.ticket < task.ticket) list → is_free_among task (list ++ record { task = task; enabled = false; given = false } ∷ []) ≡ (c.heads == 0 && c.ordered_at == length list)
@@ -68,17 +49,11 @@ module _ (c : Counts) (task : Task) where
       (cases_eq c.heads 0)
 
   free_last : (a : Attr) (list : List Member) → IsCounted c list → task.attr ≡ a → All (λ m. m.task.ticket < task.ticket) list → is_free_among task (list ++ record { task = task; enabled = false; given = false } ∷ []) ≡ is_free_behind c (length list) a
-  free_last Head list counted is newest = free_head Head task _ is refl
-  free_last Ordered list counted is newest = free_ordered list is newest
-  free_last Simple list counted is newest = free_simple list counted is newest
+  free_last a list counted is newest = grind (arith, nat_tests, free_head, free_ordered, free_simple)
 
   -- the set after the moment: the command stands last, enabled where it is free
   pub moment_entered : (list : List Member) → IsCounted c list → IsSettled list → All (λ m. m.task.ticket < task.ticket) list → after_moment (list ++ record { task = task; enabled = false; given = false } ∷ []) ≡ list ++ record { task = task; enabled = is_free_behind c (length list) task.attr; given = false } ∷ []
-  moment_entered list counted settled newest =
-      let last : Member = record { task = task; enabled = false; given = false } in
-      map-append (looked_at (list ++ last ∷ [])) list (last ∷ [])
-      ∙ ap (λ xs. xs ++ looked_at (list ++ last ∷ []) last ∷ []) (map-looked_same (list ++ last ∷ []) list (still_settled list last settled))
-      ∙ ap (λ b. list ++ record { task = task; enabled = b; given = false } ∷ []) (free_last task.attr list counted refl newest)
+  moment_entered list counted settled newest = grind (arith, nat_tests, map-append, map-looked_same, still_settled, free_last)
 
   -- and every command that is free is enabled still
   pub settled_entered : (list : List Member) → IsCounted c list → IsSettled list → All (λ m. m.task.ticket < task.ticket) list → (enabled given : Bool) → enabled ≡ is_free_behind c (length list) task.attr → IsSettled (list ++ record { task = task; enabled = enabled; given = given } ∷ [])
@@ -91,5 +66,4 @@ module _ (c : Counts) (task : Task) where
       All-push (λ x. (x.enabled || is_free_among x.task (list ++ m ∷ [])) ≡ x.enabled) list m (still_settled list m settled) (ap (λ b. enabled || b) free ∙ or_same enabled)
     where
       or_same : (b : Bool) → (b || b) ≡ b
-      or_same true = refl
-      or_same false = refl
+      or_same b = grind (arith, nat_tests)

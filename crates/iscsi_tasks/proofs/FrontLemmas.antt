@@ -1,15 +1,13 @@
 -- Sets along which the numbers from which on functions may cover the commands go up.
-use Rattle.std.proofs.Common.{◌≡◌, ◌∙◌, ℕ, suc, ◌<◌, ◌+◌, ◌==◌, ◌||◌, ◌&&◌, not, ℤ, ◌≤ℤ◌, int_lt, Bool, true, false, List, [], ◌∷◌, ◌++◌, length, map, filter, take, get_or, All, ap, sym, subst, arith, ne_eqb, true≢false}
+use Rattle.std.proofs.Common.{◌≡◌, ◌∙◌, ℕ, suc, ◌<◌, ◌+◌, ◌==◌, ◌||◌, ◌&&◌, not, ℤ, ◌≤ℤ◌, int_lt, Bool, true, List, [], ◌∷◌, ◌++◌, length, map, filter, take, get_or, All, ap, sym, arith, ne_eqb}
 use Rattle.std.proofs.lemmas.Int.{ints}
-use Rattle.std.proofs.lemmas.Bool.{and_parts, false_from_ne_true}
+use Rattle.std.proofs.lemmas.Bool.{and_parts}
 use Rattle.std.proofs.lemmas.List.{get_or-map, length-map, length-take-le, take_more}
 use Rattle.std.proofs.lemmas.List.Elements.{All-push, All-nil, All-filter}
 use Rattle.std.proofs.lemmas.List.Kept.{AllPairs-filter}
 use Rattle.std.proofs.lemmas.List.Quantifiers.{all_pairs_push}
-use Rattle.iscsi_tasks.specs.declared.task.Task.{Task}
-use Rattle.iscsi_tasks.specs.declared.member.Member.{Member}
-use Rattle.iscsi_tasks.specs.Sets.{uncovered, without, after_moment, given_in, list_staying}
-use Rattle.iscsi_tasks.specs.Counted.{covered_from, ascends_with, IsAscendingTo}
+use Rattle.iscsi_tasks.proofs.Names.{nat_tests, Task, Member, uncovered, without, after_moment, given_in, list_staying, covered_from, ascends_with}
+use Rattle.iscsi_tasks.proofs.Names.{IsAscendingTo}
 use Rattle.iscsi_tasks.proofs.HistoryLemmas.{tasks-looked}
 use Rattle.iscsi_tasks.proofs.GivingLemmas.{tasks-given}
 use Rattle.iscsi_tasks.proofs.StayingLemmas.{staying_cases}
@@ -26,12 +24,7 @@ module _ (xs ys : List Member) (same : map (λ m. m.task) ys ≡ map (λ m. m.ta
       sym (get_or-map (λ (m : Member). m.task) ys k d d.task within) ∙ ap (λ (ts : List Task). get_or ts k d.task) same ∙ get_or-map (λ (m : Member). m.task) xs k d d.task inside
 
   pub ascending_alike : (most : ℤ) → IsAscendingTo most xs → IsAscendingTo most ys
-  ascending_alike most up = record {
-    ascending = λ i j d below within.
-        subst (λ (t : Task). covered_from t ≤ℤ covered_from (get_or ys j d).task) (sym (task_alike i d (omega arith)))
-        (subst (λ (t : Task). covered_from (get_or xs i d).task ≤ℤ covered_from t) (sym (task_alike j d within)) (up.ascending i j d below (omega (arith, long_alike))));
-    within = λ k d l. subst (λ (t : Task). covered_from t ≤ℤ most) (sym (task_alike k d l)) (up.within k d (omega (arith, long_alike)));
-  }
+  ascending_alike most up = grind (arith, nat_tests, task_alike, long_alike)
 
 -- ---- a set that changes
 
@@ -39,10 +32,8 @@ pub ascending_none : (most : ℤ) → IsAscendingTo most []
 ascending_none most = record { ascending = λ i j d below within. absurd (omega (arith, within)); within = All-nil (λ (m : Member). covered_from m.task ≤ℤ most) }
 
 pub ascending_filter : (most : ℤ) (p : Member → Bool) (list : List Member) → IsAscendingTo most list → IsAscendingTo most (filter p list)
-ascending_filter most p list up = record {
-  ascending = AllPairs-filter (λ (a b : Member). covered_from a.task ≤ℤ covered_from b.task) p list up.ascending;
-  within = All-filter p (λ (m : Member). covered_from m.task ≤ℤ most) list up.within;
-}
+ascending_filter most p list up =
+    grind (arith, nat_tests, AllPairs-filter (λ (a b : Member). covered_from a.task ≤ℤ covered_from b.task) p list up.ascending, All-filter p (λ (m : Member). covered_from m.task ≤ℤ most) list up.within)
 
 -- a moment passes
 ascending_looked : (most : ℤ) (list : List Member) → IsAscendingTo most list → IsAscendingTo most (after_moment list)
@@ -64,19 +55,12 @@ ascending_given most list up = ascending_alike list (given_in list) (tasks-given
 
 -- a command enters
 pub ascending_push : (ascends : Bool) (most : ℤ) (list : List Member) (m : Member) → (ascends ≡ true → IsAscendingTo most list) → ascends_with ascends most (length list) m.task ≡ true → IsAscendingTo (covered_from m.task) (list ++ m ∷ [])
-ascending_push ascends most [] m kept up =
-    let P : Member → Type 0 = λ x. covered_from x.task ≤ℤ covered_from m.task in
-    record {
-      ascending = λ i j d below within. absurd (omega arith);
-      within = All-push P [] m (All-nil P) (omega (arith, ints));
-    }
+ascending_push ascends most [] m kept up = grind (arith, nat_tests, All-push, All-nil, ints)
 ascending_push ascends most (x ∷ xs) m kept up =
     let P : Member → Type 0 = λ y. covered_from y.task ≤ℤ covered_from m.task in
     let parts = and_parts ascends (not (int_lt (covered_from m.task) most)) (sym (ap (λ b. b || (ascends && not (int_lt (covered_from m.task) most))) (ne_eqb (suc (length xs)) 0 (λ e. omega arith))) ∙ up) in
     let was = kept parts.0 in
-    let low : int_lt (covered_from m.task) most ≡ false = false_from_ne_true (int_lt (covered_from m.task) most) (λ lt. true≢false (sym parts.1 ∙ ap not lt)) in
-    let rises : most ≤ℤ covered_from m.task = omega (arith, ints) in
-    let each : All P (x ∷ xs) = λ k d l. let one = was.within k d l in omega (arith, ints) in
+    let each : All P (x ∷ xs) = grind (arith, nat_tests, ints) in
     record {
       ascending = all_pairs_push (λ (a b : Member). covered_from a.task ≤ℤ covered_from b.task) (x ∷ xs) m was.ascending each;
       within = All-push P (x ∷ xs) m each (omega (arith, ints));
@@ -85,6 +69,4 @@ ascending_push ascends most (x ∷ xs) m kept up =
 -- one more is looked at
 pub ascending_more : (ascends : Bool) (most : ℤ) (list : List Member) (k : ℕ) (m : Member) → k < length list → m ≡ get_or list k m → (ascends ≡ true → IsAscendingTo most (take k list)) → ascends_with ascends most k m.task ≡ true → IsAscendingTo (covered_from m.task) (take (k + 1) list)
 ascending_more ascends most list k m within read kept up =
-    let long : length (take k list) ≡ k = length-take-le k list (omega arith) in
-    subst (IsAscendingTo (covered_from m.task)) (sym (take_more list k m within ∙ ap (λ (x : Member). take k list ++ x ∷ []) (sym read)))
-    (ascending_push ascends most (take k list) m kept (ap (λ n. ascends_with ascends most n m.task) long ∙ up))
+    grind (arith, nat_tests, ascending_push, length-take-le k list (omega arith), take_more list k m within)

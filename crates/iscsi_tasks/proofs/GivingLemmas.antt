@@ -1,13 +1,9 @@
 -- Tickets that are given: each once, the oldest first.
-use Rattle.std.proofs.Common.{◌≡◌, ℕ, zero, suc, ◌<◌, ◌==◌, ◌||◌, ◌&&◌, not, cond, Bool, true, false, List, [], ◌∷◌, length, map, find, get_or, set, refl, ap, sym, ◌∙◌, arith, All, eq-eqb, Option, Some, None, option_map, subst, ⊎_elim}
+use Rattle.std.proofs.Common.{◌≡◌, ℕ, suc, ◌<◌, ◌==◌, ◌||◌, cond, Bool, true, false, List, [], ◌∷◌, length, map, find, get_or, set, refl, ap, sym, ◌∙◌, arith, All, Option, Some, None, option_map, subst, ⊎_elim}
 use Rattle.std.proofs.lemmas.Bool.{cases_Bool}
-use Rattle.std.proofs.lemmas.Bool.Decides.{nat_tests}
+use Rattle.iscsi_tasks.proofs.Names.{nat_tests, Task, Member, Members, InOrder, queued, is_free, is_free_among, is_new, given_in, given_by, next_in, IsSettled}
+use Rattle.iscsi_tasks.proofs.Names.{given_now, Change, was_free, was_given, StandsFor, next_after, after_giving}
 use Rattle.std.proofs.lemmas.List.Elements.{All-cons, All-head, All-tail, All-nil}
-use Rattle.iscsi_tasks.specs.declared.task.Task.{Task}
-use Rattle.iscsi_tasks.specs.declared.member.Member.{Member}
-use Rattle.iscsi_tasks.specs.Sets.{Members, InOrder, queued, is_free, is_free_among, is_new, given_in, given_by, next_in}
-use Rattle.iscsi_tasks.specs.Counted.{IsSettled, given_now}
-use Rattle.iscsi_tasks.specs.Changes.{Change, was_free, was_given, StandsFor, next_after, after_giving}
 use Rattle.iscsi_tasks.proofs.ListLemmas.{find-map, find-agree}
 use Rattle.iscsi_tasks.proofs.HistoryLemmas.{queued-tasks}
 
@@ -33,79 +29,53 @@ InOrder-head m ms order k d within = order 0 (suc k) d (omega arith) (omega arit
 -- giving leaves the commands as they are
 pub tasks-given : (list : List Member) → map (λ m. m.task) (given_in list) ≡ map (λ m. m.task) list
 tasks-given [] = refl
-tasks-given (m ∷ ms) = ⊎_elim
-    (λ new. ap (map (λ k. k.task)) (given_in_new m ms new))
-    (λ old. ap (map (λ k. k.task)) (given_in_old m ms old) ∙ ap (λ r. m.task ∷ r) (tasks-given ms))
-    (cases_Bool (is_new m))
+tasks-given (m ∷ ms) = grind (arith, nat_tests, tasks-given ms, given_in_new, given_in_old)
+
+-- what holds of the members holds still, where it holds of one that is given
+all-given : (P : Member → Type 0) (list : List Member) → ((m : Member) → P m → P (given_now m)) → All P list → All P (given_in list)
+all-given P [] kept all = all
+all-given P (m ∷ ms) kept all =
+    let rest = all-given P ms kept (All-tail P m ms all) in
+    grind (arith, nat_tests, given_in_new, given_in_old, All-cons P (given_now m) ms, All-cons P m (given_in ms) (all 0 m (omega arith)) rest, kept m (all 0 m (omega arith)), All-tail P m ms all)
 
 pub enabled-given : (e : Task → Bool) (list : List Member) → All (λ m. m.enabled ≡ e m.task) list → All (λ m. m.enabled ≡ e m.task) (given_in list)
-enabled-given e [] all = all
-enabled-given e (m ∷ ms) all =
-    let P : Member → Type 0 = λ k. k.enabled ≡ e k.task in
-    let here = All-head P m ms all in let rest = All-tail P m ms all in ⊎_elim
-    (λ new. subst (λ (l : List Member). All P l) (sym (given_in_new m ms new)) (All-cons P (record { task = m.task; enabled = m.enabled; given = true }) ms here rest))
-    (λ old. subst (λ (l : List Member). All P l) (sym (given_in_old m ms old)) (All-cons P m (given_in ms) here (enabled-given e ms rest)))
-    (cases_Bool (is_new m))
+enabled-given e list all = all-given (λ m. m.enabled ≡ e m.task) list (λ m here. here) all
 
 -- the ticket that comes next is that of a member
 pub next_in_above : (a t : ℕ) (list : List Member) → All (λ m. a < m.task.ticket) list → next_in list ≡ Some t → a < t
 next_in_above a t [] all next = cc
-next_in_above a t (m ∷ ms) all next = ⊎_elim
-    (λ new. let same : Some m.task.ticket ≡ Some t = sym (next_in_new m ms new) ∙ next in let e : m.task.ticket ≡ t = cc in subst (λ n. a < n) e (All-head (λ k. a < k.task.ticket) m ms all))
-    (λ old. next_in_above a t ms (All-tail (λ k. a < k.task.ticket) m ms all) (sym (next_in_old m ms old) ∙ next))
-    (cases_Bool (is_new m))
+next_in_above a t (m ∷ ms) all next =
+    grind (arith, nat_tests, next_in_above a t ms (All-tail (λ k. a < k.task.ticket) m ms all), all 0 m (omega arith), next_in_new m ms, next_in_old m ms)
 
 -- after it is given, the flags tell so
 pub flags-given : (g : ℕ → Bool) (t : ℕ) (list : List Member) → InOrder list → next_in list ≡ Some t → All (λ m. m.given ≡ g m.task.ticket) list → All (λ m. m.given ≡ (t == m.task.ticket || g m.task.ticket)) (given_in list)
 flags-given g t [] order next all = All-nil (λ m. m.given ≡ (t == m.task.ticket || g m.task.ticket))
 flags-given g t (m ∷ ms) order next all =
-    let P : Member → Type 0 = λ k. k.given ≡ g k.task.ticket in
     let Q : Member → Type 0 = λ k. k.given ≡ (t == k.task.ticket || g k.task.ticket) in
-    let here = All-head P m ms all in let rest = All-tail P m ms all in
+    let rest = All-tail (λ k. k.given ≡ g k.task.ticket) m ms all in
     let above = InOrder-head m ms order in ⊎_elim
-    (λ new.
-    let given : Member = record { task = m.task; enabled = m.enabled; given = true } in
-    let found : Some m.task.ticket ≡ Some t = sym (next_in_new m ms new) ∙ next in
-    let e : m.task.ticket ≡ t = cc in
-    let itself : Q given = sym (ap (λ b. b || g m.task.ticket) (eq-eqb t m.task.ticket (sym e))) in
-    let others : All Q ms = λ k d l. let apart : m.task.ticket < (get_or ms k d).task.ticket = above k d l in let was : (get_or ms k d).given ≡ g (get_or ms k d).task.ticket = rest k d l in grind (arith, nat_tests) in
-    subst (λ (l : List Member). All Q l) (sym (given_in_new m ms new)) (All-cons Q given ms itself others))
+    (λ new. subst (λ (l : List Member). All Q l) (sym (given_in_new m ms new)) (All-cons Q (given_now m) ms (grind (arith, nat_tests, next_in_new m ms new))
+    (λ k d l. grind (arith, nat_tests, next_in_new m ms new, above k d l, rest k d l))))
     (λ old.
     let later : next_in ms ≡ Some t = sym (next_in_old m ms old) ∙ next in
-    let apart : m.task.ticket < t = next_in_above m.task.ticket t ms above later in
-    let itself : Q m = let was : m.given ≡ g m.task.ticket = here in grind (arith, nat_tests) in
-    subst (λ (l : List Member). All Q l) (sym (given_in_old m ms old)) (All-cons Q m (given_in ms) itself (flags-given g t ms (InOrder-tail m ms order) later rest)))
+    subst (λ (l : List Member). All Q l) (sym (given_in_old m ms old))
+    (All-cons Q m (given_in ms) (grind (arith, nat_tests, next_in_above m.task.ticket t ms above later, all 0 m (omega arith))) (flags-given g t ms (InOrder-tail m ms order) later rest)))
     (cases_Bool (is_new m))
 
 -- where nothing is new, nothing changes
 pub given_in_none : (list : List Member) → next_in list ≡ None → given_in list ≡ list
 given_in_none [] next = refl
-given_in_none (m ∷ ms) next = ⊎_elim
-    (λ new. let found : Some m.task.ticket ≡ None = sym (next_in_new m ms new) ∙ next in cc)
-    (λ old. given_in_old m ms old ∙ ap (λ r. m ∷ r) (given_in_none ms (sym (next_in_old m ms old) ∙ next)))
-    (cases_Bool (is_new m))
+given_in_none (m ∷ ms) next = grind (arith, nat_tests, given_in_none ms, next_in_new m ms, next_in_old m ms, given_in_old m ms)
 
 -- ---- the history
 
-option_map-map : (o : Option Member) → option_map (λ m. m.task.ticket) o ≡ option_map (λ (t : Task). t.ticket) (option_map (λ m. m.task) o)
-option_map-map None = refl
-option_map-map (Some m) = refl
-
 pub next_from_history : (s : Members) (h : List Change) → StandsFor s h → next_in s.list ≡ next_after h
-next_from_history s h st =
-    let is_due : Task → Bool = λ t. was_free t h && not (was_given t.ticket h) in
-    let same : find is_new s.list ≡ find (λ m. is_due m.task) s.list = find-agree is_new (λ m. is_due m.task) s.list
-    (λ k d l. ap (λ b. b && not (get_or s.list k d).given) (st.enabled k d l) ∙ ap (λ b. was_free (get_or s.list k d).task h && not b) (st.given k d l)) in
-    ap (option_map (λ m. m.task.ticket)) same ∙ option_map-map (find (λ m. is_due m.task) s.list)
-    ∙ ap (option_map (λ t. t.ticket)) (sym (find-map is_due (λ m. m.task) s.list)) ∙ ap (λ ts. option_map (λ t. t.ticket) (find is_due ts)) st.tasks
+next_from_history s h st = grind (arith, nat_tests, find-agree, find-map)
 
 StandsFor-giving_of : (s : Members) (next : Option ℕ) (h : List Change) → next_in s.list ≡ next → InOrder s.list → StandsFor s h → StandsFor (given_by s) (after_giving next h)
 StandsFor-giving_of s None h none order st = subst (λ (l : List Member). StandsFor (record s { list = l }) h) (sym (given_in_none s.list none)) st
-StandsFor-giving_of s (Some t) h next order st = record {
-  tasks = tasks-given s.list ∙ st.tasks;
-  enabled = enabled-given (λ k. was_free k h) s.list st.enabled;
-  given = flags-given (λ k. was_given k h) t s.list order next st.given;
-}
+StandsFor-giving_of s (Some t) h next order st =
+    grind (arith, tasks-given s.list, enabled-given (λ k. was_free k h) s.list st.enabled, flags-given (λ k. was_given k h) t s.list order next st.given)
 
 pub StandsFor-giving : (s : Members) (h : List Change) → InOrder s.list → StandsFor s h → (next_in s.list ≡ next_after h) × StandsFor (given_by s) (after_giving (next_in s.list) h)
 StandsFor-giving s h order st = (next_from_history s h st, StandsFor-giving_of s (next_in s.list) h refl order st)
@@ -119,23 +89,15 @@ next_in_none (m ∷ ms) none = next_in_old m ms (All-head (λ k. is_new k ≡ fa
 
 -- else the first one is
 pub next_in_at : (list : List Member) (at : ℕ) (d : Member) → at < length list → ((k : ℕ) → k < at → is_new (get_or list k d) ≡ false) → is_new (get_or list at d) ≡ true → next_in list ≡ Some (get_or list at d).task.ticket
-next_in_at [] at d within before here = absurd (omega arith)
-next_in_at (m ∷ ms) zero d within before here = next_in_new m ms here
 next_in_at (m ∷ ms) (suc at) d within before here = next_in_old m ms (before 0 (omega arith)) ∙ next_in_at ms at d (omega arith) (λ k l. before (suc k) (omega arith)) here
+next_in_at list at d within before here = grind (arith, nat_tests, next_in_new)
 
 pub given_in_at : (list : List Member) (at : ℕ) (d : Member) → at < length list → ((k : ℕ) → k < at → is_new (get_or list k d) ≡ false) → is_new (get_or list at d) ≡ true → given_in list ≡ set list at (given_now (get_or list at d))
-given_in_at [] at d within before here = absurd (omega arith)
-given_in_at (m ∷ ms) zero d within before here = given_in_new m ms here
 given_in_at (m ∷ ms) (suc at) d within before here = given_in_old m ms (before 0 (omega arith)) ∙ ap (λ r. m ∷ r) (given_in_at ms at d (omega arith) (λ k l. before (suc k) (omega arith)) here)
+given_in_at list at d within before here = grind (arith, nat_tests, given_in_new)
 
 free-given : (f : Task → Bool) (list : List Member) → All (λ m. (m.enabled || f m.task) ≡ m.enabled) list → All (λ m. (m.enabled || f m.task) ≡ m.enabled) (given_in list)
-free-given f [] all = All-nil (λ m. (m.enabled || f m.task) ≡ m.enabled)
-free-given f (m ∷ ms) all =
-    let P : Member → Type 0 = λ k. (k.enabled || f k.task) ≡ k.enabled in
-    let here = All-head P m ms all in let rest = All-tail P m ms all in ⊎_elim
-    (λ new. subst (λ (l : List Member). All P l) (sym (given_in_new m ms new)) (All-cons P (given_now m) ms here rest))
-    (λ old. subst (λ (l : List Member). All P l) (sym (given_in_old m ms old)) (All-cons P m (given_in ms) here (free-given f ms rest)))
-    (cases_Bool (is_new m))
+free-given f list all = all-given (λ m. (m.enabled || f m.task) ≡ m.enabled) list (λ m here. here) all
 
 -- giving keeps a set in which every command that is free is enabled
 pub settled-given : (list : List Member) → IsSettled list → IsSettled (given_in list)

@@ -1,25 +1,15 @@
 -- What a set stands for, after each change.
-use Rattle.std.proofs.Common.{◌≡◌, ℕ, suc, ◌<◌, ◌==◌, ◌||◌, ◌&&◌, not, Bool, true, false, List, [], ◌∷◌, ◌++◌, length, map, filter, get_or, set, refl, ap, sym, ◌∙◌, arith, All, eq-eqb, Some, subst}
-use Rattle.std.proofs.lemmas.Bool.Decides.{nat_tests}
-use Rattle.std.proofs.lemmas.List.{map-append, length-map, get_or-map}
+use Rattle.std.proofs.Common.{◌≡◌, ℕ, suc, ◌<◌, ◌==◌, ◌||◌, not, Bool, false, List, [], ◌∷◌, ◌++◌, map, filter, get_or, set, refl, ap, sym, ◌∙◌, arith, All, eq-eqb, Some}
+use Rattle.iscsi_tasks.proofs.Names.{nat_tests, Task, Member, Members, queued, looked_at, after_moment, without, entered_to, left_by}
+use Rattle.iscsi_tasks.proofs.Names.{Change, Entered, Left, Gave, is_free_in, is_live, live, was_free, was_given, AllBelow, StandsFor}
+use Rattle.std.proofs.lemmas.List.{map-append}
 use Rattle.std.proofs.lemmas.List.Elements.{All-map, All-push, All-filter, All-nil}
-use Rattle.std.proofs.lemmas.List.Recursion.{or_at}
-use Rattle.std.specs.List.{list_any}
-use Rattle.iscsi_tasks.specs.declared.task.Task.{Task}
-use Rattle.iscsi_tasks.specs.declared.member.Member.{Member}
-use Rattle.iscsi_tasks.specs.Sets.{Members, queued, is_free, is_free_among, looked_at, after_moment, without, entered_to, left_by, IsNewest}
-use Rattle.iscsi_tasks.specs.Changes.{Change, Entered, Left, Gave, is_free_in, is_live, live, was_free, was_given, AllBelow, StandsFor}
+use Rattle.std.proofs.lemmas.List.Folds.{list_any_at}
 use Rattle.iscsi_tasks.proofs.ListLemmas.{list_any-map, filter-map}
 
 pub tasks-looked : (list xs : List Member) → map (λ m. m.task) (map (looked_at list) xs) ≡ map (λ m. m.task) xs
 tasks-looked list [] = refl
 tasks-looked list (x ∷ xs) = ap (λ r. x.task ∷ r) (tasks-looked list xs)
-
-or_comm' : (a b : Bool) → (a || b) ≡ (b || a)
-or_comm' true true = refl
-or_comm' true false = refl
-or_comm' false true = refl
-or_comm' false false = refl
 
 pub queued-tasks : (xs : List Member) → map queued (map (λ m. m.task) xs) ≡ map (λ m. queued m.task) xs
 queued-tasks [] = refl
@@ -30,10 +20,9 @@ pub looked_at_enabled : (list : List Member) (now : List Task) (before : Task �
 looked_at_enabled list now before same flags =
     All-map (λ m. m.enabled ≡ (is_free_in m.task now || before m.task)) (looked_at list) list
     (λ k d h. let m = get_or list k d in
-    let there : list_any (λ x. x.task.ticket == m.task.ticket) list ≡ true = or_at (list_any (λ x. x.task.ticket == m.task.ticket)) (λ x. x.task.ticket == m.task.ticket) refl (λ _ _. refl) list k d h (eq-eqb m.task.ticket m.task.ticket refl) in
-    let in_now : is_live m.task now ≡ true = ap (is_live m.task) (sym same) ∙ list_any-map (λ t. t.ticket == m.task.ticket) (λ x. x.task) list ∙ there in
-    let free : is_free (queued m.task) (map queued now) ≡ is_free_among m.task list = ap (λ ts. is_free (queued m.task) (map queued ts)) (sym same) ∙ ap (is_free (queued m.task)) (queued-tasks list) in
-    or_comm' m.enabled (is_free_among m.task list) ∙ ap (λ b. is_free_among m.task list || b) (flags k d h) ∙ ap (λ b. b || before m.task) (sym free) ∙ ap (λ b. (b && is_free (queued m.task) (map queued now)) || before m.task) (sym in_now))
+    let there = list_any-map (λ t. t.ticket == m.task.ticket) (λ (x : Member). x.task) list in
+    let itself = list_any_at (λ (x : Member). x.task.ticket == m.task.ticket) list k d h (eq-eqb m.task.ticket m.task.ticket refl) in
+    grind (arith, nat_tests, there, itself, queued-tasks list, flags k d h))
 
 -- a ticket above all that entered is new
 none_live : (task : Task) (set : List Task) → All (λ t. t.ticket < task.ticket) set → is_live task set ≡ false
@@ -79,11 +68,3 @@ StandsFor-left s task h st =
       enabled = looked_at_enabled list (live (Left task.ticket ∷ h)) (λ t. was_free t h) same (All-filter (λ m. not (m.task.ticket == task.ticket)) (λ m. m.enabled ≡ was_free m.task h) s.list st.enabled);
       given = All-map (λ m. m.given ≡ was_given m.task.ticket h) (looked_at list) list (All-filter (λ m. not (m.task.ticket == task.ticket)) (λ m. m.given ≡ was_given m.task.ticket h) s.list st.given);
     }
-
--- the tickets that enter next are above the set's
-pub IsNewest-from_history : (s : Members) (ticket : ℕ) (h : List Change) → StandsFor s h → AllBelow ticket h → IsNewest ticket s
-IsNewest-from_history s ticket h st below k d l =
-    let long : length (live h) ≡ length s.list = ap length (sym st.tasks) ∙ length-map s.list (λ m. m.task) in
-    let fact : (get_or (live h) k d.task).ticket < ticket = live_below ticket h below k d.task (omega arith) in
-    let same : get_or (live h) k d.task ≡ (get_or s.list k d).task = ap (λ ts. get_or ts k d.task) (sym st.tasks) ∙ get_or-map (λ m. m.task) s.list k d d.task l in
-    subst (λ (t : Task). t.ticket < ticket) same fact

@@ -1,21 +1,12 @@
 -- What holds of every linked set, as its commands change.
-use Rattle.std.proofs.Common.{◌≡◌, ◌∙◌, ℕ, ℤ, ◌<◌, ◌≤◌, ◌==◌, ◌&&◌, not, Bool, true, ⊎_elim, eq-eqb, ne_eqb, List, [], length, map, get_or, Some, refl, ap, sym, subst, arith}
+use Rattle.std.proofs.Common.{◌≡◌, ◌∙◌, ℕ, ℤ, ◌<◌, ◌≤◌, ◌==◌, not, Bool, true, eq-eqb, ne_eqb, List, [], length, map, get_or, Some, refl, ap, sym, subst, arith}
 use Rattle.std.specs.List.{remove}
 use Rattle.std.proofs.lemmas.List.{length-map, get_or_past}
-use Rattle.iscsi_slots.specs.Slots.{times}
+use Rattle.iscsi_tasks.proofs.Names.{times, Attr, Simple, Ordered, Head, Member, Task, Marks, BLANK, tasks_in, after_moment, looked_at, without, with_ticket}
+use Rattle.iscsi_tasks.proofs.Names.{is_enabled_in, IsCoveredFrom, IsSettled, IsAscendingTo, is_free_behind, Linked, linked, IsInSlots, IsMarked, IsKeptLinked}
+use Rattle.iscsi_tasks.proofs.Names.{HasTicket, is_free_by, nat_tests}
 use Rattle.iscsi_slots.proofs.SlotLemmas.{StandsAt}
 use Rattle.iscsi_slots.proofs.SortedLemmas.{remove_is}
-use Rattle.iscsi_tasks.specs.declared.task.Attr.{Attr}
-use Rattle.iscsi_tasks.specs.declared.task.Attr.TheVariants.{Simple, Ordered, Head}
-use Rattle.iscsi_tasks.specs.declared.member.Member.{Member}
-use Rattle.iscsi_tasks.specs.declared.task.Task.{Task}
-use Rattle.iscsi_tasks.specs.declared.marks.Marks.{Marks}
-use Rattle.iscsi_tasks.specs.Chains.{BLANK}
-use Rattle.iscsi_tasks.specs.Sets.{tasks_in, after_moment, looked_at, without, with_ticket, is_enabled_in}
-use Rattle.iscsi_tasks.specs.Counted.{IsCoveredFrom, IsSettled, IsAscendingTo, is_free_behind, is_ordered_in}
-use Rattle.iscsi_tasks.specs.Linked.{Linked, linked, IsInSlots}
-use Rattle.iscsi_tasks.specs.Marked.{IsMarked, IsKeptLinked, HasTicket, is_free_by}
-use Rattle.std.proofs.lemmas.Bool.{cases_lt}
 use Rattle.iscsi_tasks.proofs.ChainLemmas.{not_end}
 use Rattle.iscsi_tasks.proofs.CountLemmas.{counted_none_yet, first-le}
 use Rattle.iscsi_tasks.proofs.CoveredFromLemmas.{covered_from_left}
@@ -26,77 +17,28 @@ use Rattle.iscsi_tasks.proofs.SearchLemmas.{found, enabled_at}
 use Rattle.iscsi_tasks.proofs.StayingLemmas.{filter-shorter}
 
 pub marked_none_yet : IsMarked (record { heads = 0; ordered = 0; dormant = 0; new_from = 0; new_to = 0 }) [] []
-marked_none_yet = record {
-  counts = record { heads = 0; ordered_at = 0; enabled_to = 0; new_from = 0; new_to = 0 };
-  counted = counted_none_yet;
-  heads = refl;
-  ordered = refl;
-  dormant = refl;
-  new_from = refl;
-  new_to = refl;
-  apart = record { once = λ s. omega arith; some = refl };
-  long = refl;
-}
+marked_none_yet = grind (arith, nat_tests, counted_none_yet)
 
 pub kept_none_yet : (depth : ℕ) (number most : ℤ) → 1 ≤ depth → depth ≤ 1024 → IsKeptLinked depth depth number true most (record { heads = 0; ordered = 0; dormant = 0; new_from = 0; new_to = 0 }) [] []
 unfolding marked_none_yet
-kept_none_yet depth number most least few = record {
-  marked = marked_none_yet;
-  least = least;
-  within = omega arith;
-  room_left = omega arith;
-  few = few;
-  settled = λ k d l. absurd (omega (arith, l));
-  covered_from = λ cover below k d l. absurd (omega (arith, l));
-  front = λ yes. ascending_none most;
-}
+kept_none_yet depth number most least few = grind (arith, nat_tests, marked_none_yet, ascending_none)
 
 -- commands change or leave, and none comes
 pub kept_on : {depth room : ℕ} {number : ℤ} {ascends : Bool} {most : ℤ} {m : Marks} {slots : List ℕ} {list : List Member} → IsKeptLinked depth room number ascends most m slots list → {after : Marks} {slots_after : List ℕ} {now : List Member} {room_after : ℕ} → IsMarked after slots_after now → length now ≤ length list → room_after ≡ room → IsSettled now → IsCoveredFrom number (map (λ x. x.task) now) → (IsAscendingTo most list → IsAscendingTo most now) → IsKeptLinked depth room_after number ascends most after slots_after now
-kept_on kept marked fewer same settled covered_from front = let within = kept.within in let left = kept.room_left in record {
-  marked = marked;
-  least = kept.least;
-  within = omega (arith, within, fewer);
-  room_left = omega (arith, left, same);
-  few = kept.few;
-  settled = settled;
-  covered_from = covered_from;
-  front = λ yes. front (kept.front yes);
-}
+kept_on kept marked fewer same settled covered_from front = grind (arith, nat_tests)
 
 -- the numbers from which on functions may cover the commands are determined anew
 pub kept_numbered : {depth room : ℕ} {number : ℤ} {ascends : Bool} {most : ℤ} {m : Marks} {slots : List ℕ} {list : List Member} → IsKeptLinked depth room number ascends most m slots list → {number_now : ℤ} {ascends_now : Bool} {most_now : ℤ} → IsCoveredFrom number_now (map (λ x. x.task) list) → (ascends_now ≡ true → IsAscendingTo most_now list) → IsKeptLinked depth room number_now ascends_now most_now m slots list
-kept_numbered kept covered_from front = record {
-  marked = kept.marked;
-  least = kept.least;
-  within = kept.within;
-  room_left = kept.room_left;
-  few = kept.few;
-  settled = kept.settled;
-  covered_from = covered_from;
-  front = front;
-}
+kept_numbered kept covered_from front = grind (arith, nat_tests)
 
 pub in_slots : {depth looked room : ℕ} {number : ℤ} {ascends : Bool} {most : ℤ} {m : Marks} {slots : List ℕ} {list : List Member} → IsKeptLinked depth room number ascends most m slots list → IsInSlots (linked (record { depth = depth; looked = looked; list = list }) slots)
-in_slots kept = record {
-  order = kept.marked.counted.order;
-  long = kept.marked.long;
-  within = kept.within;
-  least = kept.least;
-  most = kept.few;
-}
+in_slots kept = grind (arith, nat_tests)
 
 -- a command that enters is free by the marks where it is by the counts
 pub free_is : {m : Marks} {slots : List ℕ} {list : List Member} (marked : IsMarked m slots list) (attr : Attr) → is_free_by m (length list) attr ≡ is_free_behind marked.counts (length list) attr
 free_is marked Head = refl
 free_is marked Ordered = refl
-free_is {m} {slots} {list} marked Simple =
-    let le = first-le is_ordered_in list in let is = marked.counted.ordered_at in let long = marked.long in
-    ap (λ n. n == 0 && (m.ordered == 0)) marked.heads
-    ∙ ap (λ b. (marked.counts.heads == 0) && b) (⊎_elim
-    (λ below. ne_eqb m.ordered 0 (λ none. not_end marked.apart marked.counts.ordered_at below (sym marked.ordered ∙ none)) ∙ sym (ne_eqb marked.counts.ordered_at (length list) (λ e. omega (arith, e, below, long))))
-    (λ past. eq-eqb m.ordered 0 (marked.ordered ∙ get_or_past slots marked.counts.ordered_at 0 past) ∙ sym (eq-eqb marked.counts.ordered_at (length list) (omega (arith, past, le, is, long))))
-    (cases_lt marked.counts.ordered_at (length slots)))
+free_is {m} {slots} {list} marked Simple = grind (arith, nat_tests, first-le, ne_eqb, not_end, eq-eqb, get_or_past)
 
 -- ---- the command with a ticket
 

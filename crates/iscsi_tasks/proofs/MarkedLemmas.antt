@@ -1,21 +1,16 @@
 -- The marks of a linked set stay right.
-use Rattle.std.proofs.Common.{◌≡◌, ◌≢◌, ℕ, ◌+◌, ◌-◌, ◌<◌, ◌≤◌, ◌==◌, ◌&&◌, not, nat_lt, lt-ltb, le-ltb, cond, max, min, Bool, true, false, List, [], ◌∷◌, ◌++◌, length, set, get_or, All, refl, ap, sym, subst, ◌∙◌, arith, ⊎_elim, eq-eqb, ne_eqb, eqb-true, true≢false}
+use Rattle.std.proofs.Common.{◌≡◌, ◌≢◌, ℕ, ◌+◌, ◌-◌, ◌<◌, ◌≤◌, ◌==◌, ◌&&◌, not, nat_lt, lt-ltb, le-ltb, cond, max, min, Bool, true, false, List, [], ◌∷◌, ◌++◌, length, set, get_or, All, refl, ap, sym, subst, ◌∙◌, arith, ⊎_elim, eq-eqb, ne_eqb, eqb-true}
 use Rattle.std.specs.List.{position_or_len, remove}
 use Rattle.std.proofs.lemmas.Bool.{cases_Bool, cases_eq, cases_lt}
 use Rattle.std.proofs.lemmas.List.{get_or_past, get_or_push, get_or_append_left, length_push, length-set}
 use Rattle.std.proofs.lemmas.List.Edits.{length-remove, get_or-remove_below, get_or-remove_above}
-use Rattle.iscsi_slots.specs.Slots.{times}
+use Rattle.iscsi_tasks.proofs.Names.{nat_tests, times, Attr, Member, Marks, is_head_of, is_ordered_of, is_new, Counts, IsCounted, is_head_in, is_ordered_in}
+use Rattle.iscsi_tasks.proofs.Names.{plus_one_if, shifted_by, without_one, given_now, AreApart, IsMarked, IsPastNone, IsSpan, moved_off, pushed_by, enabled_by}
+use Rattle.iscsi_tasks.proofs.Names.{is_none_marked}
 use Rattle.iscsi_slots.proofs.SlotLemmas.{times_at, times_remove}
-use Rattle.iscsi_tasks.specs.declared.task.Attr.{Attr}
-use Rattle.iscsi_tasks.specs.declared.member.Member.{Member}
-use Rattle.iscsi_tasks.specs.declared.marks.Marks.{Marks}
-use Rattle.iscsi_tasks.specs.Rules.{is_head_of, is_ordered_of}
-use Rattle.iscsi_tasks.specs.Sets.{is_new}
-use Rattle.iscsi_tasks.specs.Counted.{Counts, IsCounted, is_head_in, is_ordered_in, plus_one_if, shifted_by, without_one, given_now}
-use Rattle.iscsi_tasks.specs.Chains.{AreApart}
-use Rattle.iscsi_tasks.specs.Marked.{IsMarked, IsPastNone, IsSpan, moved_off, pushed_by, left_by, enabled_by, is_none_marked}
+use Rattle.iscsi_tasks.specs.Marked.{left_by}
 use Rattle.iscsi_tasks.proofs.ChainLemmas.{not_end, same_to_end}
-use Rattle.iscsi_tasks.proofs.CountLemmas.{first-le, counted_push, at_push, with_last, with_enabled, shifted_cases, ordered_shifted, one_less, counted_remove, enabled_up_to, parts-length, counted_enabled, counted_none, counted_given}
+use Rattle.iscsi_tasks.proofs.CountLemmas.{first-le, counted_push, with_last, with_enabled, shifted_cases, ordered_shifted, one_less, counted_remove, enabled_up_to, parts-length, counted_enabled, counted_none, counted_given}
 
 pub some_at : (slots : List ℕ) (k slot : ℕ) → k < length slots → get_or slots k 0 ≡ slot → 1 ≤ times slot slots
 some_at slots k slot l at = subst (λ s. 1 ≤ times s slots) at (times_at slots k l)
@@ -29,9 +24,6 @@ within_some slots k slot at some = ⊎_elim (λ below. below) (λ past. absurd (
 module _ (slots : List ℕ) (s : ℕ) (apart : AreApart slots) where
   at_old : (p : ℕ) → p < length slots → get_or (slots ++ s ∷ []) p 0 ≡ get_or slots p 0
   at_old p l = get_or_append_left slots (s ∷ []) 0 p l
-
-  at_new : get_or (slots ++ s ∷ []) (length slots) 0 ≡ s
-  at_new = get_or_push slots s 0 (length slots) refl
 
   at_end : (p : ℕ) → length slots < p → get_or (slots ++ s ∷ []) p 0 ≡ 0
   at_end p l = let long = length_push slots s in get_or_past (slots ++ s ∷ []) p 0 (omega (arith, l, long))
@@ -51,97 +43,58 @@ module _ (slots : List ℕ) (s : ℕ) (apart : AreApart slots) where
       (cases_lt at (length slots))
     where
       last : (at mark : ℕ) (b : Bool) → at ≡ length slots → mark ≡ 0 → cond (true && b) s mark ≡ get_or (slots ++ s ∷ []) (plus_one_if (true && not b) at) 0
-      last at mark true end none = sym (ap (λ n. get_or (slots ++ s ∷ []) n 0) end ∙ at_new)
-      last at mark false end none = none ∙ sym (at_end (at + 1) (omega (arith, end)))
+      last at mark b end none = grind (arith, nat_tests, get_or_push, at_end)
 
   -- a place, where those at the end or behind it stay behind all
   abbrev bumped : ℕ → ℕ
   bumped p = cond (nat_lt p (length slots)) p (length slots + 1)
 
-  bumped_cases : (P : ℕ → Type 0) (p : ℕ) → (p < length slots → P p) → (length slots ≤ p → P (length slots + 1)) → P (bumped p)
-  bumped_cases P p below past = ⊎_elim
-      (λ l. subst P (sym (ap (λ b. cond b p (length slots + 1)) (lt-ltb p (length slots) l))) (below l))
-      (λ l. subst P (sym (ap (λ b. cond b p (length slots + 1)) (le-ltb p (length slots) l))) (past l))
-      (cases_lt p (length slots))
-
   -- a mark that is the end moves to the new slot
   mark_new : (p mark : ℕ) → mark ≡ get_or slots p 0 → cond (mark == 0) s mark ≡ get_or (slots ++ s ∷ []) (min p (length slots)) 0
-  mark_new p mark is = ⊎_elim
-      (λ below. ap (λ t. cond t s mark) (ne_eqb mark 0 (λ e. not_end apart p below (sym is ∙ e))) ∙ is
-      ∙ sym (ap (λ n. get_or (slots ++ s ∷ []) n 0) (let e : min p (length slots) ≡ p = omega (arith, below) in e) ∙ at_old p below))
-      (λ past. ap (λ t. cond t s mark) (eq-eqb mark 0 (is ∙ get_or_past slots p 0 past))
-      ∙ sym (ap (λ n. get_or (slots ++ s ∷ []) n 0) (let e : min p (length slots) ≡ length slots = omega (arith, past) in e) ∙ at_new))
-      (cases_lt p (length slots))
+  mark_new p mark is = grind (arith, nat_tests, ne_eqb, not_end, at_old, eq-eqb, get_or_past, get_or_push)
 
   mark_stays : (p mark : ℕ) → mark ≡ get_or slots p 0 → mark ≡ get_or (slots ++ s ∷ []) (bumped p) 0
-  mark_stays p mark is = bumped_cases (λ n. mark ≡ get_or (slots ++ s ∷ []) n 0) p
-      (λ below. is ∙ sym (at_old p below))
-      (λ past. is ∙ get_or_past slots p 0 past ∙ sym (at_end (length slots + 1) (omega arith)))
+  mark_stays p mark is = grind (arith, nat_tests, lt-ltb, le-ltb, at_old, get_or_past, at_end)
 
-twice_not : (b : Bool) → not (not b) ≡ b
-twice_not true = refl
-twice_not false = refl
+-- the marks are right by these counts
+abbrev AreMarks : Marks → Counts → List ℕ → List Member → Type 0
+AreMarks m c slots list = (m.heads ≡ c.heads) × (m.ordered ≡ get_or slots c.ordered_at 0) × (m.dormant ≡ get_or slots c.enabled_to 0) × (m.new_from ≡ get_or slots c.new_from 0)
+    × (m.new_to ≡ get_or slots c.new_to 0) × AreApart slots × (length slots ≡ length list)
 
-pub marked_push : {m : Marks} {slots : List ℕ} {list : List Member} (marked : IsMarked m slots list) (one : Member) (s : ℕ) → AreApart (slots ++ s ∷ []) → All (λ x. x.task.ticket < one.task.ticket) list → (is_head_in one ≡ true → one.enabled ≡ true)
-    → IsMarked (pushed_by m one.task.attr one.enabled one.given s) (slots ++ s ∷ []) (list ++ one ∷ [])
-marked_push {m} {slots} {list} marked one s apart newest head =
-    let c : Counts = marked.counts in
-    let long = marked.long in
-    let grown : length (list ++ one ∷ []) ≡ length list + 1 = length_push list one in
-    let counted : (from to : ℕ) → to ≤ length list + 1 → ((k : ℕ) (d : Member) → k < length list + 1 → is_new (get_or (list ++ one ∷ []) k d) ≡ true → (from ≤ k) × (k < to)) → IsCounted (with_last c (length slots) one from to) (list ++ one ∷ []) =
-    λ from to upto between. subst (λ n. IsCounted (with_last c n one from to) (list ++ one ∷ [])) (sym long) (counted_push c list marked.counted one newest head from to upto between) in
-    let at = at_push c list marked.counted one newest head in
-    let ordered_in : c.ordered_at ≤ length slots = let le = first-le is_ordered_in list in let is = marked.counted.ordered_at in omega (arith, le, is, long) in
-    let enabled_in : c.enabled_to ≤ length slots = let le = marked.counted.enabled_to in omega (arith, le, long) in
-    let ordered = mark_push slots s marked.apart c.ordered_at m.ordered (is_ordered_of one.task.attr) ordered_in marked.ordered in
-    let dormant : cond (m.dormant == 0 && not one.enabled) s m.dormant ≡ get_or (slots ++ s ∷ []) (plus_one_if (c.enabled_to == length slots && one.enabled) c.enabled_to) 0 =
-    mark_push slots s marked.apart c.enabled_to m.dormant (not one.enabled) enabled_in marked.dormant
-    ∙ ap (λ b. get_or (slots ++ s ∷ []) (plus_one_if (c.enabled_to == length slots && b) c.enabled_to) 0) (twice_not one.enabled) in
-    ⊎_elim
-    (λ (new : is_new one ≡ true). record {
-      counts = with_last c (length slots) one (min c.new_from (length slots)) (length list + 1);
-      counted = counted (min c.new_from (length slots)) (length list + 1) (omega arith)
-          (λ k d l. at (λ x. is_new x ≡ true → (min c.new_from (length slots) ≤ k) × (k < length list + 1)) k d l
-          (λ b yes. let was = (marked.counted.new k d b yes).0 in (omega (arith, was), l))
-          (λ last yes. (omega (arith, last, long), l)));
-      heads = ap (plus_one_if (is_head_of one.task.attr)) marked.heads;
-      ordered = ordered;
-      dormant = dormant;
-      new_from = ap (λ b. cond (b && m.new_from == 0) s m.new_from) new ∙ mark_new slots s marked.apart c.new_from m.new_from marked.new_from;
-      new_to = ap (λ b. cond b 0 m.new_to) new ∙ sym (at_end slots s marked.apart (length list + 1) (omega (arith, long)));
-      apart = apart;
-      long = let a = length_push slots s in omega (arith, a, grown, long);
-    })
-    (λ (old : is_new one ≡ false). record {
-      counts = with_last c (length slots) one (bumped slots s marked.apart c.new_from) (bumped slots s marked.apart c.new_to);
-      counted =
-          let most = marked.counted.new_to in
-          counted (bumped slots s marked.apart c.new_from) (bumped slots s marked.apart c.new_to)
-          (bumped_cases slots s marked.apart (λ n. n ≤ length list + 1) c.new_to (λ below. omega (arith, below, long)) (λ past. omega (arith, long)))
-          (λ k d l. at (λ x. is_new x ≡ true → (bumped slots s marked.apart c.new_from ≤ k) × (k < bumped slots s marked.apart c.new_to)) k d l
-          (λ b yes. let was = marked.counted.new k d b yes in (
-            bumped_cases slots s marked.apart (λ n. n ≤ k) c.new_from (λ below. was.0) (λ past. absurd (omega (arith, past, was.0, b, long))),
-            bumped_cases slots s marked.apart (λ n. k < n) c.new_to (λ below. was.1) (λ past. omega (arith, past, was.1, most, long)),
-          ))
-          (λ last yes. absurd (true≢false (sym yes ∙ old))));
-      heads = ap (plus_one_if (is_head_of one.task.attr)) marked.heads;
-      ordered = ordered;
-      dormant = dormant;
-      new_from = ap (λ b. cond (b && m.new_from == 0) s m.new_from) old ∙ mark_stays slots s marked.apart c.new_from m.new_from marked.new_from;
-      new_to = ap (λ b. cond b 0 m.new_to) old ∙ mark_stays slots s marked.apart c.new_to m.new_to marked.new_to;
-      apart = apart;
-      long = let a = length_push slots s in omega (arith, a, grown, long);
-    })
-    (cases_Bool (is_new one))
+marked_by : {m : Marks} {slots : List ℕ} {list : List Member} (c : Counts) → IsCounted c list → AreMarks m c slots list → IsMarked m slots list
+marked_by c counted are = record { counts = c; counted = counted; heads = are.0; ordered = are.1; dormant = are.2; new_from = are.3; new_to = are.4; apart = are.5; long = are.6 }
+
+module _ {m : Marks} {slots : List ℕ} {list : List Member} (marked : IsMarked m slots list) (one : Member) (s : ℕ) (apart : AreApart (slots ++ s ∷ [])) (newest : All (λ x. x.task.ticket < one.task.ticket) list) (head : is_head_in one ≡ true → one.enabled ≡ true) where
+  -- with what is new between these places
+  pushed : (from to : ℕ) → IsCounted (with_last marked.counts (length list) one from to) (list ++ one ∷ []) → (pushed_by m one.task.attr one.enabled one.given s).new_from ≡ get_or (slots ++ s ∷ []) from 0
+      → (pushed_by m one.task.attr one.enabled one.given s).new_to ≡ get_or (slots ++ s ∷ []) to 0 → IsMarked (pushed_by m one.task.attr one.enabled one.given s) (slots ++ s ∷ []) (list ++ one ∷ [])
+  pushed from to counted from_is to_is =
+      let le = first-le is_ordered_in list in
+      let ordered = mark_push slots s marked.apart marked.counts.ordered_at m.ordered (is_ordered_of one.task.attr) (omega (arith, le, marked.counted.ordered_at, marked.long)) marked.ordered in
+      let dormant = mark_push slots s marked.apart marked.counts.enabled_to m.dormant (not one.enabled) (omega (arith, marked.counted.enabled_to, marked.long)) marked.dormant in
+      marked_by (with_last marked.counts (length list) one from to) counted (grind (arith, nat_tests, length_push))
+
+  pushed_new : is_new one ≡ true → IsMarked (pushed_by m one.task.attr one.enabled one.given s) (slots ++ s ∷ []) (list ++ one ∷ [])
+  pushed_new new =
+      pushed (min marked.counts.new_from (length slots)) (length list + 1)
+      (counted_push marked.counts list marked.counted one newest head (min marked.counts.new_from (length slots)) (length list + 1) (omega arith) (grind arith) (grind arith))
+      (grind (arith, nat_tests, mark_new)) (grind (arith, nat_tests, at_end slots s marked.apart))
+
+  pushed_old : is_new one ≡ false → IsMarked (pushed_by m one.task.attr one.enabled one.given s) (slots ++ s ∷ []) (list ++ one ∷ [])
+  pushed_old old =
+      let from : ℕ = bumped slots s marked.apart marked.counts.new_from in let to : ℕ = bumped slots s marked.apart marked.counts.new_to in
+      pushed from to
+      (counted_push marked.counts list marked.counted one newest head from to (grind (arith, nat_tests)) (grind (arith, nat_tests)) (grind arith))
+      (grind (arith, nat_tests, mark_stays)) (grind (arith, nat_tests, mark_stays))
+
+  pub marked_push : IsMarked (pushed_by m one.task.attr one.enabled one.given s) (slots ++ s ∷ []) (list ++ one ∷ [])
+  marked_push = ⊎_elim pushed_new pushed_old (cases_Bool (is_new one))
 
 -- ---- a command leaves
 
 module _ (slots : List ℕ) (apart : AreApart slots) (p : ℕ) (l : p < length slots) (slot next : ℕ) (slot_is : get_or slots p 0 ≡ slot) (next_is : next ≡ get_or slots (p + 1) 0) where
   pub apart_left : AreApart (remove slots p)
-  apart_left = record {
-    once = λ s. let one = apart.once s in let a = times_remove s slots p l in omega (arith, one, a);
-    some = let none = apart.some in let a = times_remove 0 slots p l in omega (arith, none, a);
-  }
+  apart_left = grind (arith, nat_tests, times_remove)
 
   pub mark_left : (at mark : ℕ) → mark ≡ get_or slots at 0 → moved_off mark slot next ≡ get_or (remove slots p) (shifted_by p at) 0
   mark_left at mark is = ⊎_elim
@@ -157,10 +110,7 @@ module _ (slots : List ℕ) (apart : AreApart slots) (p : ℕ) (l : p < length s
     where
       -- a mark of another place is another slot
       other : (at mark : ℕ) → mark ≡ get_or slots at 0 → at ≢ p → mark ≢ slot
-      other at mark is apart_from same = ⊎_elim
-          (λ below. apart_from (same_to_end apart at p (omega (arith, below)) (omega (arith, l)) (sym is ∙ same ∙ sym slot_is)))
-          (λ past. not_end apart p l (slot_is ∙ sym same ∙ is ∙ get_or_past slots at 0 past))
-          (cases_lt at (length slots))
+      other at mark is apart_from same = grind (arith, nat_tests, same_to_end, not_end, get_or_past)
 
 module _ {m : Marks} {slots : List ℕ} {list : List Member} (marked : IsMarked m slots list) (p : ℕ) (l : p < length slots) (slot next : ℕ) (slot_is : get_or slots p 0 ≡ slot) (next_is : next ≡ get_or slots (p + 1) 0) where
   in_list : p < length list
@@ -181,106 +131,38 @@ module _ {m : Marks} {slots : List ℕ} {list : List Member} (marked : IsMarked 
   one_head d attr is head = let some = (one_less list p in_list marked.counts d attr marked.counted.heads is).0 head in let same = marked.heads in omega (arith, some, same)
 
   pub marked_left : (d : Member) (attr : Attr) (ordered : ℕ) → attr ≡ (get_or list p d).task.attr → ordered ≡ get_or (remove slots p) (position_or_len is_ordered_in (remove list p)) 0 → IsMarked (left_by m slot next attr ordered) (remove slots p) (remove list p)
-  marked_left d attr ordered is first = record {
-    counts = without_one marked.counts p attr (position_or_len is_ordered_in (remove list p));
-    counted = counted_remove list p in_list marked.counts d attr (position_or_len is_ordered_in (remove list p)) marked.counted is refl;
-    heads = ap (λ n. cond (is_head_of attr) (n - 1) n) marked.heads;
-    ordered = first;
-    dormant = mark_left slots marked.apart p l slot next slot_is next_is marked.counts.enabled_to m.dormant marked.dormant;
-    new_from = mark_left slots marked.apart p l slot next slot_is next_is marked.counts.new_from m.new_from marked.new_from;
-    new_to = mark_left slots marked.apart p l slot next slot_is next_is marked.counts.new_to m.new_to marked.new_to;
-    apart = apart_left slots marked.apart p l slot next slot_is next_is;
-    long = let a = length-remove slots p l in let b = length-remove list p in_list in let e = marked.long in omega (arith, a, b, e);
-  }
+  marked_left d attr ordered is first =
+      marked_by (without_one marked.counts p attr (position_or_len is_ordered_in (remove list p)))
+      (counted_remove list p in_list marked.counts d attr (position_or_len is_ordered_in (remove list p)) marked.counted is refl)
+      (grind (arith, nat_tests, mark_left slots marked.apart p l slot next slot_is next_is, apart_left slots marked.apart p l slot next slot_is next_is, length-remove))
 
 -- ---- commands are enabled, and tickets are given
 
 -- a mark is the end, or a command before it
 pub span_to_end : (slots : List ℕ) (p mark : ℕ) → mark ≡ get_or slots p 0 → IsSpan slots mark 0
-span_to_end slots p mark is = record {
-  low = min p (length slots);
-  high = length slots;
-  ordered = omega arith;
-  within = omega arith;
-  from_is = ⊎_elim
-      (λ below. is ∙ ap (λ n. get_or slots n 0) (let e : p ≡ min p (length slots) = omega (arith, below) in e))
-      (λ past. is ∙ get_or_past slots p 0 past ∙ sym (get_or_past slots (min p (length slots)) 0 (omega (arith, past))))
-      (cases_lt p (length slots));
-  to_is = sym (get_or_past slots (length slots) 0 (omega arith));
-}
+span_to_end slots p mark is = grind (arith, nat_tests, get_or_past, get_or_past slots (length slots) 0 (omega arith))
 
 module _ {m : Marks} {slots : List ℕ} {list : List Member} (marked : IsMarked m slots list) where
   pub none_marked : is_none_marked m ≡ true → All (λ x. is_new x ≡ false) list
-  none_marked none k d l = ⊎_elim
-      (λ new.
-      let at = marked.counted.new k d l new in
-      let most = marked.counted.new_to in let long = marked.long in
-      let same = same_to_end marked.apart marked.counts.new_from marked.counts.new_to (omega (arith, at.0, l, long)) (omega (arith, most, long)) (sym marked.new_from ∙ eqb-true m.new_from m.new_to none ∙ marked.new_to) in
-      absurd (omega (arith, at.0, at.1, same)))
-      (λ old. old)
-      (cases_Bool (is_new (get_or list k d)))
+  none_marked none k d l = grind (arith, nat_tests, same_to_end, eqb-true)
 
   pub marked_enabled_first : is_none_marked m ≡ true → (to end : ℕ) → marked.counts.enabled_to < to → to ≤ length list → end ≡ get_or slots to 0 → IsMarked (enabled_by m end m.dormant end) slots (enabled_up_to to list)
   marked_enabled_first none to end more within end_is =
-      let c : Counts = marked.counts in
-      let long = marked.long in
-      let kept = parts-length list to in
-      record {
-        counts = with_enabled c to c.enabled_to to;
-        counted = counted_enabled c list to marked.counted more within c.enabled_to to (omega arith) (omega arith) within
-            (λ k d l new. absurd (true≢false (sym new ∙ none_marked none k d l)));
-        heads = marked.heads;
-        ordered = marked.ordered;
-        dormant = end_is;
-        new_from = marked.dormant;
-        new_to = end_is;
-        apart = marked.apart;
-        long = omega (arith, long, kept);
-      }
+      marked_by (with_enabled marked.counts to marked.counts.enabled_to to)
+      (counted_enabled marked.counts list to marked.counted more within marked.counts.enabled_to to (omega arith) (omega arith) within (grind (arith, none_marked none)))
+      (grind (arith, parts-length))
 
   pub marked_enabled_more : is_none_marked m ≡ false → (to end from upto : ℕ) → marked.counts.enabled_to < to → to ≤ length list → end ≡ get_or slots to 0
       → from ≡ get_or slots (min marked.counts.enabled_to marked.counts.new_from) 0 → upto ≡ get_or slots (max marked.counts.new_to to) 0
       → IsMarked (enabled_by m end from upto) slots (enabled_up_to to list)
   marked_enabled_more some to end from upto more within end_is from_is upto_is =
       let c : Counts = marked.counts in
-      let long = marked.long in
-      let kept = parts-length list to in
-      let most = marked.counted.new_to in
-      record {
-        counts = with_enabled c to (min c.enabled_to c.new_from) (max c.new_to to);
-        counted = counted_enabled c list to marked.counted more within (min c.enabled_to c.new_from) (max c.new_to to) (omega arith) (omega arith) (omega (arith, within, most))
-            (λ k d l new. let was = marked.counted.new k d l new in (omega (arith, was.0), omega (arith, was.1)));
-        heads = marked.heads;
-        ordered = marked.ordered;
-        dormant = end_is;
-        new_from = from_is;
-        new_to = upto_is;
-        apart = marked.apart;
-        long = omega (arith, long, kept);
-      }
+      marked_by (with_enabled c to (min c.enabled_to c.new_from) (max c.new_to to))
+      (counted_enabled c list to marked.counted more within (min c.enabled_to c.new_from) (max c.new_to to) (omega arith) (omega arith) (omega (arith, within, marked.counted.new_to)) (grind arith))
+      (grind (arith, parts-length))
 
   pub marked_none : All (λ x. is_new x ≡ false) list → IsMarked (record m { new_from = m.new_to }) slots list
-  marked_none none = record {
-    counts = record marked.counts { new_from = marked.counts.new_to };
-    counted = counted_none marked.counts list marked.counted none;
-    heads = marked.heads;
-    ordered = marked.ordered;
-    dormant = marked.dormant;
-    new_from = marked.new_to;
-    new_to = marked.new_to;
-    apart = marked.apart;
-    long = marked.long;
-  }
+  marked_none none = marked_by (record marked.counts { new_from = marked.counts.new_to }) (counted_none marked.counts list marked.counted none) (grind arith)
 
   pub marked_given : (p next : ℕ) (one : Member) → p < length list → ((d : Member) → get_or list p d ≡ one) → ((k : ℕ) (d : Member) → k < p → is_new (get_or list k d) ≡ false) → next ≡ get_or slots (p + 1) 0 → IsMarked (record m { new_from = next }) slots (set list p (given_now one))
-  marked_given p next one l here before next_is = record {
-    counts = record marked.counts { new_from = p + 1 };
-    counted = counted_given marked.counts list p one marked.counted l here before;
-    heads = marked.heads;
-    ordered = marked.ordered;
-    dormant = marked.dormant;
-    new_from = next_is;
-    new_to = marked.new_to;
-    apart = marked.apart;
-    long = let a = length-set list p (given_now one) in let b = marked.long in omega (arith, a, b);
-  }
+  marked_given p next one l here before next_is = marked_by (record marked.counts { new_from = p + 1 }) (counted_given marked.counts list p one marked.counted l here before) (grind (arith, length-set))

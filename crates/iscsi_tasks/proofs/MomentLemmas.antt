@@ -1,18 +1,14 @@
 -- A moment: which commands are free, and what becomes enabled.
-use Rattle.std.proofs.Common.{◌≡◌, ℕ, zero, suc, ◌<◌, ◌≤◌, ◌==◌, ◌||◌, ◌&&◌, ◌≢◌, not, nat_lt, min, max, cond, Bool, true, false, List, [], ◌∷◌, ◌++◌, length, map, take, drop, get_or, All, count_by, refl, ap, sym, ◌∙◌, arith, subst, ⊎_elim, true≢false, ne_eqb, lt-ltb, le-ltb}
+use Rattle.std.proofs.Common.{◌≡◌, ℕ, zero, suc, ◌<◌, ◌≤◌, ◌==◌, ◌||◌, ◌&&◌, ◌≢◌, not, nat_lt, min, max, cond, Bool, true, false, List, [], ◌∷◌, ◌++◌, length, map, take, drop, get_or, All, count_by, refl, ap, sym, ◌∙◌, arith, ⊎_elim, ne_eqb, lt-ltb, le-ltb}
 use Rattle.std.specs.List.{list_any, position_or_len}
-use Rattle.std.proofs.lemmas.Bool.{cases_lt, cases_eq, cases_Bool, or_left, or_right, or_from, and_left, and_right, and_from}
+use Rattle.std.proofs.lemmas.Bool.{cases_Bool, or_left, or_right, or_from, and_left, and_right, and_from}
 use Rattle.std.proofs.lemmas.List.{get_or_default}
-use Rattle.std.proofs.lemmas.List.Elements.{All-map, All-head, All-tail, All-nil, All-cons}
-use Rattle.std.proofs.lemmas.List.Folds.{list_any_at, list_any_none, Any-from_list_any}
+use Rattle.std.proofs.lemmas.List.Elements.{All-map, All-nil, All-cons}
+use Rattle.std.proofs.lemmas.List.Folds.{map_fixed, list_any_at, list_any_none, Any-from_list_any}
 use Rattle.std.proofs.lemmas.List.Sums.{fails_before_first, passes_at_first, sum_by-cons}
-use Rattle.iscsi_tasks.specs.declared.task.Attr.{Attr}
-use Rattle.iscsi_tasks.specs.declared.task.Attr.TheVariants.{Simple, Ordered, Head}
-use Rattle.iscsi_tasks.specs.declared.task.Task.{Task}
-use Rattle.iscsi_tasks.specs.declared.member.Member.{Member}
-use Rattle.iscsi_tasks.specs.Rules.{Queued, is_head_of, is_ordered_of, bars_as, bars, is_free}
-use Rattle.iscsi_tasks.specs.Sets.{queued, is_free_among, looked_at, after_moment, InOrder}
-use Rattle.iscsi_tasks.specs.Counted.{is_head_in, is_ordered_in, enabled_now, IsSettled}
+use Rattle.iscsi_tasks.specs.Rules.{bars_as}
+use Rattle.iscsi_tasks.proofs.Names.{nat_tests, Attr, Simple, Ordered, Head, Task, Member, Queued, is_head_of, is_ordered_of, bars, queued, is_free_among}
+use Rattle.iscsi_tasks.proofs.Names.{looked_at, after_moment, InOrder, is_head_in, is_ordered_in, enabled_now, IsSettled}
 use Rattle.iscsi_tasks.proofs.ListLemmas.{list_any-map}
 
 -- the rules see the same commands after a moment
@@ -20,25 +16,13 @@ pub queued-looked : (list xs : List Member) → map (λ m. queued m.task) (map (
 queued-looked list [] = refl
 queued-looked list (x ∷ xs) = ap (λ r. queued x.task ∷ r) (queued-looked list xs)
 
-or_again : (e f : Bool) → ((e || f) || f) ≡ (e || f)
-or_again true f = refl
-or_again false true = refl
-or_again false false = refl
-
 -- after a moment every command that is free is enabled
 pub settled_after : (list : List Member) → IsSettled (after_moment list)
-settled_after list =
-    All-map (λ m. (m.enabled || is_free_among m.task (after_moment list)) ≡ m.enabled) (looked_at list) list
-    (λ k d l. let m = get_or list k d in
-    ap (λ qs. (m.enabled || is_free_among m.task list) || is_free (queued m.task) qs) (queued-looked list list)
-    ∙ or_again m.enabled (is_free_among m.task list))
+settled_after list = All-map (λ m. (m.enabled || is_free_among m.task (after_moment list)) ≡ m.enabled) (looked_at list) list (grind (arith, nat_tests, queued-looked list list))
 
 -- a moment at which nothing becomes enabled
 pub map-looked_same : (list xs : List Member) → All (λ m. (m.enabled || is_free_among m.task list) ≡ m.enabled) xs → map (looked_at list) xs ≡ xs
-map-looked_same list [] same = refl
-map-looked_same list (x ∷ xs) same =
-    ap (λ b. record { task = x.task; enabled = b; given = x.given } ∷ map (looked_at list) xs) (All-head (λ m. (m.enabled || is_free_among m.task list) ≡ m.enabled) x xs same)
-    ∙ ap (λ r. x ∷ r) (map-looked_same list xs (All-tail (λ m. (m.enabled || is_free_among m.task list) ≡ m.enabled) x xs same))
+map-looked_same list xs same = map_fixed (looked_at list) xs (λ k d l. ap (λ b. record (get_or xs k d) { enabled = b }) (same k d l))
 
 -- ---- what bars a command, by its attribute
 
@@ -69,31 +53,24 @@ free_barred task list k d l here = free_among task list ∙ ap not (list_any_at 
 
 -- HEAD OF QUEUE is always free
 pub free_head : (a : Attr) (task : Task) (list : List Member) → task.attr ≡ a → is_head_of a ≡ true → is_free_among task list ≡ true
-free_head Head task list is head = free_none task list (λ k d l. ap (λ a. bars_as a task.ticket (queued (get_or list k d).task)) is ∙ bars_head task.ticket (queued (get_or list k d).task))
-free_head Ordered task list is head = cc
-free_head Simple task list is head = cc
+free_head a task list is head = grind (arith, nat_tests, free_none, bars_head)
 
 -- every other one is barred by HEAD OF QUEUE
 pub head_bars : (a : Attr) (task : Task) (m : Member) → task.attr ≡ a → is_head_of a ≡ false → is_head_in m ≡ true → m.task.ticket ≢ task.ticket → bars_in task m ≡ true
-head_bars Head task m is other head apart = cc
-head_bars Ordered task m is other head apart = ap (λ a. bars_as a task.ticket (queued m.task)) is ∙ bars_ordered task.ticket (queued m.task) ∙ or_right _ _ (and_from _ _ head (ap not (ne_eqb _ _ apart)))
-head_bars Simple task m is other head apart = ap (λ a. bars_as a task.ticket (queued m.task)) is ∙ bars_simple task.ticket (queued m.task) ∙ or_right _ _ head
+head_bars a task m is other head apart = grind (arith, nat_tests, bars_ordered, or_right, and_from, ne_eqb, bars_simple)
 
 -- an older ORDERED bars every other one
 pub ordered_bars : (a : Attr) (task : Task) (m : Member) → task.attr ≡ a → is_head_of a ≡ false → is_ordered_in m ≡ true → m.task.ticket < task.ticket → bars_in task m ≡ true
-ordered_bars Head task m is other ordered older = cc
-ordered_bars Ordered task m is other ordered older = ap (λ a. bars_as a task.ticket (queued m.task)) is ∙ bars_ordered task.ticket (queued m.task) ∙ or_left _ _ (lt-ltb _ _ older)
-ordered_bars Simple task m is other ordered older = ap (λ a. bars_as a task.ticket (queued m.task)) is ∙ bars_simple task.ticket (queued m.task) ∙ or_left _ _ (and_from _ _ ordered (lt-ltb _ _ older))
+ordered_bars a task m is other ordered older = grind (arith, nat_tests, bars_ordered, or_left, lt-ltb, bars_simple, and_from)
 
 -- every older one bars ORDERED
 pub older_bars : (task : Task) (m : Member) → task.attr ≡ Ordered → m.task.ticket < task.ticket → bars_in task m ≡ true
-older_bars task m is older = ap (λ a. bars_as a task.ticket (queued m.task)) is ∙ bars_ordered task.ticket (queued m.task) ∙ or_left _ _ (lt-ltb _ _ older)
+older_bars task m is older = grind (arith, nat_tests, bars_ordered)
 
 -- one that isn't older and isn't HEAD OF QUEUE bars nothing
 pub younger_passes : (a : Attr) (task : Task) (m : Member) → task.attr ≡ a → is_head_in m ≡ false → task.ticket ≤ m.task.ticket → bars_in task m ≡ false
-younger_passes Head task m is plain younger = ap (λ a. bars_as a task.ticket (queued m.task)) is ∙ bars_head task.ticket (queued m.task)
 younger_passes Ordered task m is plain younger = ap (λ a. bars_as a task.ticket (queued m.task)) is ∙ bars_ordered task.ticket (queued m.task) ∙ or_from _ _ (le-ltb _ _ younger) (and_left _ _ plain)
-younger_passes Simple task m is plain younger = ap (λ a. bars_as a task.ticket (queued m.task)) is ∙ bars_simple task.ticket (queued m.task) ∙ or_from _ _ (and_right _ _ (le-ltb _ _ younger)) plain
+younger_passes a task m is plain younger = grind (arith, nat_tests, bars_head, bars_simple, or_from, and_right, le-ltb)
 
 -- one that is SIMPLE bars no SIMPLE
 pub simple_passes : (task : Task) (m : Member) → task.attr ≡ Simple → is_head_in m ≡ false → is_ordered_in m ≡ false → bars_in task m ≡ false
@@ -101,78 +78,44 @@ simple_passes task m is plain unordered = ap (λ a. bars_as a task.ticket (queue
 
 -- ---- which commands are free
 
-simple_of : (a : Attr) → is_head_of a ≡ false → is_ordered_of a ≡ false → a ≡ Simple
-simple_of Head plain unordered = cc
-simple_of Ordered plain unordered = cc
-simple_of Simple plain unordered = refl
-
 ordered_of : (a : Attr) → is_ordered_of a ≡ true → a ≡ Ordered
-ordered_of Head ordered = cc
-ordered_of Ordered ordered = refl
-ordered_of Simple ordered = cc
+ordered_of a ordered = grind (arith, nat_tests)
 
 -- without HEAD OF QUEUE: those before the oldest ORDERED, and the oldest of all
 module _ (list : List Member) (order : InOrder list) (plain : All (λ m. is_head_in m ≡ false) list) where
+  passes_below : (k j : ℕ) (d e : Member) → k < length list → j < length list → k < max 1 (position_or_len is_ordered_in list) → bars_in (get_or list k d).task (get_or list j e) ≡ false
+  passes_below k j d e within l below =
+      grind (arith, nat_tests, simple_passes, younger_passes, fails_before_first is_ordered_in list k d, fails_before_first is_ordered_in list j e, get_or_default list j d e l)
+
   pub free_below : (k : ℕ) (d : Member) → k < length list → k < max 1 (position_or_len is_ordered_in list) → is_free_among (get_or list k d).task list ≡ true
-  free_below k d within below =
-      let m = get_or list k d in
-      free_none m.task list (λ j e l. ⊎_elim
-      (λ older. let first : k < position_or_len is_ordered_in list = omega arith in
-      simple_passes m.task (get_or list j e) (simple_of m.task.attr (plain k d within) (fails_before_first is_ordered_in list k d first)) (plain j e l) (fails_before_first is_ordered_in list j e (omega arith)))
-      (λ younger. younger_passes m.task.attr m.task (get_or list j e) refl (plain j e l)
-      (⊎_elim
-      (λ same. subst (λ n. m.task.ticket ≤ (get_or list n e).task.ticket) same (let one : get_or list k d ≡ get_or list k e = get_or_default list k d e within in subst (λ (x : Member). m.task.ticket ≤ x.task.ticket) one (omega arith)))
-      (λ apart. let up : (get_or list k e).task.ticket < (get_or list j e).task.ticket = order k j e (omega arith) l in let one : (get_or list k d).task.ticket ≡ (get_or list k e).task.ticket = ap (λ (x : Member). x.task.ticket) (get_or_default list k d e within) in omega arith)
-      (cases_eq k j)))
-      (cases_lt j k))
+  free_below k d within below = free_none (get_or list k d).task list (λ j e l. passes_below k j d e within l below)
 
   pub free_above : (k : ℕ) (d : Member) → k < length list → max 1 (position_or_len is_ordered_in list) ≤ k → is_free_among (get_or list k d).task list ≡ false
   free_above k d within above =
-      let m = get_or list k d in
-      let p = position_or_len is_ordered_in list in
-      ⊎_elim
-      (λ ordered. free_barred m.task list 0 d (omega arith) (older_bars m.task (get_or list 0 d) (ordered_of m.task.attr ordered) (order 0 k d (omega arith) within)))
-      (λ unordered.
-      let inside : p < length list = omega arith in
-      let first : is_ordered_in (get_or list p d) ≡ true = passes_at_first is_ordered_in list d inside in
-      let apart : p ≢ k = λ same. true≢false (sym first ∙ ap (λ n. is_ordered_in (get_or list n d)) same ∙ unordered) in
-      free_barred m.task list p d inside (ordered_bars m.task.attr m.task (get_or list p d) refl (plain k d within) first (order p k d (omega arith) within)))
-      (cases_Bool (is_ordered_in m))
+      let m = get_or list k d in let p = position_or_len is_ordered_in list in
+      grind (arith, nat_tests, free_barred m.task list 0 d, free_barred m.task list p d, older_bars m.task (get_or list 0 d), ordered_of m.task.attr, order 0 k d, order p k d, passes_at_first is_ordered_in list d, ordered_bars m.task.attr m.task (get_or list p d) refl, plain k d)
 
 -- with HEAD OF QUEUE: no other one
 pub barred_by_head : (list : List Member) (h k : ℕ) (d : Member) → InOrder list → h < length list → k < length list → is_head_in (get_or list h d) ≡ true → is_head_in (get_or list k d) ≡ false → is_free_among (get_or list k d).task list ≡ false
 barred_by_head list h k d order inside within head plain =
-    let m = get_or list k d in
-    let apart : (get_or list h d).task.ticket ≢ m.task.ticket = λ same. ⊎_elim
-    (λ one. true≢false (sym head ∙ ap (λ n. is_head_in (get_or list n d)) one ∙ plain))
-    (λ two. ⊎_elim
-    (λ below. let up : (get_or list h d).task.ticket < m.task.ticket = order h k d below within in omega arith)
-    (λ above. let up : m.task.ticket < (get_or list h d).task.ticket = order k h d (omega arith) inside in omega arith)
-    (cases_lt h k))
-    (cases_eq h k) in
-    free_barred m.task list h d inside (head_bars m.task.attr m.task (get_or list h d) refl plain head apart)
+    let m = get_or list k d in let o = get_or list h d in
+    grind (arith, nat_tests, free_barred m.task list h d, head_bars m.task.attr m.task o refl, order h k d, order k h d)
 
 -- ---- counts
 
 pub none_counted : (p : Member → Bool) (xs : List Member) → count_by p xs ≡ 0 → All (λ m. p m ≡ false) xs
 none_counted p [] zero_all = All-nil (λ m. p m ≡ false)
-none_counted p (x ∷ xs) zero_all = ⊎_elim
-    (λ yes. absurd (let e : cond {A = ℕ} (p x) 1 0 ≡ 1 = ap (λ b. cond b 1 0) yes in omega (arith, zero_all, e, sum_by-cons (λ (m : Member). cond {A = ℕ} (p m) 1 0) x xs)))
-    (λ no. let e : cond {A = ℕ} (p x) 1 0 ≡ 0 = ap (λ b. cond b 1 0) no in All-cons (λ m. p m ≡ false) x xs no (none_counted p xs (omega (arith, zero_all, e, sum_by-cons (λ (m : Member). cond {A = ℕ} (p m) 1 0) x xs))))
-    (cases_Bool (p x))
+none_counted p (x ∷ xs) zero_all =
+    grind (arith, nat_tests, none_counted p xs, All-cons (λ m. p m ≡ false) x xs, sum_by-cons (λ (m : Member). cond {A = ℕ} (p m) 1 0) x xs)
 
 pub some_counted : (p : Member → Bool) (xs : List Member) → 0 < count_by p xs → list_any p xs ≡ true
 some_counted p [] some = absurd (omega arith)
-some_counted p (x ∷ xs) some = ⊎_elim
-    (λ yes. or_left _ _ yes)
-    (λ no. or_right _ _ (some_counted p xs (let e : cond {A = ℕ} (p x) 1 0 ≡ 0 = ap (λ b. cond b 1 0) no in omega (arith, some, e, sum_by-cons (λ (m : Member). cond {A = ℕ} (p m) 1 0) x xs))))
-    (cases_Bool (p x))
+some_counted p (x ∷ xs) some = grind (arith, nat_tests, some_counted p xs, sum_by-cons (λ (m : Member). cond {A = ℕ} (p m) 1 0) x xs)
 
 -- ---- moments
 
 or_false : (b : Bool) → (b || false) ≡ b
-or_false true = refl
-or_false false = refl
+or_false b = grind (arith, nat_tests)
 
 -- while HEAD OF QUEUE is in the set, nothing becomes enabled
 pub moment_with_heads : (list : List Member) → InOrder list → 0 < count_by is_head_in list → All (λ m. is_head_in m ≡ true → m.enabled ≡ true) list → after_moment list ≡ list
@@ -193,12 +136,4 @@ map_parts f g (x ∷ xs) (suc n) below above = ap (λ y. y ∷ map f xs) (below 
 
 -- otherwise the first ones are enabled
 pub moment_without_heads : (list : List Member) (n : ℕ) → InOrder list → count_by is_head_in list ≡ 0 → n ≡ min (length list) (max 1 (position_or_len is_ordered_in list)) → after_moment list ≡ map enabled_now (take n list) ++ drop n list
-moment_without_heads list n order none is =
-    let plain = none_counted is_head_in list none in
-    map_parts (looked_at list) enabled_now list n
-    (λ k d l below. let m = get_or list k d in
-    ap (λ b. record { task = m.task; enabled = m.enabled || b; given = m.given }) (free_below list order plain k d l (omega arith))
-    ∙ ap (λ b. record { task = m.task; enabled = b; given = m.given }) (or_right m.enabled true refl))
-    (λ k d l above. let m = get_or list k d in
-    ap (λ b. record { task = m.task; enabled = m.enabled || b; given = m.given }) (free_above list order plain k d l (omega arith))
-    ∙ ap (λ b. record { task = m.task; enabled = b; given = m.given }) (or_false m.enabled))
+moment_without_heads list n order none is = grind (arith, nat_tests, none_counted, map_parts, free_below, or_right, free_above, or_false)

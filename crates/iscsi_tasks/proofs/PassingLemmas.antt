@@ -1,12 +1,9 @@
 -- Commands that are covered leave, from the oldest on.
-use Rattle.std.proofs.Common.{◌≡◌, ◌∙◌, ℕ, zero, suc, ◌+◌, ◌<◌, not, cond, Bool, true, false, List, [], ◌∷◌, ◌++◌, length, map, filter, take, drop, get_or, All, refl, ap, sym, arith, ⊎_elim}
+use Rattle.std.proofs.Common.{◌≡◌, ◌∙◌, ℕ, suc, ◌+◌, ◌<◌, not, cond, Bool, true, false, List, [], ◌∷◌, ◌++◌, length, map, filter, take, drop, get_or, All, refl, ap, sym, arith}
 use Rattle.std.specs.List.{remove}
-use Rattle.std.proofs.lemmas.Bool.{cases_Bool}
 use Rattle.std.proofs.lemmas.List.{take_more, take-append-drop, map-append, append-nil}
 use Rattle.std.proofs.lemmas.List.Elements.{filter-append, All-head, All-tail}
-use Rattle.iscsi_tasks.specs.declared.task.Task.{Task}
-use Rattle.iscsi_tasks.specs.declared.member.Member.{Member}
-use Rattle.iscsi_tasks.specs.Marked.{covered_tickets}
+use Rattle.iscsi_tasks.proofs.Names.{nat_tests, Task, Member, covered_tickets}
 
 module _ {X : Type 0} (covers : X → Bool) where
   -- those so far that stay, and the others
@@ -18,68 +15,27 @@ module _ {X : Type 0} (covers : X → Bool) where
   passed xs k = length (filter (λ x. not (covers x)) (take k xs))
 
   module _ (x : X) (xs : List X) (k : ℕ) where
-    list_goes : covers x ≡ true → kept_yet (x ∷ xs) (suc k) ≡ kept_yet xs k
-    list_goes is = ap (λ b. cond (not b) (x ∷ filter (λ y. not (covers y)) (take k xs)) (filter (λ y. not (covers y)) (take k xs)) ++ drop k xs) is
-
-    list_stays : covers x ≡ false → kept_yet (x ∷ xs) (suc k) ≡ x ∷ kept_yet xs k
-    list_stays is = ap (λ b. cond (not b) (x ∷ filter (λ y. not (covers y)) (take k xs)) (filter (λ y. not (covers y)) (take k xs)) ++ drop k xs) is
-
-    count_goes : covers x ≡ true → passed (x ∷ xs) (suc k) ≡ passed xs k
-    count_goes is = ap (λ b. length (cond (not b) (x ∷ filter (λ y. not (covers y)) (take k xs)) (filter (λ y. not (covers y)) (take k xs)))) is
-
     count_stays : covers x ≡ false → passed (x ∷ xs) (suc k) ≡ suc (passed xs k)
     count_stays is = ap (λ b. length (cond (not b) (x ∷ filter (λ y. not (covers y)) (take k xs)) (filter (λ y. not (covers y)) (take k xs)))) is
 
   -- the next one stands behind those that stay
   pub yet_at : (xs : List X) (k : ℕ) (d : X) → k < length xs → get_or (kept_yet xs k) (passed xs k) d ≡ get_or xs k d
-  yet_at [] k d l = absurd (omega arith)
-  yet_at (x ∷ xs) zero d l = refl
-  yet_at (x ∷ xs) (suc k) d l =
-      let more = yet_at xs k d (omega arith) in ⊎_elim
-      (λ yes. ap (λ ys. get_or ys (passed (x ∷ xs) (suc k)) d) (list_goes x xs k yes) ∙ ap (λ n. get_or (kept_yet xs k) n d) (count_goes x xs k yes) ∙ more)
-      (λ no. ap (λ ys. get_or ys (passed (x ∷ xs) (suc k)) d) (list_stays x xs k no) ∙ ap (λ n. get_or (x ∷ kept_yet xs k) n d) (count_stays x xs k no) ∙ more)
-      (cases_Bool (covers x))
+  yet_at (x ∷ xs) (suc k) d l = grind (arith, nat_tests, yet_at xs k d (omega arith), count_stays)
+  yet_at xs k d l = grind (arith, nat_tests)
 
   pub yet_inside : (xs : List X) (k : ℕ) → k < length xs → passed xs k < length (kept_yet xs k)
-  yet_inside [] k l = absurd (omega arith)
-  yet_inside (x ∷ xs) zero l = omega arith
-  yet_inside (x ∷ xs) (suc k) l =
-      let more = yet_inside xs k (omega arith) in ⊎_elim
-      (λ yes. let a = ap length (list_goes x xs k yes) in let b = count_goes x xs k yes in omega (arith, a, b, more))
-      (λ no. let a = ap length (list_stays x xs k no) in let b = count_stays x xs k no in omega (arith, a, b, more))
-      (cases_Bool (covers x))
+  yet_inside (x ∷ xs) (suc k) l = grind (arith, nat_tests, yet_inside xs k (omega arith), count_stays)
+  yet_inside xs k l = grind (arith, nat_tests)
 
   -- it leaves
   pub yet_without : (xs : List X) (k : ℕ) (d : X) → k < length xs → covers (get_or xs k d) ≡ true → (remove (kept_yet xs k) (passed xs k) ≡ kept_yet xs (suc k)) × (passed xs (suc k) ≡ passed xs k)
-  yet_without [] k d l goes = absurd (omega arith)
-  yet_without (x ∷ xs) zero d l goes = (sym (list_goes x xs 0 goes), count_goes x xs 0 goes)
-  yet_without (x ∷ xs) (suc k) d l goes =
-      let more = yet_without xs k d (omega arith) goes in ⊎_elim
-      (λ yes. (
-        ap (λ ys. remove ys (passed (x ∷ xs) (suc k))) (list_goes x xs k yes) ∙ ap (remove (kept_yet xs k)) (count_goes x xs k yes) ∙ more.0 ∙ sym (list_goes x xs (suc k) yes),
-        count_goes x xs (suc k) yes ∙ more.1 ∙ sym (count_goes x xs k yes),
-      ))
-      (λ no. (
-        ap (λ ys. remove ys (passed (x ∷ xs) (suc k))) (list_stays x xs k no) ∙ ap (remove (x ∷ kept_yet xs k)) (count_stays x xs k no) ∙ ap (λ ys. x ∷ ys) more.0 ∙ sym (list_stays x xs (suc k) no),
-        count_stays x xs (suc k) no ∙ ap suc more.1 ∙ sym (count_stays x xs k no),
-      ))
-      (cases_Bool (covers x))
+  yet_without (x ∷ xs) (suc k) d l goes = grind (arith, nat_tests, yet_without xs k d (omega arith) goes, count_stays)
+  yet_without xs k d l goes = grind (arith, nat_tests)
 
   -- or it stays
   pub yet_with : (xs : List X) (k : ℕ) (d : X) → k < length xs → covers (get_or xs k d) ≡ false → (kept_yet xs k ≡ kept_yet xs (suc k)) × (passed xs (suc k) ≡ suc (passed xs k))
-  yet_with [] k d l stays = absurd (omega arith)
-  yet_with (x ∷ xs) zero d l stays = (sym (list_stays x xs 0 stays), count_stays x xs 0 stays)
-  yet_with (x ∷ xs) (suc k) d l stays =
-      let more = yet_with xs k d (omega arith) stays in ⊎_elim
-      (λ yes. (
-        list_goes x xs k yes ∙ more.0 ∙ sym (list_goes x xs (suc k) yes),
-        count_goes x xs (suc k) yes ∙ more.1 ∙ ap suc (sym (count_goes x xs k yes)),
-      ))
-      (λ no. (
-        list_stays x xs k no ∙ ap (λ ys. x ∷ ys) more.0 ∙ sym (list_stays x xs (suc k) no),
-        count_stays x xs (suc k) no ∙ ap suc more.1 ∙ ap suc (sym (count_stays x xs k no)),
-      ))
-      (cases_Bool (covers x))
+  yet_with (x ∷ xs) (suc k) d l stays = grind (arith, nat_tests, yet_with xs k d (omega arith) stays, count_stays)
+  yet_with xs k d l stays = grind (arith, nat_tests, count_stays)
 
   none_filtered : (xs : List X) → All (λ x. covers x ≡ false) xs → filter (λ x. not (covers x)) xs ≡ xs
   none_filtered [] none = refl
@@ -87,28 +43,21 @@ module _ {X : Type 0} (covers : X → Bool) where
 
   -- from here on none is covered
   pub yet_all : (xs : List X) (k : ℕ) → All (λ x. covers x ≡ false) (drop k xs) → kept_yet xs k ≡ filter (λ x. not (covers x)) xs
-  yet_all xs k none =
-      ap (λ ys. filter (λ x. not (covers x)) (take k xs) ++ ys) (sym (none_filtered (drop k xs) none))
-      ∙ sym (filter-append (λ x. not (covers x)) (take k xs) (drop k xs)) ∙ ap (filter (λ x. not (covers x))) (take-append-drop k xs)
+  yet_all xs k none = grind (arith, nat_tests, filter-append, none_filtered (drop k xs) none, take-append-drop k xs)
 
 module _ (covers : Task → Bool) where
   tickets_append : (xs ys : List Member) → covered_tickets covers (xs ++ ys) ≡ covered_tickets covers xs ++ covered_tickets covers ys
-  tickets_append xs ys =
-      ap (λ ts. map (λ (t : Task). t.ticket) (filter covers ts)) (map-append (λ (m : Member). m.task) xs ys)
-      ∙ ap (map (λ (t : Task). t.ticket)) (filter-append covers (map (λ (m : Member). m.task) xs) (map (λ (m : Member). m.task) ys))
-      ∙ map-append (λ (t : Task). t.ticket) (filter covers (map (λ (m : Member). m.task) xs)) (filter covers (map (λ (m : Member). m.task) ys))
+  tickets_append xs ys = grind (arith, nat_tests, map-append, filter-append)
 
   tickets_one : (m : Member) (b : Bool) → covers m.task ≡ b → covered_tickets covers (m ∷ []) ≡ cond b (m.task.ticket ∷ []) []
   tickets_one m b is = ap (λ c. map (λ (t : Task). t.ticket) (cond c (m.task ∷ []) [])) is ∙ both b
     where
       both : (b : Bool) → map (λ (t : Task). t.ticket) (cond b (m.task ∷ []) []) ≡ cond b (m.task.ticket ∷ []) []
-      both true = refl
-      both false = refl
+      both b = grind (arith, nat_tests)
 
   -- one more is looked at
   pub tickets_more : (xs : List Member) (k : ℕ) (d : Member) (b : Bool) → k < length xs → covers (get_or xs k d).task ≡ b → covered_tickets covers (take (k + 1) xs) ≡ covered_tickets covers (take k xs) ++ cond b ((get_or xs k d).task.ticket ∷ []) []
-  tickets_more xs k d b l is =
-      ap (covered_tickets covers) (take_more xs k d l) ∙ tickets_append (take k xs) (get_or xs k d ∷ []) ∙ ap (λ r. covered_tickets covers (take k xs) ++ r) (tickets_one (get_or xs k d) b is)
+  tickets_more xs k d b l is = grind (arith, nat_tests, take_more xs k d l, tickets_append (take k xs) (get_or xs k d ∷ []), tickets_one (get_or xs k d) b is)
 
   tickets_none : (xs : List Member) → All (λ m. covers m.task ≡ false) xs → covered_tickets covers xs ≡ []
   tickets_none [] none = refl
@@ -119,6 +68,10 @@ module _ (covers : Task → Bool) where
   pub tickets_all : (xs : List Member) (k : ℕ) → All (λ m. covers m.task ≡ false) (drop k xs) → covered_tickets covers (take k xs) ≡ covered_tickets covers xs
   tickets_all xs k none =
       sym (ap (covered_tickets covers) (sym (take-append-drop k xs)) ∙ tickets_append (take k xs) (drop k xs) ∙ ap (λ r. covered_tickets covers (take k xs) ++ r) (tickets_none (drop k xs) none) ∙ append-nil (covered_tickets covers (take k xs)))
+
+-- the place of the command that is looked at
+pub place_in : (covers : Member → Bool) (list members : List Member) (slots : List ℕ) (k : ℕ) → k < length list → members ≡ kept_yet covers list k → length slots ≡ length members → passed covers list k < length slots
+place_in covers list members slots k l same long = let a = yet_inside covers list k l in let b = ap length same in omega (arith, a, b, long)
 
 pub none_left : (covers : Task → Bool) (ts : List Task) → All (λ t. covers t ≡ false) ts → filter covers ts ≡ []
 none_left covers [] none = refl

@@ -1,11 +1,10 @@
 -- The first place that passes a test, and places that are filled up to one.
-use Rattle.std.proofs.Common.{◌≡◌, ℕ, zero, suc, ◌<◌, ◌≤◌, nat_lt, cond, Bool, true, false, List, [], ◌∷◌, ◌++◌, length, map, take, drop, get_or, position, Some, None, All, refl, ap, sym, ◌∙◌, arith, ⊎_elim}
-use Rattle.std.proofs.lemmas.Bool.{lt-ltb, le-ltb, cases_lt}
+use Rattle.std.proofs.Common.{◌≡◌, ℕ, suc, ◌<◌, ◌≤◌, nat_lt, cond, Bool, true, false, List, [], ◌∷◌, ◌++◌, length, map, take, drop, get_or, position, Some, None, All, refl, ap, sym, ◌∙◌, arith}
+use Rattle.std.proofs.lemmas.Bool.{lt-ltb, le-ltb}
 use Rattle.std.proofs.lemmas.List.{take-append-drop}
 use Rattle.std.proofs.lemmas.List.Sums.{position_or_len_is, fails_before_first}
 use Rattle.std.specs.List.{position_or_len}
-use Rattle.iscsi_tasks.specs.declared.member.Member.{Member}
-use Rattle.iscsi_tasks.specs.Counted.{enabled_now}
+use Rattle.iscsi_tasks.proofs.Names.{nat_tests, Member, enabled_now}
 
 pub place_is : {X : Type 0} (p : X → Bool) (xs : List X) (k : ℕ) (d : X) → k < length xs → ((j : ℕ) → j < k → p (get_or xs j d) ≡ false) → p (get_or xs k d) ≡ true → position_or_len p xs ≡ k
 place_is p xs k d within before here = position_or_len_is p xs k d (omega arith) before (λ l. here)
@@ -22,18 +21,14 @@ position_none p xs is = sym (ap (λ n. cond (nat_lt n (length xs)) (Some n) None
 
 -- enabled members stay as they are
 pub map-enabled_now : (xs : List Member) (n : ℕ) → n ≤ length xs → ((k : ℕ) (d : Member) → k < n → (get_or xs k d).enabled ≡ true) → map enabled_now (take n xs) ≡ take n xs
-map-enabled_now xs zero within enabled = refl
-map-enabled_now [] (suc n) within enabled = refl
 map-enabled_now (x ∷ xs) (suc n) within enabled =
     ap (λ b. record { task = x.task; enabled = b; given = x.given } ∷ map enabled_now (take n xs)) (sym (enabled 0 x (omega arith)))
     ∙ ap (λ r. x ∷ r) (map-enabled_now xs n (omega arith) (λ k d l. enabled (suc k) d (omega arith)))
+map-enabled_now xs n within enabled = grind (arith, nat_tests)
 
 pub enabled_so_far : (xs : List Member) (n : ℕ) → n ≤ length xs → ((k : ℕ) (d : Member) → k < n → (get_or xs k d).enabled ≡ true) → xs ≡ map enabled_now (take n xs) ++ drop n xs
 enabled_so_far xs n within enabled = sym (ap (λ r. r ++ drop n xs) (map-enabled_now xs n within enabled) ∙ take-append-drop n xs)
 
 -- where no place is answered, none passes
 pub none_at_position : {X : Type 0} (p : X → Bool) (xs : List X) → position p xs ≡ None → All (λ x. p x ≡ false) xs
-none_at_position p xs none k d within = ⊎_elim
-    (λ inside. let found : Some (position_or_len p xs) ≡ None = position_of p xs (position_or_len p xs) refl inside ∙ none in cc)
-    (λ past. fails_before_first p xs k d (omega arith))
-    (cases_lt (position_or_len p xs) (length xs))
+none_at_position p xs none k d within = grind (arith, nat_tests, position_of, fails_before_first)

@@ -1,13 +1,12 @@
 -- A command is found by its ticket, since tickets go up along the set.
-use Rattle.std.proofs.Common.{◌≡◌, ℕ, ◌<◌, ◌==◌, ◌&&◌, ◌≢◌, cond, Bool, true, false, List, [], ◌∷◌, length, map, find, position, get_or, All, Some, None, option_map, slice_get, refl, ap, sym, ◌∙◌, arith, subst, ⊎_elim, ne_eqb, eq-eqb}
+use Rattle.std.proofs.Common.{◌≡◌, ℕ, ◌<◌, ◌==◌, ◌&&◌, ◌≢◌, cond, Bool, true, false, List, [], ◌∷◌, length, map, find, position, get_or, All, Some, None, option_map, slice_get, refl, ap, ◌∙◌, arith, ⊎_elim, ne_eqb, eq-eqb}
 use Rattle.std.specs.List.{list_any, position_or_len}
-use Rattle.std.proofs.lemmas.Bool.{cases_eq, cases_lt, cases_Bool, and_from, and_left, and_right}
+use Rattle.std.proofs.lemmas.Bool.{cases_Bool, and_from, and_left, and_right}
 use Rattle.std.proofs.lemmas.List.{get_or_default}
 use Rattle.std.proofs.lemmas.Option.{slice_get-get_or}
 use Rattle.std.proofs.lemmas.List.Folds.{find_at, list_any_at, list_any_none}
 use Rattle.std.proofs.lemmas.List.Elements.{All-head, All-tail}
-use Rattle.iscsi_tasks.specs.declared.member.Member.{Member}
-use Rattle.iscsi_tasks.specs.Sets.{InOrder, is_enabled_with, is_enabled_in, with_ticket}
+use Rattle.iscsi_tasks.proofs.Names.{nat_tests, Member, InOrder, is_enabled_with, is_enabled_in, with_ticket}
 use Rattle.iscsi_tasks.proofs.ListLemmas.{find-map}
 use Rattle.iscsi_tasks.proofs.PlaceLemmas.{place_is, no_place, position_of, position_none}
 
@@ -23,24 +22,13 @@ find_nowhere p (x ∷ xs) none = ap (λ b. cond b (Some x) (find p xs)) (All-hea
 
 module _ (list : List Member) (order : InOrder list) (ticket k : ℕ) (within : k < length list) (here : (d : Member) → (get_or list k d).task.ticket ≡ ticket) where
   apart : (j : ℕ) (d : Member) → j < length list → j ≢ k → ((get_or list j d).task.ticket == ticket) ≡ false
-  apart j d l ne = ne_eqb _ _ (λ e. ⊎_elim
-      (λ below. let up : (get_or list j d).task.ticket < (get_or list k d).task.ticket = order j k d below within in omega (arith, here d))
-      (λ above. let up : (get_or list k d).task.ticket < (get_or list j d).task.ticket = order k j d (omega arith) l in omega (arith, here d))
-      (cases_lt j k))
+  apart j d l ne = grind (arith, nat_tests, ne_eqb)
 
   pub found : (d : Member) → with_ticket ticket (map (λ m. m.task) list) ≡ Some (get_or list k d).task
-  found d =
-      let place : position_or_len (λ m. m.task.ticket == ticket) list ≡ k = place_is (λ m. m.task.ticket == ticket) list k d within (λ j l. apart j d (omega arith) (λ e. omega arith)) (eq-eqb _ _ (here d)) in
-      find-map (λ t. t.ticket == ticket) (λ m. m.task) list ∙ ap (option_map (λ (m : Member). m.task)) (find_place (λ m. m.task.ticket == ticket) list k d place within)
+  found d = grind (arith, nat_tests, place_is, apart, eq-eqb, find-map, find_place)
 
   pub enabled_at : (d : Member) → (get_or list k d).enabled ≡ is_enabled_in ticket list
-  enabled_at d = ⊎_elim
-      (λ on. on ∙ sym (list_any_at (λ m. m.task.ticket == ticket && m.enabled) list k d within (and_from _ _ (eq-eqb _ _ (here d)) on)))
-      (λ off. off ∙ sym (list_any_none (λ m. m.task.ticket == ticket && m.enabled) list (λ j e l. ⊎_elim
-      (λ same. and_right _ _ (subst (λ n. (get_or list n e).enabled ≡ false) (sym same) (ap (λ (x : Member). x.enabled) (get_or_default list k e d within) ∙ off)))
-      (λ other. and_left _ _ (apart j e l other))
-      (cases_eq j k))))
-      (cases_Bool (get_or list k d).enabled)
+  enabled_at d = grind (arith, nat_tests, list_any_at, and_from, eq-eqb, list_any_none, and_right, get_or_default, and_left, apart)
 
   -- and of the one that was read there
   pub enabled_read : (m : Member) → ((d : Member) → m ≡ get_or list k d) → m.enabled ≡ is_enabled_in ticket list

@@ -1,22 +1,16 @@
 -- The covered commands leave together.
-use Rattle.std.proofs.Common.{◌≡◌, ◌≢◌, ◌∙◌, ◌≤◌, ◌||◌, not, cond, Bool, true, false, List, [], ◌∷◌, length, filter, All, refl, ap, sym, subst, arith, ⊎_elim}
+use Rattle.std.proofs.Common.{◌≡◌, ◌≢◌, ◌∙◌, ◌≤◌, ◌||◌, not, cond, Bool, true, false, List, [], ◌∷◌, length, filter, All, refl, ap, sym, arith, ⊎_elim}
 use Rattle.std.specs.List.{list_any}
 use Rattle.std.proofs.lemmas.Bool.{cases_Bool, or_left}
 use Rattle.std.proofs.lemmas.List.{length-map}
 use Rattle.std.proofs.lemmas.List.Folds.{list_any_none}
-use Rattle.iscsi_tasks.specs.declared.task.Task.{Task}
-use Rattle.iscsi_tasks.specs.declared.member.Member.{Member}
-use Rattle.iscsi_tasks.specs.Sets.{Members, tasks_in, looked_at, after_moment, uncovered, list_staying, set_staying}
-use Rattle.iscsi_tasks.specs.Counted.{IsSettled}
+use Rattle.iscsi_tasks.proofs.Names.{nat_tests, Task, Member, Members, tasks_in, after_moment, uncovered, list_staying, set_staying, IsSettled}
 use Rattle.iscsi_tasks.proofs.ListLemmas.{list_any-map}
 use Rattle.iscsi_tasks.proofs.MomentLemmas.{settled_after}
 
 pub filter-shorter : {X : Type 0} (p : X → Bool) (xs : List X) → length (filter p xs) ≤ length xs
 filter-shorter p [] = omega arith
-filter-shorter p (x ∷ xs) = let rest : length (filter p xs) ≤ length xs = filter-shorter p xs in ⊎_elim
-    (λ yes. subst (λ b. length (cond b (x ∷ filter p xs) (filter p xs)) ≤ length (x ∷ xs)) (sym yes) (omega arith))
-    (λ no. subst (λ b. length (cond b (x ∷ filter p xs) (filter p xs)) ≤ length (x ∷ xs)) (sym no) (omega arith))
-    (cases_Bool (p x))
+filter-shorter p (x ∷ xs) = grind (arith, nat_tests, filter-shorter p xs)
 
 -- where as many stay, none leaves, and else one does
 pub all_stay : {X : Type 0} (p : X → Bool) (xs : List X) → length (filter (λ x. not (p x)) xs) ≡ length xs → list_any p xs ≡ false
@@ -33,25 +27,15 @@ all_stay p (x ∷ xs) same = ⊎_elim
 
 pub none_leaves : {X : Type 0} (p : X → Bool) (xs : List X) → list_any p xs ≡ false → filter (λ x. not (p x)) xs ≡ xs
 none_leaves p [] none = refl
-none_leaves p (x ∷ xs) none = ⊎_elim
-    (λ yes. absurd (let some : list_any p (x ∷ xs) ≡ true = or_left _ _ yes in cc))
-    (λ no.
-    let rest : list_any p xs ≡ false = sym (ap (λ b. b || list_any p xs) no) ∙ none in
-    ap (λ b. cond (not b) (x ∷ filter (λ y. not (p y)) xs) (filter (λ y. not (p y)) xs)) no ∙ ap (λ r. x ∷ r) (none_leaves p xs rest))
-    (cases_Bool (p x))
+none_leaves p (x ∷ xs) none = grind (arith, nat_tests, none_leaves p xs, or_left)
 
 module _ (covers : Task → Bool) (list : List Member) where
   pub staying_cases : (P : List Member → Type 0) → (list_any (λ m. covers m.task) list ≡ false → P list) → (list_any (λ m. covers m.task) list ≡ true → P (after_moment (uncovered covers list))) → P (list_staying covers list)
-  staying_cases P none some = ⊎_elim
-      (λ yes. subst P (sym (ap (λ b. cond b (after_moment (uncovered covers list)) list) yes)) (some yes))
-      (λ no. subst P (sym (ap (λ b. cond b (after_moment (uncovered covers list)) list) no)) (none no))
-      (cases_Bool (list_any (λ (m : Member). covers m.task) list))
+  staying_cases P none some = grind (arith, nat_tests)
 
   -- what is left, by how many there are
   pub staying_same : (rest : List Member) → rest ≡ uncovered covers list → length rest ≡ length list → rest ≡ list_staying covers list
-  staying_same rest is same =
-      let none : list_any (λ (m : Member). covers m.task) list ≡ false = all_stay (λ (m : Member). covers m.task) list (sym (ap length is) ∙ same) in
-      is ∙ none_leaves (λ (m : Member). covers m.task) list none ∙ sym (ap (λ b. cond b (after_moment (uncovered covers list)) list) none)
+  staying_same rest is same = grind (arith, nat_tests, all_stay, none_leaves)
 
   pub staying_fewer : (rest : List Member) → rest ≡ uncovered covers list → length rest ≢ length list → after_moment rest ≡ list_staying covers list
   staying_fewer rest is fewer = staying_cases (λ l. after_moment rest ≡ l)
@@ -59,24 +43,14 @@ module _ (covers : Task → Bool) (list : List Member) where
       (λ some. ap after_moment is)
 
   pub length-staying : length (list_staying covers list) ≤ length list
-  length-staying = staying_cases (λ l. length l ≤ length list)
-      (λ none. omega arith)
-      (λ some.
-      let most : length (uncovered covers list) ≤ length list = filter-shorter (λ (m : Member). not (covers m.task)) list in
-      let long : length (after_moment (uncovered covers list)) ≡ length (uncovered covers list) = length-map (uncovered covers list) (looked_at (uncovered covers list)) in
-      omega arith)
+  length-staying = grind (arith, nat_tests, staying_cases, filter-shorter, length-map)
 
   pub settled-staying : IsSettled list → IsSettled (list_staying covers list)
   settled-staying settled = staying_cases IsSettled (λ none. settled) (λ some. settled_after (uncovered covers list))
 
 pub staying_set : (covers : Task → Bool) (s : Members) → record s { list = list_staying covers s.list } ≡ set_staying covers s
-staying_set covers s = ⊎_elim
-    (λ yes. ap (λ b. record s { list = cond b (after_moment (uncovered covers s.list)) s.list }) yes ∙ sym (ap (λ b. cond b (record s { list = after_moment (uncovered covers s.list) }) s) yes))
-    (λ no. ap (λ b. record s { list = cond b (after_moment (uncovered covers s.list)) s.list }) no ∙ sym (ap (λ b. cond b (record s { list = after_moment (uncovered covers s.list) }) s) no))
-    (cases_Bool (list_any (λ (m : Member). covers m.task) s.list))
+staying_set covers s = grind (arith, nat_tests)
 
 -- where none is covered, the set stays as it is
 pub set_stays : (covers : Task → Bool) (s : Members) → All (λ t. covers t ≡ false) (tasks_in s) → set_staying covers s ≡ s
-set_stays covers s none =
-    let nowhere : list_any (λ (m : Member). covers m.task) s.list ≡ false = sym (list_any-map covers (λ (m : Member). m.task) s.list) ∙ list_any_none covers (tasks_in s) none in
-    ap (λ b. cond b (record s { list = after_moment (uncovered covers s.list) }) s) nowhere
+set_stays covers s none = grind (arith, nat_tests, list_any-map, list_any_none covers (tasks_in s) none)

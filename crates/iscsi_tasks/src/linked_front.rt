@@ -14,6 +14,7 @@ use crate::numbers::{Numbers, ascends_with};
 use crate::task::Task;
 
 /// The covered commands leave, all of them before one moment. Their tickets are appended to `left`.
+#[tactic(auto, using(crate::proofs::StayingLemmas::staying_same, crate::proofs::StayingLemmas::staying_fewer, std::proofs::lemmas::Grind::common_steps))]
 pub(crate) fn remove_covered(
     chain: &mut Chain,
     marks: &mut Marks,
@@ -41,6 +42,7 @@ pub(crate) fn remove_covered(
 /// The commands that aren't covered stay. Those that leave do so from the oldest on. Where the numbers from which on
 /// functions may cover the commands go up along the set, it looks no further than the first one that is above the
 /// function's.
+#[tactic(auto, using(crate::proofs::MarkedLemmas::some_at, crate::proofs::PassingLemmas::place_in, std::proofs::lemmas::Grind::common_steps))]
 fn keep_uncovered(
     chain: &mut Chain,
     marks: &mut Marks,
@@ -88,6 +90,7 @@ fn is_past(task: &Task, ascends: bool, cover: &Cover) -> bool
 }
 
 /// From which number on functions may cover the commands of a set. It looks at each of them.
+#[tactic(auto, using(crate::proofs::MarkedLemmas::some_at, std::proofs::lemmas::Grind::common_steps))]
 pub(crate) fn numbers_along(chain: &Chain) -> Numbers
     ensures least { result.least ≡ covered_from_in chain.now.members }
     ensures front { result.ascends ≡ true → IsAscendingTo result.most chain.now.members }

@@ -26,6 +26,7 @@ pub(crate) fn slot_of(chain: &Chain, ticket: u64, guess: u16) -> Option<u16>
 
 /// The slot of the command with this ticket. It looks along the set.
 #[inline(never)]
+#[tactic(auto, using(crate::proofs::MarkedLemmas::some_at, std::proofs::lemmas::Grind::common_steps))]
 fn seek(chain: &Chain, ticket: u64) -> Option<u16>
     ensures { IsSlotOf chain.now.slots chain.now.members ticket result }
 {
@@ -80,6 +81,7 @@ pub(crate) fn remove(chain: &mut Chain, marks: &mut Marks, slot: u16)
 }
 
 /// The slot of the oldest ORDERED command, none of which is before slot `from`, and `ENDS` where there is none.
+#[tactic(auto, using(crate::proofs::MarkedLemmas::some_at, crate::proofs::MarkedLemmas::within_some, std::proofs::lemmas::Grind::common_steps))]
 fn next_ordered(chain: &Chain, from: u16) -> u16
     requires { IsPastNone chain.now.slots chain.now.members from }
     ensures { result ≡ slice_index_or chain.now.slots (position_or_len is_ordered_in chain.now.members) 0 }
@@ -110,6 +112,7 @@ pub(crate) fn let_go(chain: &mut Chain, marks: &mut Marks, slot: u16)
 }
 
 /// Enables the commands that became free as another one left.
+#[tactic(auto, using(crate::proofs::MarkedLemmas::span_to_end, crate::proofs::MarkedLemmas::some_at, crate::proofs::MarkedLemmas::within_some, std::proofs::lemmas::Grind::common_steps))]
 pub(crate) fn enable_free(chain: &mut Chain, marks: &mut Marks)
     requires { IsMarked marks.old chain.old.slots chain.old.members }
     ensures state { chain.new ≡ record chain.old { members = after_moment chain.old.members } }
@@ -129,6 +132,7 @@ pub(crate) fn enable_free(chain: &mut Chain, marks: &mut Marks)
 
 /// The marks once the commands from the first dormant one on up to slot `end` are enabled. They are new then, and those
 /// that are new stay so.
+#[tactic(auto, using(crate::proofs::MarkedLemmas::span_to_end, std::proofs::lemmas::Grind::common_steps))]
 fn with_enabled(chain: &Chain, marks: &Marks, end: u16) -> Marks
     requires marked { IsMarked marks.now chain.now.slots chain.now.members }
     requires there { 1 ≤ times marks.now.dormant chain.now.slots }
@@ -171,6 +175,7 @@ fn older(chain: &Chain, one: u16, other: u16) -> u16
 }
 
 /// The younger one of two commands. `ENDS` stands behind all.
+#[tactic(auto, using(crate::proofs::MarkedLemmas::some_at, crate::proofs::MarkedLemmas::within_some, std::proofs::lemmas::List::get_or_past, crate::proofs::ChainLemmas::not_end, std::proofs::lemmas::Grind::common_steps))]
 fn younger(chain: &Chain, one: u16, other: u16) -> u16
     requires order { InOrder chain.now.members }
     requires apart { AreApart chain.now.slots }
@@ -203,6 +208,7 @@ fn free_end(chain: &Chain, marks: &Marks) -> u16
 }
 
 /// Whether a command is older than the one in slot `end`.
+#[tactic(auto, using(crate::proofs::MarkedLemmas::some_at, crate::proofs::MarkedLemmas::within_some, crate::proofs::ChainLemmas::not_end, std::proofs::lemmas::Grind::common_steps))]
 fn is_before(chain: &Chain, slot: u16, end: u16) -> bool
     requires order { InOrder chain.now.members }
     requires apart { AreApart chain.now.slots }
@@ -220,6 +226,7 @@ fn is_before(chain: &Chain, slot: u16, end: u16) -> bool
 }
 
 /// Enables the commands from one slot on up to another one.
+#[tactic(auto, using(crate::proofs::PlaceLemmas::enabled_so_far, crate::proofs::CountLemmas::enabled_up_to, std::proofs::lemmas::Grind::common_steps))]
 fn enable(chain: &mut Chain, from: u16, to: u16)
     requires { IsSpan chain.old.slots from to }
     ensures { (i j : ℕ) → i ≤ j → j ≤ length chain.old.slots → from ≡ slice_index_or chain.old.slots i 0 →
@@ -241,6 +248,7 @@ fn enable(chain: &mut Chain, from: u16, to: u16)
 }
 
 /// Gives the oldest ticket that is enabled and wasn't given before.
+#[tactic(auto, using(crate::proofs::MarkedLemmas::some_at, crate::proofs::GivingLemmas::next_in_none, crate::proofs::PlaceLemmas::none_at_position, crate::proofs::GivingLemmas::given_in_none, crate::proofs::MarkedLemmas::marked_none, std::proofs::lemmas::Grind::common_steps))]
 pub(crate) fn give_next(chain: &mut Chain, marks: &mut Marks) -> Option<u64>
     requires { IsMarked marks.old chain.old.slots chain.old.members }
     ensures ticket { result ≡ next_in chain.old.members }
@@ -263,6 +271,7 @@ pub(crate) fn give_next(chain: &mut Chain, marks: &mut Marks) -> Option<u64>
 }
 
 /// The slot of the oldest command that is enabled and wasn't given.
+#[tactic(auto, using(crate::proofs::MarkedLemmas::some_at, crate::proofs::MarkedLemmas::within_some, std::proofs::lemmas::Grind::common_steps))]
 fn first_new(chain: &Chain, marks: &Marks) -> Option<u16>
     requires { IsMarked marks.now chain.now.slots chain.now.members }
     ensures { MatchOption result (position is_new chain.now.members ≡ None)

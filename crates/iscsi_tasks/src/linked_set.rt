@@ -115,6 +115,7 @@ impl LinkedTaskSet {
     ///
     /// It is sought in the slot, and where it isn't there, along the set. What grows with the set else are the search
     /// of the next ORDERED command, as the oldest one leaves, and the commands that become enabled.
+    #[tactic(auto, using(crate::proofs::LinkedSetLemmas::slot_there, std::proofs::lemmas::Grind::common_steps))]
     pub fn leave(&mut self, ticket: u64, slot: u16) -> Option<Task>
         ensures answer { result ≡ with_ticket ticket (tasks_in self.old) }
         ensures state { self.new ≡ left_by self.old (with_ticket ticket (tasks_in self.old)) }
@@ -128,6 +129,7 @@ impl LinkedTaskSet {
     /// The command with this ticket leaves if it is enabled, and the result tells whether it was. Else nothing changes.
     ///
     /// What grows with the set is what grows for `leave`.
+    #[tactic(auto, using(crate::proofs::SearchLemmas::not_enabled, crate::proofs::LinkedSetLemmas::slot_there, std::proofs::lemmas::Grind::common_steps))]
     pub fn leave_enabled(&mut self, ticket: u64, slot: u16) -> bool
         ensures answer { result ≡ is_enabled_in ticket self.old.list }
         ensures left { result ≡ true → self.new ≡ left_by self.old (with_ticket ticket (tasks_in self.old)) }

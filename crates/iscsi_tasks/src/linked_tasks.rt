@@ -219,6 +219,7 @@ impl LinkedTasks {
 
     /// All covered commands leave, and what becomes enabled does so in one moment behind them. Their tickets are
     /// appended to `left`, the oldest first.
+    #[tactic(auto, using(crate::proofs::StayingLemmas::set_stays, crate::proofs::PassingLemmas::none_left, crate::proofs::StayingLemmas::staying_set, std::proofs::lemmas::Grind::common_steps))]
     pub(crate) fn leave_covered(&mut self, cover: &Cover, left: &mut Vec<u64>)
         requires room { vec_len left.old + length self.old.shown.list ≤ vec_capacity left.old }
         ensures state { self.new.shown ≡ set_staying (is_covered cover.now) self.old.shown }

@@ -120,6 +120,7 @@ impl TaskSet {
     ///
     /// What grows with the set is that the commands on its shorter side close up, by moving two bytes for each; none
     /// where the oldest leaves.
+    #[tactic(auto, using(crate::proofs::SearchLemmas::not_found, crate::proofs::RuleLemmas::stays_free, std::proofs::lemmas::Grind::common_steps))]
     pub fn leave(&mut self, ticket: u64) -> Option<Task>
         ensures answer { result ≡ with_ticket ticket (tasks_in self.old) }
         ensures state { self.new ≡ left_by self.old (with_ticket ticket (tasks_in self.old)) }
@@ -201,6 +202,7 @@ impl TaskSet {
     ///
     /// The place `guess` is looked at first, and may be any: a caller that keeps the commands of several units in one
     /// order may give the place there, which is that of the set where all are of one unit.
+    #[tactic(auto, using(crate::proofs::SearchLemmas::enabled_nowhere, crate::proofs::SearchLemmas::not_enabled, crate::proofs::SearchLemmas::found, std::proofs::lemmas::Grind::common_steps))]
     pub fn enabled_place(&self, ticket: u64, guess: usize) -> Option<u32>
         ensures answer { result ≡ position (is_enabled_with ticket) self.now.list }
         ensures command { IfSome result (λ k. (k < length self.now.list) × ((d : Member) →
@@ -268,6 +270,7 @@ impl TaskSet {
 }
 
 /// The order has these slots from now on.
+#[tactic(auto, using(crate::proofs::MarkedLemmas::some_at, std::proofs::lemmas::Grind::common_steps))]
 fn order_anew(order: &mut Order, tasks: &LinkedTasks)
     requires sound { IsInSlots tasks.now }
     requires room { tasks.now.shown.depth ≤ order.old.room }

@@ -13,6 +13,7 @@ use crate::task::Task;
 
 impl TaskSet {
     /// The command at a place.
+    #[tactic(auto, using(crate::proofs::MarkedLemmas::some_at, std::proofs::lemmas::Grind::common_steps))]
     pub(crate) fn at(&self, place: usize) -> &Node
         requires { place < length self.now.list }
         ensures member { (d : Member) → member_of result.now ≡ slice_index_or self.now.list place d }
@@ -22,6 +23,7 @@ impl TaskSet {
     }
 
     /// The command at a place, if there is one.
+    #[tactic(auto, using(std::proofs::lemmas::Option::slice_get_past, std::proofs::lemmas::Grind::common_steps))]
     pub(crate) fn task_at(&self, place: usize) -> Option<Task>
         ensures { result ≡ slice_get (tasks_in self.now) place }
     {
@@ -62,6 +64,7 @@ impl TaskSet {
     }
 
     /// How many commands have a lower ticket, by binary search.
+    #[tactic(auto, using(iscsi_slots::proofs::HalvingLemmas::half_to, std::proofs::lemmas::Grind::common_steps))]
     fn first_from(&self, ticket: u64) -> usize
         ensures within { result ≤ length self.now.list }
         ensures below { (k : ℕ) (d : Member) → k < result → (slice_index_or self.now.list k d).task.ticket < ticket }
@@ -82,6 +85,7 @@ impl TaskSet {
     }
 
     /// The place of the oldest command that is covered. It looks along the set.
+    #[tactic(auto, using(crate::proofs::PlaceLemmas::position_none, crate::proofs::PlaceLemmas::no_place, std::proofs::lemmas::Grind::common_steps))]
     pub(crate) fn first_covered(&self, cover: &Cover) -> Option<usize>
         ensures { result ≡ position (λ m. is_covered cover.now m.task) self.now.list }
     {

@@ -1,14 +1,11 @@
-use Rattle.std.proofs.Common.{◌≡◌, ◌∙◌, ◌<◌, List, [], ◌∷◌, length, get_or, w64, rules, refl, ap, sym, arith}
+use Rattle.std.proofs.Common.{◌≡◌, ◌∙◌, ◌<◌, List, length, get_or, w64, rules, ap, sym, arith}
 use Rattle.std.proofs.lemmas.Int.{to_z-of_z}
-use Rattle.iscsi_tasks.specs.declared.member.Member.{Member}
-use Rattle.iscsi_tasks.specs.Counted.{covered_from, covered_from_first}
-use Rattle.iscsi_tasks.specs.Chains.{BLANK}
+use Rattle.iscsi_tasks.proofs.Names.{nat_tests, Member, covered_from, covered_from_first, BLANK}
 use Rattle.iscsi_tasks.proofs.linked_front.first_number.Goals as goal
 
 -- that of the oldest
 oldest : (list : List Member) → 0 < length list → covered_from (get_or list 0 BLANK).task ≡ covered_from_first list
-oldest [] some = absurd (omega (arith, some))
-oldest (x ∷ xs) some = refl
+oldest list some = grind (arith, nat_tests)
 
 pub returns : goal.returns
 returns c =

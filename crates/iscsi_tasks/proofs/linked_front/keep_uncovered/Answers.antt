@@ -1,27 +1,11 @@
-use Rattle.std.proofs.Common.{◌≡◌, ◌∙◌, ◌+◌, ◌<◌, ◌≤◌, ◌≤ℤ◌, ◌++◌, ◌∷◌, [], ℕ, suc, List, Bool, true, false, length, get_or, take, drop, All, ap, sym, arith, ⊎_elim}
+use Rattle.std.proofs.Common.{◌≡◌, ◌∙◌, ◌+◌, ◌<◌, ◌≤ℤ◌, ◌++◌, ◌∷◌, [], ℕ, suc, List, Bool, true, false, length, get_or, take, drop, All, ap, sym, arith}
 use Rattle.std.specs.List.{remove}
 use Rattle.std.proofs.lemmas.Int.{ints}
-use Rattle.std.proofs.lemmas.Bool.{cases_eq}
 use Rattle.std.proofs.lemmas.List.{get_or_default, get_or-drop, length-drop, append_assoc, append-nil}
 use Rattle.std.proofs.lemmas.List.Edits.{get_or-remove_above}
-use Rattle.iscsi_slots.specs.Slots.{times}
-use Rattle.iscsi_tasks.specs.declared.task.Task.{Task}
-use Rattle.iscsi_tasks.specs.declared.member.Member.{Member}
-use Rattle.iscsi_tasks.specs.Sets.{is_covered}
-use Rattle.iscsi_tasks.specs.Counted.{IsAscending, covered_from}
-use Rattle.iscsi_tasks.specs.Chains.{BLANK}
-use Rattle.iscsi_tasks.specs.Chains.{Chained, member_of}
-use Rattle.iscsi_tasks.specs.Marked.{covered_tickets}
-use Rattle.iscsi_tasks.proofs.PassingLemmas.{kept_yet, passed, yet_at, yet_inside, yet_without, yet_with, yet_all, tickets_more, tickets_all}
-use Rattle.iscsi_tasks.proofs.MarkedLemmas.{some_at}
+use Rattle.iscsi_tasks.proofs.Names.{common_steps, Task, Member, is_covered, IsAscending, covered_from, BLANK, Chained, member_of, covered_tickets}
+use Rattle.iscsi_tasks.proofs.PassingLemmas.{place_in, kept_yet, passed, yet_at, yet_without, yet_with, yet_all, tickets_more, tickets_all}
 use Rattle.iscsi_tasks.proofs.linked_front.keep_uncovered.Goals as goal
-
--- the place of the command that is looked at
-place_in : (covers : Member → Bool) (list members : List Member) (slots : List ℕ) (k : ℕ) → k < length list → members ≡ kept_yet covers list k → length slots ≡ length members → passed covers list k < length slots
-place_in covers list members slots k l same long = let a = yet_inside covers list k l in let b = ap length same in omega (arith, a, b, long)
-
-slot_in : (covers : Member → Bool) (list members : List Member) (slots : List ℕ) (k slot : ℕ) → k < length list → members ≡ kept_yet covers list k → length slots ≡ length members → slot ≡ get_or slots (passed covers list k) 0 → 1 ≤ times slot slots
-slot_in covers list members slots k slot l same long there = some_at slots (passed covers list k) slot (place_in covers list members slots k l same long) (sym there)
 
 -- the command there, as it was read
 read_at : (covers : Member → Bool) (list members : List Member) (k : ℕ) (m : Member) → k < length list → members ≡ kept_yet covers list k → m ≡ get_or members (passed covers list k) BLANK → m ≡ get_or list k BLANK
@@ -33,26 +17,7 @@ none_behind covers list k m l read up past j d j_in =
     let long = length-drop k list in
     let inside : k + j < length list = omega (arith, j_in, long, l) in
     let here : covered_from m.task ≡ covered_from (get_or list k d).task = ap (λ (x : Member). covered_from x.task) (read ∙ get_or_default list k BLANK d l) in
-    ap (λ (x : Member). covers x.task) (get_or-drop k list j d)
-    ∙ past (get_or list (k + j) d).task (⊎_elim
-    (λ (first : j ≡ 0). let same : covered_from (get_or list (k + j) d).task ≡ covered_from (get_or list k d).task = ap (λ n. covered_from (get_or list n d).task) (let e : k + j ≡ k = omega (arith, first) in e) in omega (arith, ints, same, here))
-    (λ more. let is : covered_from (get_or list k d).task ≤ℤ covered_from (get_or list (k + j) d).task = up k (k + j) d (omega (arith, more)) inside in omega (arith, ints, is, here))
-    (cases_eq j 0))
-
-pub at-requires : goal.at-requires
-at-requires c =
-    let inv = c.loop.invariant in
-    slot_in (λ m. is_covered c.args.cover.now m.task) c.args.chain.now.members c.loop.chain.members c.loop.chain.slots c.loop.counter c.loop.slot (let a = c.len-end.ensures.len in omega (arith, a)) inv.members inv.marked.long inv.there
-
-pub after-next-requires : goal.after-next-requires
-after-next-requires c =
-    let inv = c.loop.invariant in
-    slot_in (λ m. is_covered c.args.cover.now m.task) c.args.chain.now.members c.loop.chain.members c.loop.chain.slots c.loop.counter c.loop.slot (let a = c.len-end.ensures.len in omega (arith, a)) inv.members inv.marked.long inv.there
-
-pub remove-requires-clause-there : goal.remove-requires-clause-there
-remove-requires-clause-there c =
-    let inv = c.loop.invariant in
-    slot_in (λ m. is_covered c.args.cover.now m.task) c.args.chain.now.members c.loop.chain.members c.loop.chain.slots c.loop.counter c.loop.slot (let a = c.len-end.ensures.len in omega (arith, a)) inv.members inv.marked.long inv.there
+    grind (arith, common_steps, get_or-drop, covered_from, ints)
 
 -- from here on none is covered
 rest : (c : goal.Then-is_past) → All (λ (x : Member). is_covered c.args.cover.now x.task ≡ false) (drop c.loop.counter c.args.chain.now.members)
@@ -66,11 +31,8 @@ rest c =
     let read = read_at covers list c.loop.chain.members c.loop.counter m l inv.members (c.at.ensures (passed covers list c.loop.counter) BLANK p (sym inv.there)) in
     none_behind (is_covered c.args.cover.now) list c.loop.counter m l read (c.requires.ascending (c.is_past.ensures.ascends c.if-is_past.true)) (λ t up. c.is_past.ensures.none t c.if-is_past.true up)
 
-pub returns-then-is_past-clause-members : goal.returns-then-is_past-clause-members
-returns-then-is_past-clause-members c = c.loop.invariant.members ∙ yet_all (λ (m : Member). is_covered c.args.cover.now m.task) c.args.chain.now.members c.loop.counter (rest c)
-
-pub returns-then-is_past-clause-left : goal.returns-then-is_past-clause-left
-returns-then-is_past-clause-left c = c.loop.invariant.left ∙ ap (λ ts. c.args.left.now.items ++ ts) (tickets_all (is_covered c.args.cover.now) c.args.chain.now.members c.loop.counter (rest c))
+pub returns-then-is_past : goal.returns-then-is_past
+returns-then-is_past c = grind (arith, common_steps, yet_all, is_covered, rest, tickets_all)
 
 pub loop-preserved-then-not-covers : goal.loop-preserved-then-not-covers
 loop-preserved-then-not-covers c =
@@ -85,16 +47,9 @@ loop-preserved-then-not-covers c =
     let read = read_at covers list c.loop.chain.members k m l inv.members (c.at.ensures (passed covers list k) BLANK p (sym inv.there)) in
     let stays : covers (get_or list k BLANK) ≡ false = ap covers (sym read) ∙ sym c.covers.ensures ∙ c.if-not-covers.true in
     let more = yet_with covers list k BLANK l stays in
-    let spent = inv.spent in
-    record {
-      members = inv.members ∙ more.0 ∙ ap (kept_yet covers list) (sym next);
-      there = c.after-next.ensures (passed covers list k) p (sym inv.there) ∙ ap (λ n. get_or c.loop.chain.slots n 0) (let e = more.1 in let q : passed covers list k + 1 ≡ passed covers list (suc k) = omega (arith, e) in q ∙ ap (passed covers list) (sym next));
-      left = inv.left ∙ ap (λ ts. c.args.left.now.items ++ ts) (sym (tickets_more (is_covered c.args.cover.now) list k BLANK false l stays ∙ append-nil (covered_tickets (is_covered c.args.cover.now) (take k list))));
-      spent = omega (arith, spent);
-      marked = inv.marked;
-      room = inv.room;
-      capacity = inv.capacity;
-    }
+    let tickets = tickets_more (is_covered c.args.cover.now) list k BLANK false l stays in
+    let follows = c.after-next.ensures (passed covers list k) p (sym inv.there) in
+    grind (arith, common_steps, more.0, more.1, tickets, follows, append-nil (covered_tickets (is_covered c.args.cover.now) (take k list)))
 
 pub loop-preserved : goal.loop-preserved
 loop-preserved c =

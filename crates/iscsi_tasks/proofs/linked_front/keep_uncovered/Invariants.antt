@@ -1,6 +1,5 @@
 use Rattle.std.proofs.Common.{◌≡◌, ◌≤◌, ◌+◌, ◌++◌, get_or, take, vec_len, vec_capacity}
-use Rattle.iscsi_tasks.specs.Sets.{is_covered}
-use Rattle.iscsi_tasks.specs.Marked.{IsMarked, covered_tickets}
+use Rattle.iscsi_tasks.proofs.Names.{is_covered, IsMarked, covered_tickets}
 use Rattle.iscsi_tasks.proofs.PassingLemmas.{kept_yet, passed}
 use Rattle.iscsi_tasks.proofs.linked_front.keep_uncovered.Given as goal
 

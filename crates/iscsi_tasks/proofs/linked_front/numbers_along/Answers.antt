@@ -2,18 +2,9 @@ use Rattle.std.proofs.Common.{◌≡◌, ◌∙◌, ◌+◌, ◌<◌, ℤ, take,
 use Rattle.std.specs.Int.{int_min}
 use Rattle.std.proofs.lemmas.Int.{to_z-of_z}
 use Rattle.std.proofs.lemmas.List.Sums.{fold_more}
-use Rattle.iscsi_tasks.specs.declared.member.Member.{Member}
-use Rattle.iscsi_tasks.specs.Chains.{member_of}
-use Rattle.iscsi_tasks.specs.Counted.{covered_from, covered_from_in, greatest_number, IsAscendingTo}
+use Rattle.iscsi_tasks.proofs.Names.{Member, member_of, covered_from, covered_from_in, greatest_number, IsAscendingTo}
 use Rattle.iscsi_tasks.proofs.FrontLemmas.{ascending_more}
-use Rattle.iscsi_tasks.proofs.MarkedLemmas.{some_at}
 use Rattle.iscsi_tasks.proofs.linked_front.numbers_along.Goals as goal
-
-pub at-requires : goal.at-requires
-at-requires c = let a = c.len-k-end.ensures.slots in some_at c.args.chain.now.slots c.loop-k.k c.loop-k.slot (omega (arith, a)) (sym c.loop-k.invariant.there)
-
-pub after-slot-requires : goal.after-slot-requires
-after-slot-requires c = let a = c.len-k-end.ensures.slots in some_at c.args.chain.now.slots c.loop-k.k c.loop-k.slot (omega (arith, a)) (sym c.loop-k.invariant.there)
 
 pub loop-k-preserved : goal.loop-k-preserved
 loop-k-preserved c =

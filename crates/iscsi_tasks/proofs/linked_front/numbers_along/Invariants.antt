@@ -1,5 +1,5 @@
 use Rattle.std.proofs.Common.{◌≡◌, get_or, take, true}
-use Rattle.iscsi_tasks.specs.Counted.{covered_from_in, IsAscendingTo}
+use Rattle.iscsi_tasks.proofs.Names.{covered_from_in, IsAscendingTo}
 use Rattle.iscsi_tasks.proofs.linked_front.numbers_along.Given as goal
 
 abbrev pub invariant-loop-k : goal.invariant-loop-k

@@ -1,28 +1,11 @@
-use Rattle.std.proofs.Common.{◌≡◌, ◌≢◌, ◌∙◌, ◌+◌, ◌<◌, ◌≤◌, ℕ, List, length, get_or, set, refl, ⊎_elim, ap, sym, subst, arith}
-use Rattle.std.proofs.lemmas.Bool.{cases_eq}
+use Rattle.std.proofs.Common.{◌≡◌, ◌≢◌, ◌∙◌, ◌+◌, ◌<◌, ◌≤◌, ℕ, List, length, get_or, set, ap, sym, subst, arith}
 use Rattle.std.proofs.lemmas.List.{get_or_default}
 use Rattle.std.proofs.lemmas.List.Edits.{map_over_more}
-use Rattle.iscsi_slots.specs.Slots.{times}
-use Rattle.iscsi_tasks.specs.declared.member.Member.{Member}
-use Rattle.iscsi_tasks.specs.Chains.{BLANK}
-use Rattle.iscsi_tasks.specs.Counted.{enabled_now}
-use Rattle.iscsi_tasks.specs.Chains.{Chained, chained}
+use Rattle.iscsi_tasks.proofs.Names.{common_steps, times, Member, BLANK, enabled_now, Chained, chained}
 use Rattle.iscsi_tasks.proofs.ChainLemmas.{same_to_end}
 use Rattle.iscsi_tasks.proofs.CountLemmas.{enabled_up_to, parts-length}
-use Rattle.iscsi_tasks.proofs.PlaceLemmas.{enabled_so_far}
 use Rattle.iscsi_tasks.proofs.MarkedLemmas.{some_at}
 use Rattle.iscsi_tasks.proofs.linked_queue.enable.Goals as goal
-
-pub loop-init : goal.loop-init
-loop-init c i j order within from to =
-    let same : i + 0 ≡ i = omega arith in
-    record {
-      there = from ∙ ap (λ n. get_or c.args.chain.now.slots n 0) (sym same);
-      within = omega (arith, order);
-      slots = refl;
-      state = λ enabled. ap (λ ms. chained c.args.chain.now.slots ms c.args.chain.now.room)
-          (enabled_so_far c.args.chain.now.members i (let a = c.len-end.ensures.slots in let b = c.len-end.ensures.len in omega (arith, order, within, a, b)) enabled ∙ ap (λ n. enabled_up_to n c.args.chain.now.members) (sym same));
-    }
 
 pub returns-then-slot-to : goal.returns-then-slot-to
 returns-then-slot-to c i j order within from to enabled =
@@ -32,10 +15,7 @@ returns-then-slot-to c i j order within from to enabled =
 
 -- a slot that isn't the last one is before it
 before_end : (n slot last : ℕ) (slots : List ℕ) (low high : ℕ) → slot ≡ get_or slots (low + n) 0 → low + n ≤ high → high ≤ length slots → last ≡ get_or slots high 0 → (slot ≡ last → ⊥) → low + n < length slots
-before_end n slot last slots low high there within most last_is other = ⊎_elim
-    (λ (end : low + n ≡ high). absurd (other (there ∙ ap (λ k. get_or slots k 0) end ∙ sym last_is)))
-    (λ more. omega (arith, within, most, more))
-    (cases_eq (low + n) high)
+before_end n slot last slots low high there within most last_is other = grind (arith, common_steps)
 
 pub enable-requires : goal.enable-requires
 enable-requires c =

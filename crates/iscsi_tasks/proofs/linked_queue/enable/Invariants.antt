@@ -1,5 +1,5 @@
 use Rattle.std.proofs.Common.{◌≡◌, ◌≤◌, ◌<◌, ◌+◌, ℕ, get_or, length, true}
-use Rattle.iscsi_tasks.specs.declared.member.Member.{Member}
+use Rattle.iscsi_tasks.proofs.Names.{Member}
 use Rattle.iscsi_tasks.proofs.CountLemmas.{enabled_up_to}
 use Rattle.iscsi_tasks.proofs.linked_queue.enable.Given as goal
 

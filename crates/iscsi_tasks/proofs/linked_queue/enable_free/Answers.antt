@@ -1,18 +1,11 @@
-use Rattle.std.proofs.Common.{◌≡◌, ◌∙◌, ◌<◌, ◌≤◌, ℕ, List, length, max, min, refl, ap, sym, subst, arith, ⊎_elim}
+use Rattle.std.proofs.Common.{◌≡◌, ◌∙◌, ◌<◌, ◌≤◌, ℕ, List, length, max, min, refl, ap, sym, arith}
 use Rattle.std.specs.List.{position_or_len}
-use Rattle.std.proofs.lemmas.Bool.{cases_lt}
-use Rattle.iscsi_slots.specs.Slots.{times}
-use Rattle.iscsi_tasks.specs.declared.member.Member.{Member}
-use Rattle.iscsi_tasks.specs.declared.marks.Marks.{Marks}
-use Rattle.iscsi_tasks.specs.Sets.{after_moment}
-use Rattle.iscsi_tasks.specs.Counted.{is_ordered_in}
-use Rattle.iscsi_tasks.specs.Chains.{Chained, chained}
-use Rattle.iscsi_tasks.specs.Marked.{IsMarked}
+use Rattle.iscsi_tasks.proofs.Names.{common_steps, Member, Marks, after_moment, is_ordered_in, chained, IsMarked}
 use Rattle.iscsi_tasks.proofs.PlaceLemmas.{enabled_so_far}
 use Rattle.iscsi_tasks.proofs.MomentLemmas.{moment_with_heads, moment_without_heads}
 use Rattle.iscsi_tasks.proofs.CountLemmas.{first-le, enabled_up_to}
 use Rattle.iscsi_tasks.proofs.ChainLemmas.{not_end}
-use Rattle.iscsi_tasks.proofs.MarkedLemmas.{some_at, within_some, span_to_end}
+use Rattle.iscsi_tasks.proofs.MarkedLemmas.{within_some}
 use Rattle.iscsi_tasks.proofs.linked_queue.enable_free.Goals.{then-marks-gt0-via-then-marks-gt0, then-marks-gt0-via-else-marks-gt0+then-marks-eq-ENDS}
 use Rattle.iscsi_tasks.proofs.linked_queue.enable_free.Goals as goal
 
@@ -40,83 +33,23 @@ returns-then-marks-gt0-clause-state c =
       | then-marks-gt0-via-then-marks-gt0 w ↦ let some = w.if-marks-gt0.true in
           sym (moment_with_heads list m.counted.order (omega (arith, some, heads, counted)) m.counted.heads_enabled)
       | then-marks-gt0-via-else-marks-gt0+then-marks-eq-ENDS w ↦
-          unchanged c.args.marks.now slots list m w.if-marks-gt0.false (⊎_elim
-          (λ below. absurd (not_end m.apart m.counts.enabled_to below (sym m.dormant ∙ w.if-marks-eq-ENDS.true)))
-          (λ past. let long = m.long in omega (arith, past, long))
-          (cases_lt m.counts.enabled_to (length slots)))
+          unchanged c.args.marks.now slots list m w.if-marks-gt0.false (grind (arith, common_steps, not_end m.apart m.counts.enabled_to, m.dormant, w.if-marks-eq-ENDS.true))
     ])
-
-dormant_there : (m : Marks) (slots : List ℕ) (list : List Member) (marked : IsMarked m slots list) → (m.dormant ≡ 0 → ⊥) → 1 ≤ times m.dormant slots
-dormant_there m slots list marked some = some_at slots marked.counts.enabled_to m.dormant (dormant_in m slots list marked some) (sym marked.dormant)
-
-pub is_before-requires-clause-there : goal.is_before-requires-clause-there
-is_before-requires-clause-there c = dormant_there c.args.marks.now c.args.chain.now.slots c.args.chain.now.members c.requires c.if-marks-eq-ENDS.false
-
-pub is_before-requires-clause-end : goal.is_before-requires-clause-end
-is_before-requires-clause-end c = span_to_end c.args.chain.now.slots (max 1 (position_or_len is_ordered_in c.args.chain.now.members)) c.free_end-end.result c.free_end-end.ensures
 
 pub returns-then-not-is_before-clause-state : goal.returns-then-not-is_before-clause-state
 returns-then-not-is_before-clause-state c =
-    let slots = c.args.chain.now.slots in let list = c.args.chain.now.members in
-    let m = c.requires in
-    let some = dormant_in c.args.marks.now slots list m c.if-marks-eq-ENDS.false in
-    let le = first-le is_ordered_in list in let long = m.long in
-    let over = c.is_before.ensures.no m.counts.enabled_to (max 1 (position_or_len is_ordered_in list)) some (omega (arith, some, le, long)) m.dormant c.free_end-end.ensures c.if-not-is_before.true in
-    ap (λ ms. chained slots ms c.args.chain.now.room) (unchanged c.args.marks.now slots list m c.if-marks-gt0.false (omega (arith, over)))
+    grind (arith, common_steps, dormant_in, first-le, unchanged c.args.marks.now c.args.chain.now.slots c.args.chain.now.members c.requires)
 
 pub enable-requires : goal.enable-requires
-enable-requires c =
-    let slots = c.args.chain.now.slots in let list = c.args.chain.now.members in
-    let m = c.requires in
-    let some = dormant_in c.args.marks.now slots list m c.if-marks-eq-ENDS.false in
-    let le = first-le is_ordered_in list in let long = m.long in
-    let to : ℕ = max 1 (position_or_len is_ordered_in list) in
-    let most : to ≤ length slots = omega (arith, some, le, long) in
-    let more = c.is_before.ensures.yes m.counts.enabled_to to some most m.dormant c.free_end-end.ensures c.if-not-is_before.false in
-    record {
-      low = m.counts.enabled_to;
-      high = to;
-      ordered = omega (arith, more);
-      within = most;
-      from_is = m.dormant;
-      to_is = c.free_end-end.ensures;
-    }
+enable-requires c = grind (arith, common_steps, dormant_in, first-le)
 
 -- the chain, once they are enabled
 enabled : (c : goal.After-enable) → (c.requires.counts.enabled_to < max 1 (position_or_len is_ordered_in c.args.chain.now.members)) × (max 1 (position_or_len is_ordered_in c.args.chain.now.members) ≤ length c.args.chain.now.members)
     × (c.enable.new.chain ≡ chained c.args.chain.now.slots (enabled_up_to (max 1 (position_or_len is_ordered_in c.args.chain.now.members)) c.args.chain.now.members) c.args.chain.now.room)
-enabled c =
-    let slots = c.args.chain.now.slots in let list = c.args.chain.now.members in
-    let m = c.requires in
-    let some = dormant_in c.args.marks.now slots list m c.if-marks-eq-ENDS.false in
-    let le = first-le is_ordered_in list in let long = m.long in
-    let to : ℕ = max 1 (position_or_len is_ordered_in list) in
-    let most : to ≤ length slots = omega (arith, some, le, long) in
-    let more = c.is_before.ensures.yes m.counts.enabled_to to some most m.dormant c.free_end-end.ensures c.if-not-is_before.false in (
-      more,
-      omega (arith, most, long),
-      c.enable.ensures m.counts.enabled_to to (omega (arith, more)) most m.dormant c.free_end-end.ensures m.counted.enabled,
-    )
+enabled c = grind (arith, common_steps, dormant_in, first-le)
 
 pub returns-clause-state : goal.returns-clause-state
-returns-clause-state c =
-    let list = c.args.chain.now.members in
-    let m = c.requires in
-    let is = enabled c in
-    let none = c.if-marks-gt0.false in let heads = m.heads in let counted = m.counted.heads in
-    is.2 ∙ ap (λ ms. chained c.args.chain.now.slots ms c.args.chain.now.room)
-    (sym (moment_without_heads list (max 1 (position_or_len is_ordered_in list)) m.counted.order (omega (arith, none, heads, counted)) (let most = is.1 in omega (arith, most))))
+returns-clause-state c = grind (arith, common_steps, enabled, moment_without_heads)
 
 pub returns-clause-marked : goal.returns-clause-marked
-returns-clause-marked c =
-    let m = c.requires in
-    let long = m.long in
-    let is = enabled c in
-    subst (λ (v : Chained). IsMarked c.with_enabled-enabled.result v.slots v.members) (sym is.2)
-    (c.with_enabled-enabled.ensures.marked m.counts.enabled_to (max 1 (position_or_len is_ordered_in c.args.chain.now.members)) is.0 (let most = is.1 in omega (arith, most, long)) m.dormant c.free_end-end.ensures)
-
-pub with_enabled-enabled-requires-clause-there : goal.with_enabled-enabled-requires-clause-there
-with_enabled-enabled-requires-clause-there c = dormant_there c.args.marks.now c.args.chain.now.slots c.args.chain.now.members c.requires c.if-marks-eq-ENDS.false
-
-pub with_enabled-enabled-requires-clause-span : goal.with_enabled-enabled-requires-clause-span
-with_enabled-enabled-requires-clause-span c = span_to_end c.args.chain.now.slots (max 1 (position_or_len is_ordered_in c.args.chain.now.members)) c.free_end-end.result c.free_end-end.ensures
+returns-clause-marked c = grind (arith, common_steps, enabled)

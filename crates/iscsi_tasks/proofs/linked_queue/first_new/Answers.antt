@@ -1,29 +1,17 @@
 use Rattle.std.proofs.Common.{◌≡◌, ◌∙◌, ◌+◌, ◌<◌, ◌≤◌, ℕ, List, length, get_or, position, None, false, ap, sym, arith, ⊎_elim}
-use Rattle.std.proofs.lemmas.Bool.{cases_lt, cases_Bool}
-use Rattle.iscsi_tasks.specs.declared.member.Member.{Member}
-use Rattle.iscsi_tasks.specs.declared.marks.Marks.{Marks}
-use Rattle.iscsi_tasks.specs.Sets.{is_new}
-use Rattle.iscsi_tasks.specs.Marked.{IsMarked}
+use Rattle.std.proofs.lemmas.Bool.{cases_lt}
+use Rattle.iscsi_tasks.proofs.Names.{nat_tests, common_steps, Member, Marks, is_new, IsMarked}
 use Rattle.iscsi_tasks.proofs.PlaceLemmas.{place_is, no_place, position_of, position_none}
 use Rattle.iscsi_tasks.proofs.ChainLemmas.{not_end, same_to_end}
-use Rattle.iscsi_tasks.proofs.MarkedLemmas.{some_at, within_some}
+use Rattle.iscsi_tasks.proofs.MarkedLemmas.{within_some}
 use Rattle.iscsi_tasks.proofs.linked_queue.first_new.Goals as goal
 
 -- none is new before a place, and the place is the end of those that may be
 none_there : (m : Marks) (slots : List ℕ) (list : List Member) → IsMarked m slots list → (place slot : ℕ) → slot ≡ get_or slots place 0 → slot ≡ m.new_to
     → ((k : ℕ) (d : Member) → k < place → k < length list → is_new (get_or list k d) ≡ false) → position is_new list ≡ None
 none_there m slots list marked place slot there end none =
-    sym (position_none is_new list (no_place is_new list (λ k d l. ⊎_elim
-    (λ below. none k d below l)
-    (λ above. ⊎_elim
-    (λ new.
-    let at = marked.counted.new k d l new in
-    let most = marked.counted.new_to in let long = marked.long in
-    let same = same_to_end marked.apart place marked.counts.new_to (omega (arith, above, l, long)) (omega (arith, most, long)) (sym there ∙ end ∙ marked.new_to) in
-    absurd (omega (arith, at.1, same, above)))
-    (λ old. old)
-    (cases_Bool (is_new (get_or list k d))))
-    (cases_lt k place))))
+    let same = same_to_end marked.apart place marked.counts.new_to in
+    sym (position_none is_new list (no_place is_new list (grind (arith, nat_tests, same))))
 
 -- none is new before a place that is behind all
 none_past : (list : List Member) (place : ℕ) → length list ≤ place → ((k : ℕ) (d : Member) → k < place → k < length list → is_new (get_or list k d) ≡ false) → position is_new list ≡ None
@@ -35,16 +23,8 @@ returns-then-slot-marks c =
     let slots = c.args.chain.now.slots in let list = c.args.chain.now.members in
     ⊎_elim
     (λ end. none_there c.args.marks.now slots list c.requires inv.place c.loop.slot inv.there end inv.none)
-    (λ over. none_past list inv.place (⊎_elim
-    (λ below. absurd (not_end c.requires.apart inv.place below (sym inv.there ∙ over.1)))
-    (λ above. let long = c.requires.long in omega (arith, above, long))
-    (cases_lt inv.place (length slots))) inv.none)
+    (λ over. none_past list inv.place (grind (arith, nat_tests, not_end c.requires.apart inv.place)) inv.none)
     c.then-slot-marks.either
-
-pub at-requires : goal.at-requires
-at-requires c =
-    let inv = c.loop.invariant in
-    some_at c.args.chain.now.slots inv.place c.loop.slot (within_some c.args.chain.now.slots inv.place c.loop.slot inv.there c.if-slot-eq-ENDS.false) (sym inv.there)
 
 pub returns-then-is_new : goal.returns-then-is_new
 returns-then-is_new c =
@@ -64,11 +44,6 @@ returns-then-is_new c =
           inside);
     }
 
-pub after-slot-requires : goal.after-slot-requires
-after-slot-requires c =
-    let inv = c.loop.invariant in
-    some_at c.args.chain.now.slots inv.place c.loop.slot (within_some c.args.chain.now.slots inv.place c.loop.slot inv.there c.if-slot-eq-ENDS.false) (sym inv.there)
-
 pub loop-preserved : goal.loop-preserved
 loop-preserved c =
     let inv = c.loop.invariant in
@@ -87,7 +62,4 @@ loop-preserved c =
     }
 
 pub returns : goal.returns
-returns c =
-    let inv = c.loop.invariant in
-    let far = inv.far in let end = c.loop-test.false in let a = c.len-end.ensures.len in
-    none_past c.args.chain.now.members inv.place (omega (arith, far, end, a)) inv.none
+returns c = grind (arith, common_steps, none_past)

@@ -1,6 +1,5 @@
 use Rattle.std.proofs.Common.{◌≡◌, ◌≤◌, ◌<◌, ℕ, get_or, length, false}
-use Rattle.iscsi_tasks.specs.declared.member.Member.{Member}
-use Rattle.iscsi_tasks.specs.Sets.{is_new}
+use Rattle.iscsi_tasks.proofs.Names.{Member, is_new}
 use Rattle.iscsi_tasks.proofs.linked_queue.first_new.Given as goal
 
 -- the commands before the slot aren't new

@@ -1,40 +1,14 @@
 use Rattle.std.proofs.Common.{◌≡◌, ◌∙◌, ◌<◌, ℕ, List, Some, position, length, get_or, set, true, false, ap, sym, subst, arith}
 use Rattle.std.proofs.lemmas.List.{get_or_default}
 use Rattle.std.proofs.lemmas.List.Quantifiers.{position-Some}
-use Rattle.iscsi_tasks.specs.declared.member.Member.{Member}
-use Rattle.iscsi_tasks.specs.Sets.{is_new}
-use Rattle.iscsi_tasks.specs.Counted.{given_now}
-use Rattle.iscsi_tasks.specs.Chains.{BLANK}
-use Rattle.iscsi_tasks.specs.Chains.{Chained, chained}
-use Rattle.iscsi_tasks.specs.Marked.{IsMarked, IsFirstNew}
-use Rattle.iscsi_tasks.proofs.PlaceLemmas.{none_at_position}
-use Rattle.iscsi_tasks.proofs.GivingLemmas.{next_in_none, next_in_at, given_in_none, given_in_at}
-use Rattle.iscsi_tasks.proofs.MarkedLemmas.{some_at, marked_none, marked_given}
+use Rattle.iscsi_tasks.proofs.Names.{Member, is_new, given_now, BLANK, Chained, chained, IsMarked, IsFirstNew}
+use Rattle.iscsi_tasks.proofs.GivingLemmas.{next_in_at, given_in_at}
+use Rattle.iscsi_tasks.proofs.MarkedLemmas.{marked_given}
 use Rattle.iscsi_tasks.proofs.linked_queue.give_next.Goals as goal
-
-pub returns-in_default-clause-ticket : goal.returns-in_default-clause-ticket
-returns-in_default-clause-ticket c = sym (next_in_none c.args.chain.now.members (none_at_position is_new c.args.chain.now.members c.in_default.ensures))
-
-pub returns-in_default-clause-state : goal.returns-in_default-clause-state
-returns-in_default-clause-state c =
-    let none = none_at_position is_new c.args.chain.now.members c.in_default.ensures in
-    ap (λ ms. chained c.args.chain.now.slots ms c.args.chain.now.room) (sym (given_in_none c.args.chain.now.members (next_in_none c.args.chain.now.members none)))
-
-pub returns-in_default-clause-marked : goal.returns-in_default-clause-marked
-returns-in_default-clause-marked c = marked_none c.requires (none_at_position is_new c.args.chain.now.members c.in_default.ensures)
 
 -- where the first new one stands
 slot_in : {slots : List ℕ} {list : List Member} {slot : ℕ} → length slots ≡ length list → (is : IsFirstNew slots list slot) → is.place < length slots
 slot_in long is = let l = is.inside in omega (arith, l, long)
-
-pub after-marks-requires : goal.after-marks-requires
-after-marks-requires c = let is = c.in-Some.ensures in some_at c.args.chain.now.slots is.place c.in-Some.slot (slot_in c.requires.long is) is.there
-
-pub give-requires : goal.give-requires
-give-requires c = let is = c.in-Some.ensures in some_at c.args.chain.now.slots is.place c.in-Some.slot (slot_in c.requires.long is) is.there
-
-pub at-requires : goal.at-requires
-at-requires c = let is = c.in-Some.ensures in some_at c.args.chain.now.slots is.place c.in-Some.slot (slot_in c.requires.long is) is.there
 
 -- what is written
 written : (c : goal.After-give) → c.give.new.self ≡ chained c.args.chain.now.slots (set c.args.chain.now.members c.in-Some.ensures.place (given_now (get_or c.args.chain.now.members c.in-Some.ensures.place BLANK))) c.args.chain.now.room

@@ -1,21 +1,8 @@
-use Rattle.std.proofs.Common.{◌≡◌, ◌∙◌, ◌<◌, length, get_or, ap, sym, arith, ⊎_elim}
-use Rattle.std.proofs.lemmas.Bool.{cases_eq, cases_lt, ltb-true, ltb-false}
-use Rattle.iscsi_tasks.specs.declared.member.Member.{Member}
-use Rattle.iscsi_tasks.specs.Chains.{BLANK}
-use Rattle.iscsi_tasks.proofs.ChainLemmas.{not_end}
-use Rattle.iscsi_tasks.proofs.MarkedLemmas.{some_at, within_some}
+use Rattle.std.proofs.Common.{◌≡◌, get_or, ap, sym, arith}
+use Rattle.std.proofs.lemmas.Bool.{ltb-true, ltb-false}
+use Rattle.iscsi_tasks.proofs.Names.{common_steps, Member, BLANK}
+use Rattle.iscsi_tasks.proofs.MarkedLemmas.{within_some}
 use Rattle.iscsi_tasks.proofs.linked_queue.is_before.Goals as goal
-
-pub at-requires-else-end-eq-ENDS : goal.at-requires-else-end-eq-ENDS
-at-requires-else-end-eq-ENDS c =
-    let s = c.requires.end in
-    some_at c.args.chain.now.slots s.low c.args.end (within_some c.args.chain.now.slots s.low c.args.end s.from_is c.if-end-eq-ENDS.false) (sym s.from_is)
-
-pub returns-then-end-eq-ENDS-clause-yes : goal.returns-then-end-eq-ENDS-clause-yes
-returns-then-end-eq-ENDS-clause-yes c j k j_in k_in slot end is = ⊎_elim
-    (λ below. absurd (not_end c.requires.apart k below (sym end ∙ c.if-end-eq-ENDS.true)))
-    (λ past. omega (arith, past, j_in))
-    (cases_lt k (length c.args.chain.now.slots))
 
 -- the tickets that were read, and where they stand
 pub returns-else-end-eq-ENDS-clause-yes : goal.returns-else-end-eq-ENDS-clause-yes
@@ -26,13 +13,7 @@ returns-else-end-eq-ENDS-clause-yes c j k j_in k_in slot end is =
     let first : c.at.result.now.task.ticket ≡ (get_or list j BLANK).task.ticket = ap (λ (m : Member). m.task.ticket) (c.at.ensures j BLANK j_in (sym slot)) in
     let second : c.at-else-end-eq-ENDS.result.now.task.ticket ≡ (get_or list k BLANK).task.ticket = ap (λ (m : Member). m.task.ticket) (c.at-else-end-eq-ENDS.ensures k BLANK k_there (sym end)) in
     let lower = ltb-true c.at.result.now.task.ticket c.at-else-end-eq-ENDS.result.now.task.ticket is in
-    ⊎_elim
-    (λ below. below)
-    (λ above. ⊎_elim
-    (λ (same : k ≡ j). absurd (let e = ap (λ n. (get_or list n BLANK).task.ticket) same in omega (arith, lower, first, second, e)))
-    (λ other. absurd (let up : (get_or list k BLANK).task.ticket < (get_or list j BLANK).task.ticket = c.requires.order k j BLANK (omega (arith, above, other)) (omega (arith, j_in, long)) in omega (arith, lower, first, second, up)))
-    (cases_eq k j))
-    (cases_lt j k)
+    grind (arith, common_steps, c.requires.order k j BLANK)
 
 pub returns-else-end-eq-ENDS-clause-no : goal.returns-else-end-eq-ENDS-clause-no
 returns-else-end-eq-ENDS-clause-no c j k j_in k_in slot end is =
@@ -42,7 +23,4 @@ returns-else-end-eq-ENDS-clause-no c j k j_in k_in slot end is =
     let first : c.at.result.now.task.ticket ≡ (get_or list j BLANK).task.ticket = ap (λ (m : Member). m.task.ticket) (c.at.ensures j BLANK j_in (sym slot)) in
     let second : c.at-else-end-eq-ENDS.result.now.task.ticket ≡ (get_or list k BLANK).task.ticket = ap (λ (m : Member). m.task.ticket) (c.at-else-end-eq-ENDS.ensures k BLANK k_there (sym end)) in
     let higher = ltb-false c.at.result.now.task.ticket c.at-else-end-eq-ENDS.result.now.task.ticket is in
-    ⊎_elim
-    (λ below. absurd (let up : (get_or list j BLANK).task.ticket < (get_or list k BLANK).task.ticket = c.requires.order j k BLANK below (omega (arith, k_there, long)) in omega (arith, higher, first, second, up)))
-    (λ above. above)
-    (cases_lt j k)
+    grind (arith, common_steps, BLANK)

@@ -1,6 +1,6 @@
 use Rattle.std.proofs.Common.{◌∙◌, ap}
 use Rattle.iscsi_slots.proofs.SlotLemmas.{stands}
-use Rattle.iscsi_tasks.specs.Chains.{Chained}
+use Rattle.iscsi_tasks.proofs.Names.{Chained}
 use Rattle.iscsi_tasks.proofs.linked_queue.let_go.Goals as goal
 
 pub returns-clause-room : goal.returns-clause-room

@@ -1,29 +1,19 @@
-use Rattle.std.proofs.Common.{◌≡◌, ◌∙◌, ◌+◌, ◌<◌, ◌≤◌, ℕ, List, length, get_or, false, ap, sym, arith, ⊎_elim}
+use Rattle.std.proofs.Common.{◌≡◌, ◌∙◌, ◌+◌, ◌<◌, ◌≤◌, ℕ, List, length, get_or, false, ap, sym, arith}
 use Rattle.std.specs.List.{position_or_len}
-use Rattle.std.proofs.lemmas.Bool.{cases_lt}
 use Rattle.std.proofs.lemmas.List.{get_or_past}
-use Rattle.iscsi_tasks.specs.declared.member.Member.{Member}
-use Rattle.iscsi_tasks.specs.Counted.{is_ordered_in}
-use Rattle.iscsi_tasks.specs.Marked.{IsPastNone}
+use Rattle.iscsi_tasks.proofs.Names.{common_steps, Member, is_ordered_in, IsPastNone}
 use Rattle.iscsi_tasks.proofs.PlaceLemmas.{place_is, no_place}
 use Rattle.iscsi_tasks.proofs.ChainLemmas.{not_end}
-use Rattle.iscsi_tasks.proofs.MarkedLemmas.{some_at, within_some}
+use Rattle.iscsi_tasks.proofs.MarkedLemmas.{within_some}
 use Rattle.iscsi_tasks.proofs.linked_queue.next_ordered.Goals.{then-slot-eq-ENDS-via-then-slot-eq-ENDS, then-slot-eq-ENDS-via-else-slot-eq-ENDS+then-is_ordered}
 use Rattle.iscsi_tasks.proofs.linked_queue.next_ordered.Goals as goal
 
 -- where none is ORDERED up to the end
 none_to_end : (slots : List ℕ) (list : List Member) (slot : ℕ) (past : IsPastNone slots list slot) → length slots ≡ length list → length list ≤ past.place → 0 ≡ get_or slots (position_or_len is_ordered_in list) 0
-none_to_end slots list slot past long far =
-    let end = no_place is_ordered_in list (λ j d l. past.none j d (omega (arith, l, far))) in
-    sym (get_or_past slots (position_or_len is_ordered_in list) 0 (omega (arith, end, long)))
+none_to_end slots list slot past long far = grind (arith, common_steps, no_place, get_or_past)
 
 inside : (slots : List ℕ) (list : List Member) (slot : ℕ) (past : IsPastNone slots list slot) → (slot ≡ 0 → ⊥) → past.place < length slots
 inside slots list slot past some = within_some slots past.place slot past.there some
-
-pub at-requires : goal.at-requires
-at-requires c =
-    let past = c.loop.invariant.past in
-    some_at c.args.chain.now.slots past.place c.loop.slot (inside c.args.chain.now.slots c.args.chain.now.members c.loop.slot past c.if-slot-eq-ENDS.false) (sym past.there)
 
 pub returns-then-slot-eq-ENDS : goal.returns-then-slot-eq-ENDS
 returns-then-slot-eq-ENDS c =
@@ -32,11 +22,7 @@ returns-then-slot-eq-ENDS c =
     let long : length slots ≡ length list = let a = c.len-end.ensures.len in let b = c.len-end.ensures.slots in omega (arith, a, b) in
     elim c.then-slot-eq-ENDS.branch [
       | then-slot-eq-ENDS-via-then-slot-eq-ENDS w ↦
-          let far : length list ≤ past.place = ⊎_elim
-          (λ below. absurd (not_end c.len-end.ensures.apart past.place below (sym past.there ∙ w.if-slot-eq-ENDS.true)))
-          (λ above. omega (arith, above, long))
-          (cases_lt past.place (length slots)) in
-          w.if-slot-eq-ENDS.true ∙ none_to_end slots list c.loop.slot past long far
+          w.if-slot-eq-ENDS.true ∙ none_to_end slots list c.loop.slot past long (grind (arith, common_steps, not_end c.len-end.ensures.apart past.place, past.there, w.if-slot-eq-ENDS.true))
       | then-slot-eq-ENDS-via-else-slot-eq-ENDS+then-is_ordered w ↦
           let l = inside slots list c.loop.slot past w.if-slot-eq-ENDS.false in
           let d : Member = record { task = w.at.result.now.task; enabled = false; given = false } in
@@ -44,11 +30,6 @@ returns-then-slot-eq-ENDS c =
           (sym (ap is_ordered_in (w.at.ensures past.place d l (sym past.there))) ∙ sym w.is_ordered.ensures ∙ w.if-is_ordered.true) in
           past.there ∙ ap (λ n. get_or slots n 0) (sym here)
     ]
-
-pub after-slot-requires : goal.after-slot-requires
-after-slot-requires c =
-    let past = c.loop.invariant.past in
-    some_at c.args.chain.now.slots past.place c.loop.slot (inside c.args.chain.now.slots c.args.chain.now.members c.loop.slot past c.if-slot-eq-ENDS.false) (sym past.there)
 
 pub loop-preserved : goal.loop-preserved
 loop-preserved c =
@@ -62,11 +43,7 @@ loop-preserved c =
         place = past.place + 1;
         within = omega (arith, l, a, b);
         there = c.after-slot.ensures past.place l (sym past.there);
-        none = λ k d below. ⊎_elim
-            (λ before. past.none k d before)
-            (λ above. let here : k ≡ past.place = omega (arith, below, above) in
-            ap (λ n. is_ordered_in (get_or list n d)) here ∙ sym (ap is_ordered_in (c.at.ensures past.place d l (sym past.there))) ∙ sym c.is_ordered.ensures ∙ c.if-is_ordered.false)
-            (cases_lt k past.place);
+        none = grind (arith, common_steps, past.none, c.at.ensures past.place, c.is_ordered.ensures);
       };
       far = omega (arith, far);
     }

@@ -1,26 +1,15 @@
-use Rattle.std.proofs.Common.{◌≡◌, ◌∙◌, ℕ, ◌<◌, ◌≤◌, List, length, get_or, min, ap, sym, subst, arith, ⊎_elim}
+use Rattle.std.proofs.Common.{◌≡◌, ◌∙◌, ℕ, ◌<◌, ◌≤◌, List, length, get_or, min, ap, sym, arith, ⊎_elim}
 use Rattle.std.proofs.lemmas.Bool.{cases_lt}
 use Rattle.std.proofs.lemmas.List.{get_or_past}
-use Rattle.iscsi_slots.specs.Slots.{times}
-use Rattle.iscsi_tasks.specs.Chains.{AreApart}
+use Rattle.iscsi_tasks.proofs.Names.{common_steps, times, AreApart}
 use Rattle.iscsi_tasks.proofs.linked_queue.older.Goals as goal
 
 -- a slot that is there stands at a place
 there_at : (slots : List ℕ) (j slot : ℕ) → AreApart slots → 1 ≤ times slot slots → slot ≡ get_or slots j 0 → j < length slots
-there_at slots j slot apart there is = ⊎_elim
-    (λ below. below)
-    (λ past. absurd (let some = subst (λ s. 1 ≤ times s slots) (is ∙ get_or_past slots j 0 past) there in let none = apart.some in omega (arith, some, none)))
-    (cases_lt j (length slots))
+there_at slots j slot apart there is = grind (arith, common_steps, get_or_past)
 
 pub returns-then-is_before : goal.returns-then-is_before
-returns-then-is_before c j k one other =
-    let slots = c.args.chain.now.slots in
-    let j_in = there_at slots j c.args.one c.requires.apart c.requires.there one in
-    ⊎_elim
-    (λ k_in. let up = c.is_before.ensures.yes j k j_in (omega (arith, k_in)) one other c.if-is_before.true in
-    one ∙ ap (λ n. get_or slots n 0) (let e : j ≡ min j k = omega (arith, up) in e))
-    (λ past. one ∙ ap (λ n. get_or slots n 0) (let e : j ≡ min j k = omega (arith, past, j_in) in e))
-    (cases_lt k (length slots))
+returns-then-is_before c j k one other = grind (arith, common_steps, there_at)
 
 pub returns-else-is_before : goal.returns-else-is_before
 returns-else-is_before c j k one other =

@@ -1,8 +1,5 @@
 use Rattle.std.proofs.Common.{ap, sym, subst}
-use Rattle.iscsi_tasks.specs.declared.member.Member.{Member}
-use Rattle.iscsi_tasks.specs.declared.marks.Marks.{Marks}
-use Rattle.iscsi_tasks.specs.Chains.{AreApart, Chained}
-use Rattle.iscsi_tasks.specs.Marked.{IsMarked, pushed_by}
+use Rattle.iscsi_tasks.proofs.Names.{Member, Marks, AreApart, Chained, IsMarked, pushed_by}
 use Rattle.iscsi_tasks.proofs.MarkedLemmas.{marked_push}
 use Rattle.iscsi_tasks.proofs.linked_queue.push.Goals as goal
 

@@ -1,21 +1,15 @@
-use Rattle.std.proofs.Common.{◌∙◌, get_or, ap, sym, subst}
+use Rattle.std.proofs.Common.{◌∙◌, get_or, ap, sym, subst, arith}
 use Rattle.std.specs.List.{position_or_len}
+use Rattle.iscsi_tasks.proofs.Names.{common_steps, Member, Marks, is_ordered_in, BLANK, Chained, IsMarked, IsPastNone, moved_off}
 use Rattle.iscsi_slots.proofs.SlotLemmas.{stands}
-use Rattle.iscsi_tasks.specs.declared.member.Member.{Member}
-use Rattle.iscsi_tasks.specs.declared.marks.Marks.{Marks}
-use Rattle.iscsi_tasks.specs.Counted.{is_ordered_in}
-use Rattle.iscsi_tasks.specs.Chains.{BLANK}
-use Rattle.iscsi_tasks.specs.Chains.{Chained}
-use Rattle.iscsi_tasks.specs.Marked.{IsMarked, IsPastNone, left_by, moved_off}
+use Rattle.iscsi_tasks.specs.Marked.{left_by}
 use Rattle.iscsi_tasks.proofs.MarkedLemmas.{past_none, one_head, marked_left}
 use Rattle.iscsi_tasks.proofs.linked_queue.remove.Goals as goal
 
 pub next_ordered-ordered-requires : goal.next_ordered-ordered-requires
 next_ordered-ordered-requires c =
     let at = stands c.args.slot c.args.chain.now.slots c.requires.there in
-    subst (λ n. IsPastNone c.remove.new.self.slots c.remove.new.self.members n) (sym c.moved_off.ensures)
-    (subst (λ (v : Chained). IsPastNone v.slots v.members (moved_off c.args.marks.now.ordered c.args.slot c.after-next.result)) (sym (c.remove.ensures at.place at.inside at.there))
-    (past_none c.requires.marked at.place at.inside c.args.slot c.after-next.result at.there (c.after-next.ensures at.place at.inside at.there)))
+    grind (arith, common_steps, IsPastNone, moved_off, past_none)
 
 pub without-requires : goal.without-requires
 without-requires c =

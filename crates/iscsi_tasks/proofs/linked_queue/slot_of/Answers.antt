@@ -1,15 +1,11 @@
-use Rattle.std.proofs.Common.{◌∙◌, ap, sym, arith}
+use Rattle.std.proofs.Common.{arith}
+use Rattle.iscsi_tasks.proofs.Names.{common_steps}
 use Rattle.iscsi_slots.proofs.SlotLemmas.{stands}
-use Rattle.iscsi_tasks.specs.declared.member.Member.{Member}
 use Rattle.iscsi_tasks.proofs.linked_queue.slot_of.Goals as goal
 
 pub returns-then-at-ticket : goal.returns-then-at-ticket
 returns-then-at-ticket c =
     let at = stands c.args.guess c.args.chain.now.slots (c.holds.ensures.yes c.if-holds.true) in
-    let l = at.inside in let long = c.holds.ensures.long in
-    record {
-      place = at.place;
-      inside = omega (arith, l, long);
-      there = at.there;
-      ticket_is = λ d. ap (λ (m : Member). m.task.ticket) (sym (c.at.ensures at.place d at.inside at.there)) ∙ c.if-at-ticket.true;
-    }
+    let l = at.inside in
+    let long = c.holds.ensures.long in
+    grind (arith, common_steps)

@@ -1,9 +1,8 @@
 use Rattle.std.proofs.Common.{◌≡◌, ◌∙◌, sym, subst, arith}
-use Rattle.iscsi_tasks.specs.declared.marks.Marks.{Marks}
-use Rattle.iscsi_tasks.specs.Marked.{IsMarked}
+use Rattle.iscsi_tasks.proofs.Names.{Marks, IsMarked}
 use Rattle.iscsi_tasks.proofs.ChainLemmas.{same_to_end}
 use Rattle.iscsi_tasks.proofs.CountLemmas.{enabled_up_to}
-use Rattle.iscsi_tasks.proofs.MarkedLemmas.{span_to_end, marked_enabled_first, marked_enabled_more}
+use Rattle.iscsi_tasks.proofs.MarkedLemmas.{marked_enabled_first, marked_enabled_more}
 use Rattle.iscsi_tasks.proofs.linked_queue.with_enabled.Goals as goal
 
 pub returns-then-is_none_new-clause-marked : goal.returns-then-is_none_new-clause-marked
@@ -25,9 +24,3 @@ returns-clause-marked c i k more within dormant end =
     (marked_enabled_more m (sym c.is_none_new.ensures ∙ c.if-is_none_new.false) k c.args.end c.older-new_from.result c.younger-new_to.result (omega (arith, at, more)) (omega (arith, within, long)) end
     (c.older-new_from.ensures m.counts.enabled_to m.counts.new_from m.dormant m.new_from)
     (c.younger-new_to.ensures m.counts.new_to k m.new_to end))
-
-pub older-new_from-requires-clause-other : goal.older-new_from-requires-clause-other
-older-new_from-requires-clause-other c = span_to_end c.args.chain.now.slots c.requires.marked.counts.new_from c.args.marks.now.new_from c.requires.marked.new_from
-
-pub younger-new_to-requires-clause-one : goal.younger-new_to-requires-clause-one
-younger-new_to-requires-clause-one c = span_to_end c.args.chain.now.slots c.requires.marked.counts.new_to c.args.marks.now.new_to c.requires.marked.new_to

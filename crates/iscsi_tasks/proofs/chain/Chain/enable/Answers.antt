@@ -1,8 +1,5 @@
 use Rattle.std.proofs.Common.{◌≤◌, true, refl, sym, subst}
-use Rattle.iscsi_slots.specs.Slots.{times}
-use Rattle.iscsi_tasks.specs.declared.node.Node.{Node}
-use Rattle.iscsi_tasks.specs.Chains.{Chained, order_in}
-use Rattle.iscsi_tasks.specs.Counted.{enabled_now}
+use Rattle.iscsi_tasks.proofs.Names.{times, Node, Chained, order_in, enabled_now}
 use Rattle.iscsi_tasks.proofs.ChainedLemmas.{chained_now, view_now}
 use Rattle.iscsi_tasks.proofs.chain.Chain.enable.Goals as goal
 

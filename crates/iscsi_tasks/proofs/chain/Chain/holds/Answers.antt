@@ -1,8 +1,6 @@
 use Rattle.std.proofs.Common.{◌≡◌, ◌∙◌, ◌≤◌, not, ap, sym, subst, ne_eqb, arith}
 use Rattle.std.proofs.lemmas.List.{get_or_default}
-use Rattle.iscsi_slots.specs.Slots.{times}
-use Rattle.iscsi_tasks.specs.declared.node.Node.{Node}
-use Rattle.iscsi_tasks.specs.Chains.{Chained, BLANK_NODE, before_of, order_in}
+use Rattle.iscsi_tasks.proofs.Names.{times, Node, Chained, BLANK_NODE, before_of, order_in}
 use Rattle.iscsi_tasks.proofs.ChainedLemmas.{slot_marked}
 use Rattle.iscsi_tasks.proofs.chain.Chain.holds.Goals as goal
 

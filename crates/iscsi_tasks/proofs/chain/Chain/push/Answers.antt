@@ -1,8 +1,6 @@
 use Rattle.std.proofs.Common.{◌≡◌, ◌∙◌, ◌<◌, ◌+◌, ◌++◌, ◌∷◌, [], ℕ, List, length, map, get_or, ap, sym, subst, arith}
 use Rattle.std.proofs.lemmas.List.{get_or_default}
-use Rattle.iscsi_tasks.specs.declared.member.Member.{Member}
-use Rattle.iscsi_tasks.specs.declared.node.Node.{Node}
-use Rattle.iscsi_tasks.specs.Chains.{Chained, chained, BLANK_NODE, before_of, member_at, order_in, linked_to, IsChained}
+use Rattle.iscsi_tasks.proofs.Names.{common_steps, Member, Node, Chained, chained, BLANK_NODE, before_of, member_at, order_in, IsChained}
 use Rattle.iscsi_tasks.proofs.ChainedLemmas.{few, long, free_inside, slot_fresh, last_fresh, entered_in, chained_with, members_with, order_with, apart}
 use Rattle.iscsi_tasks.proofs.ChainLemmas.{length_linked}
 use Rattle.iscsi_tasks.proofs.chain.Chain.push.Goals as goal
@@ -14,20 +12,12 @@ last_is {nodes} is i n at read = let some = few is in ap (λ (x : Node). x.befor
 few_yet : {nodes : List Node} {capacity free len room : ℕ} → IsChained nodes capacity free len room → (v : Chained) → chained (order_in nodes len) (map (member_at nodes) (order_in nodes len)) room ≡ v → length v.slots < v.room → len < room
 few_yet is v view l = let a = long is in let b = ap (λ (w : Chained). length w.slots) view in let r = ap (λ (w : Chained). w.room) view in omega (arith, a, b, r, l)
 
-pub take-slot-requires-clause-free : goal.take-slot-requires-clause-free
-take-slot-requires-clause-free c = free_inside c.self.invariant
+pub take-slot-requires : goal.take-slot-requires
+take-slot-requires c = grind (arith, common_steps, free_inside c.self.invariant, few c.self.invariant)
 
-pub take-slot-requires-clause-most : goal.take-slot-requires-clause-most
-take-slot-requires-clause-most c = few c.self.invariant
-
-pub link-requires-clause-first : goal.link-requires-clause-first
-link-requires-clause-first c =
-    let l = last_is c.self.invariant c.from.result c.index.result.now c.from.ensures c.index.ensures in
-    let a = last_fresh c.self.invariant (few_yet c.self.invariant c.args.self.now c.self.view_is c.requires) c.take-slot.ensures.taken in
-    omega (arith, l, a)
-
-pub link-requires-clause-second : goal.link-requires-clause-second
-link-requires-clause-second c = slot_fresh c.self.invariant (few_yet c.self.invariant c.args.self.now c.self.view_is c.requires) c.take-slot.ensures.taken
+pub link-requires : goal.link-requires
+link-requires c =
+    grind (arith, common_steps, last_is c.self.invariant c.from.result c.index.result.now c.from.ensures c.index.ensures, last_fresh c.self.invariant (few_yet c.self.invariant c.args.self.now c.self.view_is c.requires) c.take-slot.ensures.taken, few_yet c.self.invariant c.args.self.now c.self.view_is c.requires, slot_fresh c.self.invariant (few_yet c.self.invariant c.args.self.now c.self.view_is c.requires) c.take-slot.ensures.taken)
 
 pub link-requires-2-clause-first : goal.link-requires-2-clause-first
 link-requires-2-clause-first c =
@@ -37,8 +27,7 @@ link-requires-2-clause-first c =
 
 -- the nodes, once the member entered
 nodes_are : (c : goal.After-self-1) → c.link-2.new.nodes.items ≡ entered_in c.self.inside.nodes.items c.take-slot.new.nodes.items c.take-slot.result
-nodes_are c =
-    c.link-2.ensures.nodes ∙ ap (λ ns. linked_to ns c.take-slot.result 0) (c.link.ensures.nodes ∙ ap (λ l. linked_to c.take-slot.new.nodes.items l c.take-slot.result) (last_is c.self.invariant c.from.result c.index.result.now c.from.ensures c.index.ensures))
+nodes_are c = grind (arith, common_steps, last_is)
 
 pub invariant_of-self : goal.invariant_of-self
 invariant_of-self c =

@@ -1,10 +1,9 @@
 use Rattle.std.proofs.Common.{◌≡◌, ◌∙◌, ◌<◌, ◌≤◌, ◌-◌, ℕ, List, length, map, get_or, set, ap, sym, subst, arith}
 use Rattle.std.specs.List.{remove}
 use Rattle.std.proofs.lemmas.List.{get_or_default}
-use Rattle.iscsi_slots.specs.Slots.{times}
+use Rattle.iscsi_tasks.proofs.Names.{common_steps, times, Node, Chained, chained, BLANK_NODE, node_at, after_of, before_of, member_at, order_in, linked_to}
+use Rattle.iscsi_tasks.proofs.Names.{freed_before, IsChained}
 use Rattle.iscsi_slots.proofs.SlotLemmas.{StandsAt, stands}
-use Rattle.iscsi_tasks.specs.declared.node.Node.{Node}
-use Rattle.iscsi_tasks.specs.Chains.{Chained, chained, BLANK_NODE, node_at, after_of, before_of, member_at, order_in, linked_to, freed_before, IsChained}
 use Rattle.iscsi_tasks.proofs.ChainLemmas.{inside_order}
 use Rattle.iscsi_tasks.proofs.ChainedLemmas.{before_in, after_in, order_without, chained_without, members_without}
 use Rattle.iscsi_tasks.proofs.chain.Chain.remove.Goals as goal
@@ -26,19 +25,11 @@ read_is {nodes} {len = len} is v view slot i some at n read =
 read : (c : goal.After-link-arg-1) → Read c.self.inside.nodes.items c.self.inside.len c.args.slot c.index.result.now
 read c = read_is c.self.invariant c.args.self.now c.self.view_is c.args.slot c.from.result c.requires c.from.ensures c.index.result.now c.index.ensures
 
-pub link-requires-clause-first : goal.link-requires-clause-first
-link-requires-clause-first c =
+pub link-requires : goal.link-requires
+link-requires c =
     let r = read c in
-    let a = before_in c.self.invariant r.at.place r.at.inside in
-    let b = ap (λ (n : Node). n.before) r.node ∙ ap (before_of c.self.inside.nodes.items) (sym r.at.there) in
-    omega (arith, a, b)
-
-pub link-requires-clause-second : goal.link-requires-clause-second
-link-requires-clause-second c =
-    let r = read c in
-    let a = after_in c.self.invariant r.at.place r.at.inside in
-    let b = ap (λ (n : Node). n.after) r.node ∙ ap (after_of c.self.inside.nodes.items) (sym r.at.there) in
-    omega (arith, a, b)
+    let a = before_in c.self.invariant r.at.place r.at.inside in let b = after_in c.self.invariant r.at.place r.at.inside in
+    grind (arith, common_steps, r.node, r.at.there, a, b)
 
 -- the nodes without the slot
 abbrev without : List Node → ℕ → ℕ → List Node
@@ -48,17 +39,12 @@ left : (c : goal.After-self-2-1) → Read c.self.inside.nodes.items c.self.insid
 left c = read_is c.self.invariant c.args.self.now c.self.view_is c.args.slot c.from.result c.requires c.from.ensures c.index.result.now c.index.ensures
 
 nodes_are : (c : goal.After-self-2-1) → c.give_back.new.nodes.items ≡ without c.self.inside.nodes.items c.self.inside.free c.args.slot
-nodes_are c =
-    c.give_back.ensures.nodes
-    ∙ ap (λ ns. set ns c.args.slot (freed_before c.self.inside.free (node_at ns c.args.slot))) (c.link.ensures.nodes ∙ ap (λ (n : Node). linked_to c.self.inside.nodes.items n.before n.after) (left c).node)
+nodes_are c = grind (arith, common_steps, left)
 
 pub invariant_of-self : goal.invariant_of-self
 invariant_of-self c =
-    let i = c.self.inside in
     let r = left c in
-    subst (λ ns. IsChained ns c.give_back.new.nodes.cap c.args.slot (i.len - 1) i.room) (sym (nodes_are c))
-    (subst (λ n. IsChained (without i.nodes.items i.free c.args.slot) n c.args.slot (i.len - 1) i.room) (sym (c.give_back.ensures.capacity ∙ c.link.ensures.capacity))
-    (subst (λ s. IsChained (without i.nodes.items i.free s) i.nodes.cap s (i.len - 1) i.room) r.at.there (chained_without c.self.invariant r.at.place r.at.inside)))
+    grind (arith, common_steps, nodes_are c, r.at.there, chained_without c.self.invariant r.at.place r.at.inside)
 
 view_without : {nodes : List Node} {capacity free len room : ℕ} → IsChained nodes capacity free len room → (v : Chained) → chained (order_in nodes len) (map (member_at nodes) (order_in nodes len)) room ≡ v → (p slot : ℕ) → p < length (order_in nodes len) → get_or (order_in nodes len) p 0 ≡ slot
     → chained (order_in (without nodes free slot) (len - 1)) (map (member_at (without nodes free slot)) (order_in (without nodes free slot) (len - 1))) room ≡ chained (remove v.slots p) (remove v.members p) v.room

@@ -1,8 +1,5 @@
-use Rattle.std.proofs.Common.{◌≡◌, ◌<◌, ◌∙◌, ◌∷◌, ◌&&◌, length, ap, sym, subst}
-use Rattle.iscsi_tasks.specs.Sets.{Members, IsNewest, entered_to, given_by, next_in}
-use Rattle.iscsi_tasks.specs.Changes.{Entered, StandsFor}
-use Rattle.iscsi_tasks.specs.Counted.{taken_in}
-use Rattle.iscsi_tasks.specs.Linked.{Linked}
+use Rattle.std.proofs.Common.{◌≡◌, ◌∙◌, ◌∷◌, ◌&&◌, ap, sym, subst, arith}
+use Rattle.iscsi_tasks.proofs.Names.{common_steps, Members, IsNewest, entered_to, given_by, next_in, Entered, StandsFor, taken_in, Linked}
 use Rattle.iscsi_tasks.proofs.AloneLemmas.{alone_state, alone_next, alone_stands}
 use Rattle.iscsi_tasks.proofs.HistoryLemmas.{StandsFor-entered}
 use Rattle.iscsi_tasks.proofs.linked_set.LinkedTaskSet.enter_and_give.Goals as goal
@@ -21,19 +18,13 @@ returns-then-not-is_alone-clause-stands c = λ h st below.
 
 -- else no other one is new
 state : (c : goal.After-ticket_if-ticket) → c.take_in.new.self.shown ≡ given_by (entered_to c.self.inside.tasks.shown c.args.task)
-state c =
-    let was = c.self.inside.tasks.shown in
-    let e = c.in_ok-taken.taken.enabled in
-    let ok = c.in_ok-taken.ensures.ok in
-    ap (λ (l : Linked). l.shown) ok.1 ∙ ap (λ b. taken_in was c.args.task e (b && e)) c.if-not-is_alone.false
-    ∙ sym (alone_state was c.args.task (c.is_none_new-is_alone.ensures c.if-not-is_alone.false) e ok.2)
+state c = grind (arith, common_steps, alone_state)
 
 next : (c : goal.After-ticket_if-ticket) → c.ticket_if-ticket.result ≡ next_in (entered_to c.self.inside.tasks.shown c.args.task).list
 next c = c.ticket_if-ticket.ensures ∙ sym (alone_next c.self.inside.tasks.shown c.args.task (c.is_none_new-is_alone.ensures c.if-not-is_alone.false) c.in_ok-taken.taken.enabled c.in_ok-taken.ensures.ok.2)
 
 pub returns-clause-ok : goal.returns-clause-ok
-returns-clause-ok c =
-    subst (λ (s : Members). (length s.list < s.depth) × (c.take_in.new.self.shown ≡ given_by (entered_to s c.args.task))) c.self.view_is (c.in_ok-taken.ensures.ok.0, state c)
+returns-clause-ok c = grind (arith, common_steps, state)
 
 pub returns-clause-given : goal.returns-clause-given
 returns-clause-given c = subst (λ (s : Members). c.ticket_if-ticket.result ≡ next_in (entered_to s c.args.task).list) c.self.view_is (next c)

@@ -1,28 +1,15 @@
-use Rattle.std.proofs.Common.{◌≡◌, ◌∙◌, None, Some, ap, sym, subst}
-use Rattle.iscsi_tasks.specs.Sets.{Members, left_by, tasks_in, with_ticket}
-use Rattle.iscsi_tasks.specs.Changes.{StandsFor, after_leaving}
-use Rattle.iscsi_tasks.specs.Chains.{BLANK}
-use Rattle.iscsi_tasks.specs.Linked.{Linked}
+use Rattle.std.proofs.Common.{◌≡◌, ◌∙◌, None, Some, ap, sym, arith}
+use Rattle.iscsi_tasks.proofs.Names.{common_steps, Members, left_by, tasks_in, with_ticket, BLANK, Linked}
 use Rattle.iscsi_tasks.proofs.SearchLemmas.{not_found}
-use Rattle.iscsi_tasks.proofs.LinkedSetLemmas.{place_in, slot_there, task_found}
+use Rattle.iscsi_tasks.proofs.LinkedSetLemmas.{place_in, task_found}
 use Rattle.iscsi_tasks.proofs.linked_set.LinkedTaskSet.leave.Goals as goal
 
 -- no command has the ticket
 absent : (c : goal.After-from_residual) → with_ticket c.args.ticket (tasks_in c.args.self.now) ≡ None
 absent c = ap (λ (s : Members). with_ticket c.args.ticket (tasks_in s)) (sym c.self.view_is) ∙ not_found c.self.inside.tasks.shown.list c.args.ticket c.in_err-slot.ensures
 
-pub returns-in_err-slot-clause-answer : goal.returns-in_err-slot-clause-answer
-returns-in_err-slot-clause-answer c = c.from_residual.ensures ∙ sym (absent c)
-
-pub returns-in_err-slot-clause-state : goal.returns-in_err-slot-clause-state
-returns-in_err-slot-clause-state c = sym (ap (left_by c.args.self.now) (absent c))
-
-pub returns-in_err-slot-clause-stands : goal.returns-in_err-slot-clause-stands
-returns-in_err-slot-clause-stands c = λ h st.
-    (returns-in_err-slot-clause-answer c ∙ ap (with_ticket c.args.ticket) st.tasks, subst (λ o. StandsFor c.args.self.now (after_leaving o h)) (sym c.from_residual.ensures) st)
-
-pub let_go-requires : goal.let_go-requires
-let_go-requires c = slot_there c.self.invariant c.args.ticket c.in_ok-slot.slot c.in_ok-slot.ensures
+pub returns-in_err-slot : goal.returns-in_err-slot
+returns-in_err-slot c = grind (arith, common_steps, absent, left_by)
 
 pub returns-clause-answer : goal.returns-clause-answer
 returns-clause-answer c =
@@ -36,7 +23,4 @@ returns-clause-state c =
     ∙ ap (λ (s : Members). left_by s (Some c.let_go.result)) c.self.view_is ∙ ap (left_by c.args.self.now) (returns-clause-answer c)
 
 pub returns-clause-stands : goal.returns-clause-stands
-returns-clause-stands c = λ h st. (
-  returns-clause-answer c ∙ ap (with_ticket c.args.ticket) st.tasks,
-  c.let_go.ensures.stands h (subst (λ (s : Members). StandsFor s h) (sym c.self.view_is) st),
-)
+returns-clause-stands c = grind (arith, common_steps, returns-clause-answer)

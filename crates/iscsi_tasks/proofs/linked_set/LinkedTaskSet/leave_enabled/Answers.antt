@@ -1,12 +1,8 @@
-use Rattle.std.proofs.Common.{◌≡◌, ◌∙◌, Option, Some, false, true, ap, sym, subst}
-use Rattle.iscsi_tasks.specs.declared.task.Task.{Task}
-use Rattle.iscsi_tasks.specs.Sets.{Members, left_by, tasks_in, with_ticket, is_enabled_in}
-use Rattle.iscsi_tasks.specs.Changes.{StandsFor, after_leaving}
-use Rattle.iscsi_tasks.specs.Chains.{BLANK, member_of}
-use Rattle.iscsi_tasks.specs.Linked.{Linked}
+use Rattle.std.proofs.Common.{◌≡◌, ◌∙◌, Some, false, true, ap, sym, arith}
+use Rattle.iscsi_tasks.proofs.Names.{common_steps, Members, left_by, tasks_in, with_ticket, is_enabled_in, BLANK, member_of, Linked}
 use Rattle.iscsi_tasks.proofs.EnabledLemmas.{enabled_is}
 use Rattle.iscsi_tasks.proofs.SearchLemmas.{not_enabled}
-use Rattle.iscsi_tasks.proofs.LinkedSetLemmas.{place_in, slot_there, task_found, enabled_found}
+use Rattle.iscsi_tasks.proofs.LinkedSetLemmas.{place_in, task_found, enabled_found}
 use Rattle.iscsi_tasks.proofs.linked_set.LinkedTaskSet.leave_enabled.Goals as goal
 
 pub returns-in_default-clause-answer : goal.returns-in_default-clause-answer
@@ -15,9 +11,6 @@ returns-in_default-clause-answer c = sym (not_enabled c.self.inside.tasks.shown.
 pub returns-in_default-clause-since : goal.returns-in_default-clause-since
 returns-in_default-clause-since c = enabled_is c.args.self.now c.args.ticket false (returns-in_default-clause-answer c)
 
-pub at-requires : goal.at-requires
-at-requires c = slot_there c.self.invariant c.args.ticket c.in-Some.slot c.in-Some.ensures
-
 pub returns-then-not-at-clause-answer : goal.returns-then-not-at-clause-answer
 returns-then-not-at-clause-answer c =
     sym c.if-not-at.true ∙ enabled_found c.self.invariant c.args.ticket c.in-Some.slot c.in-Some.ensures (member_of c.at.result.now) c.at.ensures
@@ -25,9 +18,6 @@ returns-then-not-at-clause-answer c =
 
 pub returns-then-not-at-clause-since : goal.returns-then-not-at-clause-since
 returns-then-not-at-clause-since c = enabled_is c.args.self.now c.args.ticket false (returns-then-not-at-clause-answer c)
-
-pub let_go-requires : goal.let_go-requires
-let_go-requires c = slot_there c.self.invariant c.args.ticket c.in-Some.slot c.in-Some.ensures
 
 pub returns-clause-answer : goal.returns-clause-answer
 returns-clause-answer c =
@@ -50,6 +40,4 @@ pub returns-clause-since : goal.returns-clause-since
 returns-clause-since c = enabled_is c.args.self.now c.args.ticket true (returns-clause-answer c)
 
 pub returns-clause-stands : goal.returns-clause-stands
-returns-clause-stands c h st =
-    subst (λ (o : Option Task). StandsFor c.let_go.new.self.shown (after_leaving o h)) (sym (ap (with_ticket c.args.ticket) (sym st.tasks) ∙ found c))
-    (c.let_go.ensures.stands h (subst (λ (s : Members). StandsFor s h) (sym c.self.view_is) st))
+returns-clause-stands c h st = grind (arith, common_steps, found)

@@ -1,6 +1,5 @@
 use Rattle.std.proofs.Common.{◌≡◌, ◌∙◌, All, false, sym, subst}
-use Rattle.iscsi_tasks.specs.Sets.{is_new}
-use Rattle.iscsi_tasks.specs.Linked.{Linked}
+use Rattle.iscsi_tasks.proofs.Names.{is_new, Linked}
 use Rattle.iscsi_tasks.proofs.MarkedLemmas.{none_marked}
 use Rattle.iscsi_tasks.proofs.linked_tasks.LinkedTasks.is_none_new.Goals as goal
 

@@ -1,11 +1,5 @@
-use Rattle.std.proofs.Common.{◌∙◌, ◌++◌, List, length, map, ap, sym, subst, arith}
-use Rattle.std.proofs.lemmas.List.{append-nil}
-use Rattle.iscsi_tasks.proofs.PassingLemmas.{none_left}
-use Rattle.iscsi_tasks.specs.declared.task.Task.{Task}
-use Rattle.iscsi_tasks.specs.declared.member.Member.{Member}
-use Rattle.iscsi_tasks.specs.Sets.{Members, tasks_in, InOrder, is_covered, set_staying}
-use Rattle.iscsi_tasks.specs.Linked.{Linked, IsInSlots}
-use Rattle.iscsi_tasks.specs.Counted.{IsSettled, IsCoveredFrom, IsAscendingTo}
+use Rattle.std.proofs.Common.{List, length, map, ap, sym, subst, arith}
+use Rattle.iscsi_tasks.proofs.Names.{common_steps, Member, InOrder, is_covered, Linked, IsSettled, IsCoveredFrom, IsAscendingTo}
 use Rattle.iscsi_tasks.proofs.AllLeftLemmas.{StandsFor-staying}
 use Rattle.iscsi_tasks.proofs.CoveredFromLemmas.{covered_from_staying}
 use Rattle.iscsi_tasks.proofs.FrontLemmas.{ascending_staying}
@@ -15,11 +9,6 @@ use Rattle.iscsi_tasks.proofs.linked_tasks.LinkedTasks.leave_covered.Goals as go
 
 pub returns-then-not-may_cover-clause-state : goal.returns-then-not-may_cover-clause-state
 returns-then-not-may_cover-clause-state c = sym (set_stays (is_covered c.args.cover.now) c.args.self.now.shown (c.may_cover.ensures c.if-not-may_cover.true))
-
-pub returns-then-not-may_cover-clause-left : goal.returns-then-not-may_cover-clause-left
-returns-then-not-may_cover-clause-left c =
-    let none = none_left (is_covered c.args.cover.now) (tasks_in c.args.self.now.shown) (c.may_cover.ensures c.if-not-may_cover.true) in
-    sym (ap (λ ts. c.args.left.now.items ++ map (λ (t : Task). t.ticket) ts) none ∙ append-nil c.args.left.now.items)
 
 pub returns-then-not-may_cover-clause-stands : goal.returns-then-not-may_cover-clause-stands
 returns-then-not-may_cover-clause-stands c = λ h st. StandsFor-staying c.args.self.now.shown (is_covered c.args.cover.now) h (subst (λ (l : Linked). InOrder l.shown.list) c.self.view_is c.self.invariant.marked.counted.order) st _ (returns-then-not-may_cover-clause-state c)
@@ -36,25 +25,10 @@ invariant_of-self c =
     (λ up. subst (IsAscendingTo i.ascends_to) (sym items) (ascending_staying i.ascends_to covers i.chain.members up))
 
 pub returns-clause-state : goal.returns-clause-state
-returns-clause-state c =
-    let i = c.self.inside in
-    let v : Members = record { depth = i.depth; looked = i.looked; list = i.chain.members } in
-    ap (λ (l : Linked). l.shown) c.renumber.ensures ∙ ap (λ (l : List Member). let s : Members = record { depth = i.depth; looked = i.looked; list = l } in s) c.remove_covered.ensures.members
-    ∙ staying_set (is_covered c.args.cover.now) v ∙ ap (set_staying (is_covered c.args.cover.now)) (ap (λ (v : Linked). v.shown) c.self.view_is)
+returns-clause-state c = grind (arith, common_steps, staying_set)
 
 pub returns-clause-sound : goal.returns-clause-sound
-returns-clause-sound c =
-    let was = c.self.invariant in
-    let within = was.within in
-    let fewer = length-staying (is_covered c.args.cover.now) c.self.inside.chain.members in
-    let long = ap length c.remove_covered.ensures.members in
-    subst IsInSlots (sym c.renumber.ensures) (record {
-      order = c.remove_covered.ensures.marked.counted.order;
-      long = c.remove_covered.ensures.marked.long;
-      within = omega (arith, within, fewer, long);
-      least = was.least;
-      most = was.few;
-    })
+returns-clause-sound c = grind (arith, common_steps, length-staying)
 
 pub returns-clause-stands : goal.returns-clause-stands
 returns-clause-stands c = λ h st. StandsFor-staying c.args.self.now.shown (is_covered c.args.cover.now) h (subst (λ (l : Linked). InOrder l.shown.list) c.self.view_is c.self.invariant.marked.counted.order) st _ (returns-clause-state c)

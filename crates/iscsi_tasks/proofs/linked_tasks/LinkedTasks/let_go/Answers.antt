@@ -1,13 +1,7 @@
 use Rattle.std.proofs.Common.{◌≡◌, ◌∷◌, ◌∙◌, ◌<◌, ◌≤◌, ℕ, List, Some, length, get_or, ap, sym, subst}
 use Rattle.std.specs.List.{remove}
-use Rattle.iscsi_slots.specs.Slots.{times}
+use Rattle.iscsi_tasks.proofs.Names.{times, Task, Member, Members, left_by, after_moment, without, Left, StandsFor, BLANK, member_of, Linked, linked}
 use Rattle.iscsi_slots.proofs.SlotLemmas.{StandsAt, stands}
-use Rattle.iscsi_tasks.specs.declared.task.Task.{Task}
-use Rattle.iscsi_tasks.specs.declared.member.Member.{Member}
-use Rattle.iscsi_tasks.specs.Sets.{Members, left_by, after_moment, without}
-use Rattle.iscsi_tasks.specs.Changes.{Left, StandsFor}
-use Rattle.iscsi_tasks.specs.Chains.{BLANK, member_of}
-use Rattle.iscsi_tasks.specs.Linked.{Linked, linked}
 use Rattle.iscsi_tasks.proofs.HistoryLemmas.{StandsFor-left}
 use Rattle.iscsi_tasks.proofs.LinkedSetLemmas.{in_slots, kept_left, left_is}
 use Rattle.iscsi_tasks.proofs.linked_tasks.LinkedTasks.let_go.Goals as goal

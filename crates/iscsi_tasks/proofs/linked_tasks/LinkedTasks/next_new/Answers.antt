@@ -1,11 +1,6 @@
 use Rattle.std.proofs.Common.{◌≡◌, ◌∙◌, Option, List, ℕ, length, map, ap, sym, subst, arith}
 use Rattle.std.proofs.lemmas.List.{length-map}
-use Rattle.iscsi_tasks.specs.declared.member.Member.{Member}
-use Rattle.iscsi_tasks.specs.Sets.{Members, given_by, given_in}
-use Rattle.iscsi_tasks.specs.Counted.{IsSettled, IsCoveredFrom, IsAscendingTo}
-use Rattle.iscsi_tasks.specs.Chains.{Chained}
-use Rattle.iscsi_tasks.specs.Linked.{Linked}
-use Rattle.iscsi_tasks.specs.Changes.{StandsFor, after_giving}
+use Rattle.iscsi_tasks.proofs.Names.{Member, Members, given_by, given_in, IsSettled, IsCoveredFrom, IsAscendingTo, Chained, Linked, StandsFor, after_giving}
 use Rattle.iscsi_tasks.proofs.FrontLemmas.{ascending_given}
 use Rattle.iscsi_tasks.proofs.GivingLemmas.{tasks-given, settled-given, StandsFor-giving}
 use Rattle.iscsi_tasks.proofs.LinkedSetLemmas.{in_slots, kept_on}

@@ -1,8 +1,6 @@
 use Rattle.std.proofs.Common.{◌≡◌, [], rules, arith, true, sym, subst}
 use Rattle.std.specs.Prelude.{pos}
-use Rattle.iscsi_tasks.specs.declared.marks.Marks.{Marks}
-use Rattle.iscsi_tasks.specs.Chains.{Chained, chained}
-use Rattle.iscsi_tasks.specs.Marked.{IsKeptLinked}
+use Rattle.iscsi_tasks.proofs.Names.{Marks, Chained, chained, IsKeptLinked}
 use Rattle.iscsi_tasks.proofs.LinkedSetLemmas.{kept_none_yet}
 use Rattle.iscsi_tasks.proofs.linked_tasks.LinkedTasks.open.Goals as goal
 

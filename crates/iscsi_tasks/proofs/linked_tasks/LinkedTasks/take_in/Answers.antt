@@ -1,12 +1,8 @@
-use Rattle.std.proofs.Common.{◌≡◌, ◌<◌, ◌+◌, ◌∷◌, ◌++◌, [], ◌∙◌, ◌&&◌, Bool, true, false, ℤ, List, w64, to_z, of_z, length, map, rules, ap, sym, subst, arith}
+use Rattle.std.proofs.Common.{◌≡◌, ◌<◌, ◌+◌, ◌∷◌, ◌++◌, [], ◌∙◌, ◌&&◌, true, false, ℤ, List, w64, to_z, of_z, length, map, rules, ap, sym, subst, arith}
 use Rattle.std.proofs.lemmas.List.{length_push, length-map, map-append}
 use Rattle.std.proofs.lemmas.Int.{to_z-of_z}
-use Rattle.iscsi_tasks.specs.declared.task.Task.{Task}
-use Rattle.iscsi_tasks.specs.declared.member.Member.{Member}
-use Rattle.iscsi_tasks.specs.Sets.{Members, IsNewest, entered_to, after_moment}
-use Rattle.iscsi_tasks.specs.Counted.{IsSettled, IsCoveredFrom, is_free_behind, taken_in, covered_from, covered_from_with, ascends_with, IsAscendingTo}
-use Rattle.iscsi_tasks.specs.Linked.{Linked, linked}
-use Rattle.iscsi_tasks.specs.Marked.{is_free_by}
+use Rattle.iscsi_tasks.proofs.Names.{common_steps, Task, Member, Members, IsNewest, after_moment, IsSettled, IsCoveredFrom, is_free_behind, covered_from}
+use Rattle.iscsi_tasks.proofs.Names.{covered_from_with, ascends_with, IsAscendingTo, Linked, is_free_by}
 use Rattle.iscsi_tasks.proofs.LinkedSetLemmas.{free_is, in_slots}
 use Rattle.iscsi_tasks.proofs.EnterLemmas.{moment_entered, settled_entered}
 use Rattle.iscsi_tasks.proofs.FrontLemmas.{ascending_push}
@@ -49,9 +45,7 @@ covered_on c =
     ∙ ap (λ n. covered_from_with n c.len-len.result c.args.task) same ∙ ap (λ n. covered_from_with i.covered_from n c.args.task) len in
     let more : map (λ m. m.task) c.push-slot.new.chain.members ≡ tasks ++ c.args.task ∷ [] =
     ap (map (λ m. m.task)) c.push-slot.ensures.members ∙ map-append (λ m. m.task) i.chain.members (record { task = c.args.task; enabled = c.test_free-enabled.result; given = c.if-gives.given } ∷ []) in
-    subst (λ (ts : List Task). IsCoveredFrom (to_z w64 (of_z w64 c.covered_from_with-self-inside.result)) ts) (sym more)
-    (subst (λ (n : ℤ). IsCoveredFrom n (tasks ++ c.args.task ∷ [])) (sym number)
-    (covered_from_push i.covered_from tasks c.args.task c.self.invariant.covered_from))
+    grind (arith, common_steps, IsCoveredFrom, covered_from_push)
 
 -- they go up still, where it says so
 front_on : (c : goal.After-push-slot) → c.ascends_with-self-inside.result ≡ true → IsAscendingTo (to_z w64 (of_z w64 c.covered_from-self-inside.result)) c.push-slot.new.chain.members
@@ -81,18 +75,7 @@ invariant_of-self-2 c = record {
 }
 
 pub returns-clause-ok : goal.returns-clause-ok
-returns-clause-ok c =
-    let i = c.self.inside in
-    let v : Members = record { depth = i.depth; looked = i.looked; list = i.chain.members } in
-    let e : Bool = c.test_free-enabled.result in
-    let now : (l : List Member) → Members = λ l. record { depth = i.depth; looked = 1; list = l } in
-    let after_push : Members → Linked = λ s. linked s c.push-slot.new.chain.slots in
-    subst (λ (l : Linked). (length l.shown.list < l.shown.depth) × (after_push (record { depth = i.depth; looked = c.test_free-enabled.new.looked; list = c.push-slot.new.chain.members }) ≡ linked (taken_in l.shown c.args.task e (c.args.gives && e)) (l.slots ++ c.push-slot.result ∷ [])) × (entered_to l.shown c.args.task ≡ taken_in l.shown c.args.task e false)) c.self.view_is (
-      (room c).0,
-      ap after_push (ap (λ n. record { depth = i.depth; looked = n; list = c.push-slot.new.chain.members }) c.test_free-enabled.ensures.looked ∙ ap now c.push-slot.ensures.members ∙ ap (taken_in v c.args.task e) (given_is c))
-          ∙ ap (linked (taken_in v c.args.task e (c.args.gives && e))) c.push-slot.ensures.slots,
-      ap now (after c),
-    )
+returns-clause-ok c = grind (arith, common_steps, room, given_is, after)
 
 pub returns-clause-sound : goal.returns-clause-sound
 returns-clause-sound c = in_slots (invariant_of-self-2 c)

@@ -1,20 +1,8 @@
-use Rattle.std.proofs.Common.{◌≡◌, ◌∙◌, ◌<◌, length, get_or, IfSome, arith, ap, sym, subst, Some, false, true, Option, ℕ, IsSome}
-use Rattle.iscsi_tasks.specs.declared.member.Member.{Member}
-use Rattle.iscsi_tasks.specs.Sets.{tasks_in, with_ticket}
-use Rattle.iscsi_tasks.specs.Changes.{IsEnabled}
-use Rattle.iscsi_tasks.specs.Chains.{member_of}
-use Rattle.iscsi_tasks.proofs.SearchLemmas.{found, enabled_read, not_enabled, enabled_nowhere, enabled_here}
+use Rattle.std.proofs.Common.{◌∙◌, ap, sym, subst, false, true, Option, ℕ, IsSome}
+use Rattle.iscsi_tasks.proofs.Names.{Member, IsEnabled, member_of}
+use Rattle.iscsi_tasks.proofs.SearchLemmas.{enabled_read, not_enabled, enabled_nowhere, enabled_here}
 use Rattle.iscsi_tasks.proofs.EnabledLemmas.{enabled_is}
 use Rattle.iscsi_tasks.proofs.set.TaskSet.enabled_place.Goals as goal
-
--- no command has the ticket
-pub returns-in_err-at-clause-answer : goal.returns-in_err-at-clause-answer
-returns-in_err-at-clause-answer c =
-    c.from_residual.ensures ∙ enabled_nowhere c.args.self.now.list c.args.ticket (not_enabled c.args.self.now.list c.args.ticket c.in_err-at.ensures.place)
-
-pub returns-in_err-at-clause-command : goal.returns-in_err-at-clause-command
-returns-in_err-at-clause-command c =
-    subst (λ (r : Option ℕ). IfSome r (λ k. (k < length c.args.self.now.list) × ((d : Member) → with_ticket c.args.ticket (tasks_in c.args.self.now) ≡ Some (get_or c.args.self.now.list k d).task))) (sym c.from_residual.ensures) tt
 
 pub returns-in_err-at-clause-since : goal.returns-in_err-at-clause-since
 returns-in_err-at-clause-since c = λ h st.
@@ -31,17 +19,11 @@ returns-then-not-at-clause-since c =
     let place = c.in_ok-at.ensures.place in
     enabled_is c.args.self.now c.args.ticket false (sym c.if-not-at.true ∙ enabled_read c.args.self.now.list c.in_ok-at.ensures.order c.args.ticket c.in_ok-at.at place.0 place.1 (member_of c.at.result.now) c.at.ensures.member)
 
-pub overflow_cast-result : goal.overflow_cast-result
-overflow_cast-result c = let place = c.in_ok-at.ensures.place in let few = c.at.ensures.few in let within = place.0 in omega (arith, few, within)
-
 pub returns-clause-answer : goal.returns-clause-answer
 returns-clause-answer c =
     let place = c.in_ok-at.ensures.place in
     let m : Member = member_of c.at.result.now in
     enabled_here c.args.self.now.list c.in_ok-at.ensures.order c.args.ticket c.in_ok-at.at place.0 place.1 m (ap (λ (x : Member). x.enabled) (sym (c.at.ensures.member m)) ∙ c.if-not-at.false)
-
-pub returns-clause-command : goal.returns-clause-command
-returns-clause-command c = let place = c.in_ok-at.ensures.place in (place.0, λ d. found c.args.self.now.list c.in_ok-at.ensures.order c.args.ticket c.in_ok-at.at place.0 place.1 d)
 
 pub returns-clause-since : goal.returns-clause-since
 returns-clause-since c =

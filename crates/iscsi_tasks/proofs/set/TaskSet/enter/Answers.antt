@@ -1,7 +1,5 @@
 use Rattle.std.proofs.Common.{◌∙◌, ◌∷◌, ap, sym, subst}
-use Rattle.iscsi_tasks.specs.Sets.{Members}
-use Rattle.iscsi_tasks.specs.Changes.{Entered, StandsFor}
-use Rattle.iscsi_tasks.specs.Linked.{Linked}
+use Rattle.iscsi_tasks.proofs.Names.{Members, Entered, StandsFor, Linked}
 use Rattle.iscsi_tasks.proofs.HistoryLemmas.{StandsFor-entered}
 use Rattle.iscsi_tasks.proofs.set.TaskSet.enter.Goals as goal
 

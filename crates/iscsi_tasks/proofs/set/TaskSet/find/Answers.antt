@@ -1,7 +1,5 @@
 use Rattle.std.proofs.Common.{◌==◌, ◌<◌, ◌∙◌, ℕ, Some, option_map, length, ap, sym, arith, eq-eqb}
-use Rattle.iscsi_tasks.specs.declared.member.Member.{Member}
-use Rattle.iscsi_tasks.specs.Sets.{with_tag}
-use Rattle.iscsi_tasks.specs.Chains.{member_of}
+use Rattle.iscsi_tasks.proofs.Names.{common_steps, Member, with_tag, member_of}
 use Rattle.iscsi_tasks.proofs.ListLemmas.{find-map}
 use Rattle.iscsi_tasks.proofs.PlaceLemmas.{place_is}
 use Rattle.iscsi_tasks.proofs.SearchLemmas.{find_place, find_nowhere}
@@ -21,11 +19,5 @@ returns-then-task-itt-clause-answer c =
 pub returns-then-task-itt-clause-stands : goal.returns-then-task-itt-clause-stands
 returns-then-task-itt-clause-stands c = λ h st. returns-then-task-itt-clause-answer c ∙ ap (with_tag c.args.itt) st.tasks
 
-pub returns-clause-answer : goal.returns-clause-answer
-returns-clause-answer c =
-    let list = c.args.self.now.list in
-    sym (find-map (λ t. t.itt == c.args.itt) (λ (x : Member). x.task) list
-    ∙ ap (option_map (λ (x : Member). x.task)) (find_nowhere (λ (x : Member). x.task.itt == c.args.itt) list (λ j d l. c.loop-place.invariant j d (omega arith))))
-
-pub returns-clause-stands : goal.returns-clause-stands
-returns-clause-stands c = λ h st. returns-clause-answer c ∙ ap (with_tag c.args.itt) st.tasks
+pub returns : goal.returns
+returns c = grind (arith, common_steps, common_steps, find-map, find_nowhere, with_tag)

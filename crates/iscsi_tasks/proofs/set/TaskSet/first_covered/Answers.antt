@@ -1,8 +1,6 @@
 use Rattle.std.proofs.Common.{◌∙◌, ap, sym, arith}
-use Rattle.iscsi_tasks.specs.declared.member.Member.{Member}
-use Rattle.iscsi_tasks.specs.Sets.{is_covered}
-use Rattle.iscsi_tasks.specs.Chains.{member_of}
-use Rattle.iscsi_tasks.proofs.PlaceLemmas.{place_is, no_place, position_of, position_none}
+use Rattle.iscsi_tasks.proofs.Names.{Member, is_covered, member_of}
+use Rattle.iscsi_tasks.proofs.PlaceLemmas.{place_is, position_of}
 use Rattle.iscsi_tasks.proofs.set.TaskSet.first_covered.Goals as goal
 
 pub returns-then-covers : goal.returns-then-covers
@@ -13,8 +11,3 @@ returns-then-covers c =
     (place_is covered c.args.self.now.list c.loop-place.place m (omega arith) (λ j l. c.loop-place.invariant j m l)
     (ap covered (sym (c.at.ensures.member m)) ∙ sym c.covers.ensures ∙ c.if-covers.true))
     (omega arith)
-
-pub returns : goal.returns
-returns c =
-    let covered = λ (m : Member). is_covered c.args.cover.now m.task in
-    position_none covered c.args.self.now.list (no_place covered c.args.self.now.list (λ j d l. c.loop-place.invariant j d (omega arith)))

@@ -1,6 +1,5 @@
 use Rattle.std.proofs.Common.{◌≡◌, ℕ, ◌<◌, get_or, false}
-use Rattle.iscsi_tasks.specs.declared.member.Member.{Member}
-use Rattle.iscsi_tasks.specs.Sets.{is_covered}
+use Rattle.iscsi_tasks.proofs.Names.{Member, is_covered}
 use Rattle.iscsi_tasks.proofs.set.TaskSet.first_covered.Given as goal
 
 abbrev pub invariant-loop-place : goal.invariant-loop-place

@@ -1,21 +1,7 @@
 use Rattle.std.proofs.Common.{◌+◌, ◌-◌, ◌/◌, ap, arith}
 use Rattle.iscsi_slots.proofs.HalvingLemmas.{halved_up, halved_down, half_from, half_to}
-use Rattle.iscsi_tasks.specs.declared.member.Member.{Member}
+use Rattle.iscsi_tasks.proofs.Names.{Member}
 use Rattle.iscsi_tasks.proofs.set.TaskSet.first_from.Goals as goal
-
-pub loop-low-init : goal.loop-low-init
-loop-low-init c = record {
-  ordered = omega arith;
-  inside = omega arith;
-  below = λ k d l. absurd (omega (arith, l));
-  above = λ k d l within. absurd (omega (arith, l, within));
-}
-
-pub at-requires : goal.at-requires
-at-requires c =
-    let l = c.loop-low.invariant.inside in
-    let to = half_to c.loop-low.low c.loop-low.high c.loop-low-test.true in
-    omega (arith, l, to)
 
 pub loop-low-preserved-then-at-ticket : goal.loop-low-preserved-then-at-ticket
 loop-low-preserved-then-at-ticket c =
@@ -32,12 +18,3 @@ loop-low-preserved c =
     let to = half_to c.loop-low.low c.loop-low.high c.loop-low-test.true in
     halved_down (λ (x : Member). x.task.ticket) c.args.self.now.list c.args.ticket c.len-high.ensures.order c.loop-low.invariant m from to
     (λ d. let is = ap (λ (x : Member). x.task.ticket) (c.at.ensures.member d) in let upper = c.if-at-ticket.false in omega (arith, is, upper))
-
-pub returns-clause-within : goal.returns-clause-within
-returns-clause-within c = let l = c.loop-low.invariant.inside in let o = c.loop-low.invariant.ordered in omega (arith, l, o)
-
-pub returns-clause-below : goal.returns-clause-below
-returns-clause-below c = c.loop-low.invariant.below
-
-pub returns-clause-above : goal.returns-clause-above
-returns-clause-above c = λ k d l within. let over = c.loop-low-test.false in c.loop-low.invariant.above k d (omega (arith, l, over)) within

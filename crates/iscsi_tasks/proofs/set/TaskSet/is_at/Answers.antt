@@ -1,7 +1,6 @@
 use Rattle.std.proofs.Common.{◌∙◌, ap, sym, arith, eq-eqb}
 use Rattle.std.proofs.lemmas.Bool.{eqb-true}
-use Rattle.iscsi_tasks.specs.declared.member.Member.{Member}
-use Rattle.iscsi_tasks.specs.Chains.{member_of}
+use Rattle.iscsi_tasks.proofs.Names.{Member, member_of}
 use Rattle.iscsi_tasks.proofs.set.TaskSet.is_at.Goals as goal
 
 pub returns-then-at-len-clause-there : goal.returns-then-at-len-clause-there

@@ -1,5 +1,5 @@
 use Rattle.std.proofs.Common.{sym, false}
-use Rattle.iscsi_tasks.specs.Chains.{member_of}
+use Rattle.iscsi_tasks.proofs.Names.{member_of}
 use Rattle.iscsi_tasks.proofs.SearchLemmas.{enabled_read, not_enabled}
 use Rattle.iscsi_tasks.proofs.EnabledLemmas.{enabled_is}
 use Rattle.iscsi_tasks.proofs.set.TaskSet.is_enabled.Goals as goal

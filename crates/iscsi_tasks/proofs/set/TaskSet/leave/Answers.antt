@@ -1,23 +1,13 @@
-use Rattle.std.proofs.Common.{◌∙◌, Some, ap, sym, subst}
-use Rattle.iscsi_tasks.specs.Sets.{left_by, with_ticket}
-use Rattle.iscsi_tasks.specs.Changes.{StandsFor, after_leaving}
-use Rattle.iscsi_tasks.specs.Chains.{BLANK}
-use Rattle.iscsi_tasks.proofs.RuleLemmas.{stays_free}
+use Rattle.std.proofs.Common.{◌∙◌, Some, ap, sym, arith}
+use Rattle.iscsi_tasks.proofs.Names.{common_steps, left_by, with_ticket, BLANK}
 use Rattle.iscsi_tasks.proofs.SearchLemmas.{found, not_found}
 use Rattle.iscsi_tasks.proofs.set.TaskSet.leave.Goals as goal
 
 pub returns-in_err-at-clause-answer : goal.returns-in_err-at-clause-answer
 returns-in_err-at-clause-answer c = c.from_residual.ensures ∙ sym (not_found c.args.self.now.list c.args.ticket c.in_err-at.ensures.place)
 
-pub returns-in_err-at-clause-state : goal.returns-in_err-at-clause-state
-returns-in_err-at-clause-state c = sym (ap (left_by c.args.self.now) (not_found c.args.self.now.list c.args.ticket c.in_err-at.ensures.place))
-
 pub returns-in_err-at-clause-stands : goal.returns-in_err-at-clause-stands
-returns-in_err-at-clause-stands c = λ h st.
-    (returns-in_err-at-clause-answer c ∙ ap (with_ticket c.args.ticket) st.tasks, subst (λ o. StandsFor c.args.self.now (after_leaving o h)) (sym c.from_residual.ensures) st)
-
-pub returns-in_err-at-clause-stays_free : goal.returns-in_err-at-clause-stays_free
-returns-in_err-at-clause-stays_free c = stays_free
+returns-in_err-at-clause-stands c = grind (arith, common_steps, returns-in_err-at-clause-answer)
 
 pub returns-clause-answer : goal.returns-clause-answer
 returns-clause-answer c =
@@ -29,6 +19,3 @@ returns-clause-state c = c.take_out.ensures.state ∙ ap (left_by c.args.self.no
 
 pub returns-clause-stands : goal.returns-clause-stands
 returns-clause-stands c = λ h st. (returns-clause-answer c ∙ ap (with_ticket c.args.ticket) st.tasks, c.take_out.ensures.stands h st)
-
-pub returns-clause-stays_free : goal.returns-clause-stays_free
-returns-clause-stays_free c = stays_free

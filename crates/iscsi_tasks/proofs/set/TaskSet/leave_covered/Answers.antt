@@ -1,5 +1,5 @@
 use Rattle.std.proofs.Common.{sym, subst}
-use Rattle.iscsi_tasks.specs.Sets.{Members, InOrder, is_covered}
+use Rattle.iscsi_tasks.proofs.Names.{Members, InOrder, is_covered}
 use Rattle.iscsi_tasks.proofs.AllLeftLemmas.{StandsFor-staying}
 use Rattle.iscsi_tasks.proofs.StayingLemmas.{set_stays}
 use Rattle.iscsi_tasks.proofs.set.TaskSet.leave_covered.Goals as goal

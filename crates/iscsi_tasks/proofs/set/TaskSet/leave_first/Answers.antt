@@ -1,7 +1,5 @@
-use Rattle.std.proofs.Common.{◌≡◌, ◌∙◌, None, find, ap, sym, subst}
-use Rattle.iscsi_tasks.specs.Sets.{Members, tasks_in, left_by, is_covered}
-use Rattle.iscsi_tasks.specs.Changes.{StandsFor}
-use Rattle.iscsi_tasks.specs.Linked.{Linked}
+use Rattle.std.proofs.Common.{◌≡◌, ◌∙◌, None, find, ap, sym, arith}
+use Rattle.iscsi_tasks.proofs.Names.{common_steps, tasks_in, left_by, is_covered, StandsFor, Linked}
 use Rattle.iscsi_tasks.proofs.CoverLemmas.{absent, present}
 use Rattle.iscsi_tasks.proofs.SearchLemmas.{find_nowhere}
 use Rattle.iscsi_tasks.proofs.set.TaskSet.leave_first.Goals as goal
@@ -10,14 +8,8 @@ use Rattle.iscsi_tasks.proofs.set.TaskSet.leave_first.Goals as goal
 nothing : (c : goal.Then-not-may_cover) → find (is_covered c.args.cover.now) (tasks_in c.args.self.now) ≡ None
 nothing c = find_nowhere (is_covered c.args.cover.now) (tasks_in c.args.self.now) (c.may_cover.ensures.none c.if-not-may_cover.true)
 
-pub returns-then-not-may_cover-clause-answer : goal.returns-then-not-may_cover-clause-answer
-returns-then-not-may_cover-clause-answer c = sym (nothing c)
-
-pub returns-then-not-may_cover-clause-state : goal.returns-then-not-may_cover-clause-state
-returns-then-not-may_cover-clause-state c = sym (ap (left_by c.args.self.now) (nothing c))
-
-pub returns-then-not-may_cover-clause-stands : goal.returns-then-not-may_cover-clause-stands
-returns-then-not-may_cover-clause-stands c = λ h st. (sym (nothing c) ∙ ap (find (is_covered c.args.cover.now)) st.tasks, st)
+pub returns-then-not-may_cover : goal.returns-then-not-may_cover
+returns-then-not-may_cover c = grind (arith, common_steps, nothing, left_by, is_covered)
 
 -- nor is anything where the search found nothing
 past : (c : goal.After-renumber) → find (is_covered c.args.cover.now) (tasks_in c.args.self.now) ≡ None
@@ -26,14 +18,8 @@ past c = absent (is_covered c.args.cover.now) c.args.self.now (sym c.first_cover
 same : (c : goal.After-renumber) → c.renumber.new.self.shown ≡ c.args.self.now
 same c = ap (λ (l : Linked). l.shown) c.renumber.ensures ∙ c.self.view_is
 
-pub returns-in_default-clause-answer : goal.returns-in_default-clause-answer
-returns-in_default-clause-answer c = sym (past c)
-
-pub returns-in_default-clause-state : goal.returns-in_default-clause-state
-returns-in_default-clause-state c = same c ∙ sym (ap (left_by c.args.self.now) (past c))
-
-pub returns-in_default-clause-stands : goal.returns-in_default-clause-stands
-returns-in_default-clause-stands c = λ h st. (sym (past c) ∙ ap (find (is_covered c.args.cover.now)) st.tasks, subst (λ (s : Members). StandsFor s h) (sym (same c)) st)
+pub returns-in_default : goal.returns-in_default
+returns-in_default c = grind (arith, common_steps, past, same, left_by, is_covered, StandsFor)
 
 pub returns-clause-answer : goal.returns-clause-answer
 returns-clause-answer c =

@@ -1,7 +1,7 @@
 use Rattle.std.proofs.Common.{◌∙◌, ap, sym, true≢false}
 use Rattle.std.proofs.lemmas.List.{get_or_default}
 use Rattle.iscsi_slots.proofs.HalvingLemmas.{not_there}
-use Rattle.iscsi_tasks.specs.declared.member.Member.{Member}
+use Rattle.iscsi_tasks.proofs.Names.{Member}
 use Rattle.iscsi_tasks.proofs.set.TaskSet.place_of.Goals as goal
 
 pub returns-else-is_at-3-clause-place : goal.returns-else-is_at-3-clause-place

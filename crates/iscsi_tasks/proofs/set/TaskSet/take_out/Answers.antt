@@ -1,27 +1,19 @@
-use Rattle.std.proofs.Common.{◌≡◌, ◌∙◌, ◌<◌, Some, ℕ, List, length, get_or, ap, sym, subst, arith}
+use Rattle.std.proofs.Common.{◌≡◌, ◌∙◌, ◌<◌, Some, ℕ, List, length, get_or, ap, sym, arith}
 use Rattle.std.specs.List.{remove}
+use Rattle.iscsi_tasks.proofs.Names.{common_steps, Members, left_by, StandsFor, BLANK, Linked, linked, IsPlaced}
 use Rattle.iscsi_slots.specs.Queued.{Queued}
-use Rattle.iscsi_tasks.specs.Sets.{Members, left_by}
-use Rattle.iscsi_tasks.specs.Changes.{StandsFor}
-use Rattle.iscsi_tasks.specs.Chains.{BLANK}
-use Rattle.iscsi_tasks.specs.Linked.{Linked, linked, IsPlaced}
 use Rattle.iscsi_tasks.proofs.MarkedLemmas.{some_at}
 use Rattle.iscsi_tasks.proofs.set.TaskSet.take_out.Goals as goal
 
 -- the slot at a place
 within : {l : Linked} {order : List ℕ} {order_room left_room : ℕ} (s : Members) (at : ℕ) → IsPlaced l order order_room left_room → l.shown ≡ s → at < length s.list → at < length l.slots
-within {l} s at placed same inside =
-    let long = placed.in_slots.long in
-    let here : at < length l.shown.list = subst (λ (x : Members). at < length x.list) (sym same) inside in
-    omega (arith, long, here)
+within {l} s at placed same inside = grind (arith, common_steps)
 
 there : {l : Linked} {order : List ℕ} {order_room left_room : ℕ} (at slot : ℕ) → IsPlaced l order order_room left_room → slot ≡ get_or order at 0 → get_or l.slots at 0 ≡ slot
 there at slot placed is = sym (is ∙ ap (λ o. get_or o at 0) placed.same)
 
 pub let_go-requires : goal.let_go-requires
-let_go-requires c =
-    some_at c.self.inside.tasks.slots c.args.at c.at-slot.result (within c.args.self.now c.args.at c.self.invariant c.self.view_is c.requires)
-    (there c.args.at c.at-slot.result c.self.invariant c.at-slot.ensures)
+let_go-requires c = grind (arith, common_steps, some_at, within, there)
 
 left : (c : goal.After-let_go) → c.let_go.new.self ≡ linked (left_by c.self.inside.tasks.shown (Some c.let_go.result)) (remove c.self.inside.tasks.slots c.args.at)
 left c = (c.let_go.ensures.state c.args.at BLANK (within c.args.self.now c.args.at c.self.invariant c.self.view_is c.requires) (there c.args.at c.at-slot.result c.self.invariant c.at-slot.ensures)).1
@@ -39,8 +31,5 @@ invariant_of-self c =
       for_left = omega (arith, depth, for_left);
     }
 
-pub returns-clause-state : goal.returns-clause-state
-returns-clause-state c = ap (λ (l : Linked). l.shown) (left c) ∙ ap (λ (s : Members). left_by s (Some c.let_go.result)) c.self.view_is
-
-pub returns-clause-stands : goal.returns-clause-stands
-returns-clause-stands c = λ h st. c.let_go.ensures.stands h (subst (λ (s : Members). StandsFor s h) (sym c.self.view_is) st)
+pub returns : goal.returns
+returns c = grind (arith, common_steps, left, left_by, StandsFor)

@@ -1,9 +1,7 @@
 use Rattle.std.proofs.Common.{◌∙◌, Some, ap, sym, arith}
 use Rattle.std.proofs.lemmas.List.{length-map, get_or-map}
-use Rattle.std.proofs.lemmas.Option.{slice_get-get_or, slice_get_past}
-use Rattle.iscsi_tasks.specs.declared.member.Member.{Member}
-use Rattle.iscsi_tasks.specs.Sets.{tasks_in}
-use Rattle.iscsi_tasks.specs.Chains.{member_of}
+use Rattle.std.proofs.lemmas.Option.{slice_get-get_or}
+use Rattle.iscsi_tasks.proofs.Names.{Member, tasks_in, member_of}
 use Rattle.iscsi_tasks.proofs.set.TaskSet.task_at.Goals as goal
 
 pub returns-then-place-len : goal.returns-then-place-len
@@ -13,8 +11,3 @@ returns-then-place-len c =
     let long = length-map list (λ (x : Member). x.task) in
     ap (λ (x : Member). Some x.task) (c.at.ensures.member m)
     ∙ sym (slice_get-get_or (tasks_in c.args.self.now) c.args.place m.task (omega (arith, long)) ∙ ap Some (get_or-map (λ (x : Member). x.task) list c.args.place m m.task (omega arith)))
-
-pub returns-else-place-len : goal.returns-else-place-len
-returns-else-place-len c =
-    let long = length-map c.args.self.now.list (λ (x : Member). x.task) in
-    sym (slice_get_past (tasks_in c.args.self.now) c.args.place (omega (arith, long)))
