@@ -12,7 +12,7 @@ use Rattle.iscsi_session.specs.promises.Refusals.{RefusesAs, refusal_of}
 use Rattle.iscsi_session.specs.promises.Bounds.{most_effects}
 use Rattle.iscsi_session.specs.private.Standing.{Core, StandsFor}
 use Rattle.iscsi_session.specs.private.Steps.{refusal_by}
-use Rattle.iscsi_session.proofs.StepLemmas.{refusal_is}
+use Rattle.iscsi_session.proofs.AgendaLemmas.{refusal_is}
 use Rattle.iscsi_host.specs.Serving.{Hosted, Serves, last_effects}
 use Rattle.iscsi_host.proofs.EffectLemmas.{last_effects-push}
 
