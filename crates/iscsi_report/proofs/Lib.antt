@@ -4,3 +4,4 @@ pub mod LineEnds
 mod DecimalLemmas
 mod EntryLemmas
 mod AnswerDigits
+mod FilledLemmas

@@ -8,6 +8,8 @@ mod entry_line;
 mod event_line;
 mod line;
 mod lines;
+mod report;
 mod vector;
 
+pub use report::Report;
 pub use lines::{LONGEST_LINE, Lines, put_effect, put_event};
