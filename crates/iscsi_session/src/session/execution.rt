@@ -35,21 +35,21 @@ impl Session {
     /// Executes the request of the number that has turned last, which arrived in this event.
     // It is inlined where a request is delivered as it comes: what it does is found in registers then.
     #[inline(always)]
-    pub(crate) fn deliver(&mut self, request: Request, event: u64, out: &mut Vec<Effect>)
+    pub(crate) fn deliver(&mut self, request: &Request, event: u64, out: &mut Vec<Effect>)
         requires space { HasRoom self.old.window }
-        requires numbered { is_immediate request ≡ false }
+        requires numbered { is_immediate request.now ≡ false }
         requires counted { self.old.entered + count_by is_some self.old.window.places < self.old.taken }
-        requires known { known_in (connection_of request) self.old.conns ≡ true }
+        requires known { known_in (connection_of request.now) self.old.conns ≡ true }
         requires room { vec_len out.old + owed self.old.live self.old.sets + 6 * count_by is_held self.old.window.places
             + 6 ≤ vec_capacity out.old }
-        ensures done { Takes (after_effect (Effect.Deliver request) (executed self.old request event)) self.new
+        ensures done { Takes (after_effect (Effect.Deliver request.now) (executed self.old request.now event)) self.new
             out.old out.new }
         ensures spent { vec_len out.new + owed self.new.live self.new.sets + 6 * count_by is_held self.new.window.places
             ≤ vec_len out.old + owed self.old.live self.old.sets + 6 * count_by is_held self.old.window.places + 6 }
         ensures waiting { length self.new.waiting ≤ length self.old.waiting }
     {
-        out.push_reserved(Effect::Deliver { request });
-        self.execute(&request, event, out);
+        out.push_reserved(Effect::Deliver { request: *request });
+        self.execute(request, event, out);
     }
 
     /// Rejects a request for its opcode.
