@@ -196,8 +196,23 @@ def threaded_replays():
 
 def number_behind(words, front):
     """The number of the first request that the line behind this front makes: the next after the last one that the front
-    can't be read without. A bad line follows the front, so that the run ends before a session asks for memory."""
-    return 1 + max(number for number, ran in refusals(words, front + b"x\n") if ran.err == NO_MEMORY)
+    can't be read without. A bad line follows the front, so that the run ends before a session asks for memory. The front
+    comes from a file: a pipe may hand out less at once than is asked for, and then what is read so far takes memory."""
+    with tempfile.NamedTemporaryFile() as file:
+        file.write(front + b"x\n")
+        file.flush()
+        return 1 + max(number for number, ran in refusals_of_file(words, file.name) if ran.err == NO_MEMORY)
+
+
+def refusals_of_file(words, name):
+    """The runs on a file in which the first request is refused, the second, and so on; the last one meets no refusal."""
+    for number in range(1, MOST):
+        with open(name, "rb") as file:
+            ran = run(words, inject={"ALLOC": number}, stdin=file)
+        yield number, ran
+        if ran.note.refused == 0:
+            return
+    raise AssertionError(f"{MOST} requests")
 
 
 def last_arrivals():
