@@ -1,5 +1,6 @@
 """Requests for memory and for threads that are refused, one after the other, until a run meets no refusal."""
 
+import contextlib
 import re
 import tempfile
 
@@ -26,10 +27,12 @@ MOST = 5000
 CHUNK = 65536
 
 
-def refusals(words, data, inject="ALLOC", **how):
-    """The runs in which the first request is refused, the second, and so on; the last run meets no refusal."""
+def refusals(words, data, inject="ALLOC", name=None, **how):
+    """The runs in which the first request is refused, the second, and so on; the last run meets no refusal. They read the
+    data through a pipe, or the file of this name in its place."""
     for number in range(1, MOST):
-        ran = run(words, data, inject={inject: number}, **how)
+        with open(name, "rb") if name else contextlib.nullcontext() as file:
+            ran = run(words, data, inject={inject: number}, **how, **({"stdin": file} if file else {}))
         yield number, ran
         if ran.note is None or ran.note.refused == 0:
             return
@@ -201,18 +204,7 @@ def number_behind(words, front):
     with tempfile.NamedTemporaryFile() as file:
         file.write(front + b"x\n")
         file.flush()
-        return 1 + max(number for number, ran in refusals_of_file(words, file.name) if ran.err == NO_MEMORY)
-
-
-def refusals_of_file(words, name):
-    """The runs on a file in which the first request is refused, the second, and so on; the last one meets no refusal."""
-    for number in range(1, MOST):
-        with open(name, "rb") as file:
-            ran = run(words, inject={"ALLOC": number}, stdin=file)
-        yield number, ran
-        if ran.note.refused == 0:
-            return
-    raise AssertionError(f"{MOST} requests")
+        return 1 + max(number for number, ran in refusals(words, b"", name=file.name) if ran.err == NO_MEMORY)
 
 
 def last_arrivals():
