@@ -6,7 +6,6 @@ use Rattle.iscsi_wire.specs.declared.reply.Reply.TheVariants.{Scsi}
 use Rattle.iscsi_wire.specs.Serial.{wire, lift, number_of_first}
 use Rattle.iscsi_wire.specs.Fields.{request_of, connection_of, is_immediate, opcode, attr_code, itt, rtt, cid, cmd_sn, ref_cmd_sn}
 use Rattle.iscsi_tasks.specs.Rules.{is_free}
-use Rattle.iscsi_history.specs.declared.deed.Answer.TheVariants.{Reject, Respond}
 use Rattle.iscsi_history.specs.declared.deed.Deed.{Deed}
 use Rattle.iscsi_history.specs.declared.deed.Deed.TheVariants.{Nothing, Wait as ToWait, Reply as Replies, Enter as EnterUnit, Void as VoidNumber, Empty as EmptyNumber, Abort, AbortEarlier, AbortAll, CloseConn as Closes, CloseSession as Ends}
 use Rattle.iscsi_history.specs.declared.effect.Effect.{Effect}
@@ -20,7 +19,7 @@ use Rattle.iscsi_history.specs.declared.kind.Kind.TheVariants.{PassedOver, Unkno
 use Rattle.iscsi_history.specs.rules.Settings.{Setting, is_known}
 use Rattle.iscsi_history.specs.rules.Trace.{Arrival, Command, Mark, Admits, Delivers, Executes, Voids, Empties, Waits, Leaves, Enters, Sends, ClosesConn, ClosesSession, Ignores, first_of, contains, queued_of}
 use Rattle.iscsi_history.specs.rules.Execution.{MOST_IMMEDIATE, attr_of, unit_named, reply_of, reply_on, rejected, sense_of_status}
-use Rattle.iscsi_history.specs.rules.Management.{MOST_WAITING, may_wait, refusal_of_function, answer, is_to, is_before}
+use Rattle.iscsi_history.specs.rules.Management.{may_wait, refusal_of_function, by_its_number, answer, is_to, is_before}
 use Rattle.iscsi_history.specs.rules.Logout.{parting}
 use Rattle.iscsi_history.specs.rules.Deeds.{Facts, of_unit, if_found, function_deed, deed_of}
 use Rattle.iscsi_history.specs.rules.Agenda.{kind_of}
@@ -208,10 +207,7 @@ execution o s mark a = mark ∷ marks_after o (after_mark s mark) a
 -- an immediate function over a whole set: it is too far ahead, or executes, or too many wait, or it waits
 abbrev pub waiting_item : Setting → State → Arrival → List Mark
 waiting_item o s a =
-    if nat_lt (max_of o s + 1) a.number then Executes a ∷ reply_on a (reply_of a.request (Respond 255))
-    else (if not (nat_lt s.exp a.number) then execution o s (Executes a) a
-    else (if nat_le MOST_WAITING (count_by (λ b. connection_of b.request == connection_of a.request) s.waiting) then Executes a ∷ reply_on a (reply_of a.request (Reject 6))
-    else Waits a ∷ []))
+    by_its_number a.number s.exp (max_of o s + 1) (count_by (λ b. connection_of b.request == connection_of a.request) s.waiting) (λ x. Executes a ∷ reply_on a (reply_of a.request x)) (execution o s (Executes a) a) (Waits a ∷ [])
 
 -- an immediate request at its arrival
 abbrev pub immediate_item : Setting → State → Arrival → List Mark

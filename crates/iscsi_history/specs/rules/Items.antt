@@ -1,12 +1,11 @@
 -- The items of requests.
-use Rattle.std.specs.Prelude.{ℕ, ◌+◌, zero, suc, ◌==◌, ◌&&◌, not, Bool, nat_lt, nat_le, List, [], ◌∷◌, ◌++◌, Some, None, if◌then◌else◌, filter}
+use Rattle.std.specs.Prelude.{ℕ, ◌+◌, zero, suc, ◌==◌, ◌&&◌, Bool, List, [], ◌∷◌, ◌++◌, Some, None, if◌then◌else◌, filter}
 use Rattle.std.specs.List.{list_any}
 use Rattle.iscsi_wire.specs.Fields.{connection_of, opcode}
-use Rattle.iscsi_history.specs.declared.deed.Answer.TheVariants.{Reject, Respond}
 use Rattle.iscsi_history.specs.rules.Settings.{Setting}
 use Rattle.iscsi_history.specs.rules.Trace.{Arrival, Mark, Delivers, Executes, Waits, Trace, after_items, waiting, held}
 use Rattle.iscsi_history.specs.rules.Execution.{exp_of, max_of, reply_of, reply_on}
-use Rattle.iscsi_history.specs.rules.Management.{may_wait, refusal_of_function, MOST_WAITING, waiting_on}
+use Rattle.iscsi_history.specs.rules.Management.{may_wait, refusal_of_function, waiting_on, by_its_number}
 use Rattle.iscsi_history.specs.rules.Deeds.{marks_after, function_marks}
 
 -- the item of a request that executes, which begins with this mark
@@ -18,13 +17,9 @@ abbrev pub item_of : Setting → Trace → Arrival → List Mark
 item_of o t a = execution o t (Delivers a) a
 
 -- an immediate function that may wait: it is refused, or waits, or executes
--- rules: function/too-far, function/executes, function/too-many, function/waits
 abbrev pub waiting_item : Setting → Trace → Arrival → List Mark
 waiting_item o t a =
-    if nat_lt (max_of o t + 1) a.number then Executes a ∷ reply_on a (reply_of a.request (Respond 255))
-    else (if not (nat_lt (exp_of o t) a.number) then execution o t (Executes a) a
-    else (if nat_le MOST_WAITING (waiting_on (connection_of a.request) t) then Executes a ∷ reply_on a (reply_of a.request (Reject 6))
-    else Waits a ∷ []))
+    by_its_number a.number (exp_of o t) (max_of o t + 1) (waiting_on (connection_of a.request) t) (λ x. Executes a ∷ reply_on a (reply_of a.request x)) (execution o t (Executes a) a) (Waits a ∷ [])
 
 -- the item of an immediate request at its arrival
 abbrev pub immediate_item : Setting → Trace → Arrival → List Mark

@@ -1,5 +1,5 @@
 -- Task management (RFC 7143 sections 4.2.3 and 11.5, RFC 7144, SAM-5 section 7).
-use Rattle.std.specs.Prelude.{ℕ, ◌==◌, ◌&&◌, ◌||◌, nat_lt, not, Bool, false, List, ◌++◌, map, Option, Some, None, option_map, if◌then◌else◌, filter, count_by}
+use Rattle.std.specs.Prelude.{ℕ, ◌==◌, ◌&&◌, ◌||◌, nat_lt, nat_le, not, Bool, false, List, ◌++◌, map, Option, Some, None, option_map, if◌then◌else◌, filter, count_by}
 use Rattle.std.specs.List.{range_with_len}
 use Rattle.iscsi_wire.specs.declared.reply.Reply.{Reply}
 use Rattle.iscsi_wire.specs.declared.request.Request.{Request}
@@ -39,6 +39,16 @@ MOST_WAITING = 4
 
 abbrev pub waiting_on : ℕ → Trace → ℕ
 waiting_on conn t = count_by (λ a. connection_of a.request == conn) (waiting t)
+
+-- an immediate function that may wait, by its number, the next numbered request's, the first number behind the window, and how
+-- many functions of its connection wait: it is refused, executes, or waits
+-- rules: function/too-far, function/executes, function/too-many, function/waits
+abbrev pub by_its_number : {A : Type 0} → ℕ → ℕ → ℕ → ℕ → (Answer → A) → A → A → A
+by_its_number number exp behind waiting refused executes waits =
+    if nat_lt behind number then refused (Respond 255)
+    else (if not (nat_lt exp number) then executes
+    else (if nat_le MOST_WAITING waiting then refused (Reject 6)
+    else waits))
 
 -- ---- what a function finds, and takes out
 

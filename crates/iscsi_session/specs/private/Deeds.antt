@@ -1,5 +1,5 @@
 -- What a request does that executes: what a session finds, what it keeps afterwards, and the effects. For private contracts alone.
-use Rattle.std.specs.Prelude.{◌≡◌, ℕ, ℤ, pos, ◌-ℤ◌, ◌+◌, ◌-◌, ◌<◌, ◌==◌, ◌&&◌, not, Bool, true, false, nat_lt, nat_le, [], ◌∷◌, ◌++◌, length, filter, find, count_by, is_some, Option, Some, None, option_map, if◌then◌else◌}
+use Rattle.std.specs.Prelude.{◌≡◌, ℕ, ℤ, pos, ◌-ℤ◌, ◌+◌, ◌-◌, ◌<◌, ◌==◌, ◌&&◌, not, Bool, true, false, nat_lt, [], ◌∷◌, ◌++◌, length, filter, find, count_by, is_some, Option, Some, None, option_map, if◌then◌else◌}
 use Rattle.std.specs.List.{list_any}
 use Rattle.iscsi_wire.specs.declared.request.Request.{Request}
 use Rattle.iscsi_wire.specs.Serial.{lift, number_of_first}
@@ -13,16 +13,16 @@ use Rattle.iscsi_tasks.specs.Sets.{is_covered}
 use Rattle.iscsi_commands.specs.declared.live.Live.{Live}
 use Rattle.iscsi_history.specs.declared.effect.Effect.TheVariants.{Deliver, Immediate, Wait as Waits}
 use Rattle.iscsi_history.specs.declared.deed.Answer.{Answer}
-use Rattle.iscsi_history.specs.declared.deed.Answer.TheVariants.{Reject, Respond}
+use Rattle.iscsi_history.specs.declared.deed.Answer.TheVariants.{Respond}
 use Rattle.iscsi_history.specs.declared.deed.Deed.{Deed}
 use Rattle.iscsi_history.specs.declared.deed.Deed.TheVariants.{Nothing, Wait, Reply, Enter, Void, Empty, Abort, AbortEarlier, AbortAll, CloseConn, CloseSession}
 use Rattle.iscsi_history.specs.rules.Settings.{is_known}
-use Rattle.iscsi_history.specs.rules.Execution.{unit_named, reply_of}
-use Rattle.iscsi_history.specs.rules.Management.{MOST_WAITING, may_wait, refusal}
+use Rattle.iscsi_history.specs.rules.Execution.{unit_named}
+use Rattle.iscsi_history.specs.rules.Management.{MOST_WAITING, may_wait, refusal, by_its_number}
 use Rattle.iscsi_history.specs.rules.Deeds.{Facts, of_unit, function_deed, deed_of}
 use Rattle.iscsi_session.specs.declared.session.waiting.Waiting.{Waiting}
 use Rattle.iscsi_session.specs.private.Standing.{Core, is_held}
-use Rattle.iscsi_session.specs.private.Steps.{Step, unchanged, and_then, after_effect, set_at, is_set_full, is_tag_kept, is_crowded_by, waiting_in, number_by, request_answered, command_entered, covers_ticket, left_answered, number_voided, number_emptied, is_among_open, logged_out}
+use Rattle.iscsi_session.specs.private.Steps.{Step, unchanged, and_then, after_effect, set_at, is_set_full, is_tag_kept, is_crowded_by, waiting_in, number_by, request_answered, command_entered, covers_ticket, aborted, number_voided, number_emptied, is_among_open, logged_out}
 
 -- ---- what is found
 
@@ -72,10 +72,8 @@ managed_by s r = elim (refusal_by s r) [ Some x ↦ Reply x | None ↦ function_
 -- a function that may wait, and isn't refused, at its arrival
 abbrev pub waits_by : Core → Request → Deed
 waits_by s r =
-    if nat_lt (number_expected s.window + room_of s.window) (lift (number_expected s.window) (cmd_sn r)) then Reply (Respond 255)
-    else (if not (nat_lt (number_expected s.window) (lift (number_expected s.window) (cmd_sn r))) then function_deed (facts_by s r) r
-    else (if nat_le MOST_WAITING (waiting_in s.waiting (connection_of r)) then Reply (Reject 6)
-    else Wait))
+    let exp = number_expected s.window in
+    by_its_number (lift exp (cmd_sn r)) exp (exp + room_of s.window) (waiting_in s.waiting (connection_of r)) Reply (function_deed (facts_by s r) r) Wait
 
 -- an immediate request at its arrival
 abbrev pub arrival_by : Core → Request → Deed
@@ -140,9 +138,9 @@ carried s r number event (Reply x) = request_answered s r x
 carried s r number event (Enter unit) = command_entered s r unit
 carried s r number event Void = and_then (number_voided s (ref_cmd_sn r)) (λ s'. request_answered s' r (Respond 0))
 carried s r number event (Empty unit sn) = and_then (number_emptied s sn) (λ s'. request_answered s' r (Respond 0))
-carried s r number event (Abort unit ticket) = left_answered s unit (covers_ticket ticket) (connection_of r) (reply_of r (Respond 0))
-carried s r number event (AbortEarlier unit) = left_answered s unit (is_covered (Below number event)) (connection_of r) (reply_of r (Respond 0))
-carried s r number event (AbortAll unit) = left_answered s unit (is_covered AllOfThem) (connection_of r) (reply_of r (Respond 0))
+carried s r number event (Abort unit ticket) = aborted s r unit (covers_ticket ticket)
+carried s r number event (AbortEarlier unit) = aborted s r unit (is_covered (Below number event))
+carried s r number event (AbortAll unit) = aborted s r unit (is_covered AllOfThem)
 carried s r number event (CloseConn conn) = logged_out s r (Some conn)
 carried s r number event CloseSession = logged_out s r None
 
@@ -181,10 +179,14 @@ function_taken s (Some w) =
 abbrev pub comes_next : Core → Request → Bool
 comes_next s r = not (is_some (next_waiting s)) && is_next s.window r
 
--- an immediate request does this at its arrival, or it waits
+-- an immediate request does this at its arrival
+abbrev pub done_at_once : Core → Request → Deed → Step
+done_at_once s r deed = after_effect (Immediate r) (carried s r (position_by s r) (s.taken - 1) deed)
+
+-- or it waits
 abbrev pub immediate_taken : Core → Request → Deed → Step
 immediate_taken s r Wait = record {
   core = record s { waiting = s.waiting ++ record { request = r; turn = lift (number_expected s.window) (cmd_sn r) - number_of_first s.window.first; event = s.taken - 1 } ∷ [] };
   effects = Waits r ∷ [];
 }
-immediate_taken s r deed = after_effect (Immediate r) (carried s r (position_by s r) (s.taken - 1) deed)
+immediate_taken s r deed = done_at_once s r deed

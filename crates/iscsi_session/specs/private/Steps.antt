@@ -26,7 +26,7 @@ use Rattle.iscsi_history.specs.declared.effect.Numbers.{Numbers}
 use Rattle.iscsi_history.specs.declared.event.Event.{Event}
 use Rattle.iscsi_history.specs.declared.event.Event.TheVariants.{Arrive, Done}
 use Rattle.iscsi_history.specs.declared.deed.Answer.{Answer}
-use Rattle.iscsi_history.specs.declared.deed.Answer.TheVariants.{LogOut}
+use Rattle.iscsi_history.specs.declared.deed.Answer.TheVariants.{Respond, LogOut}
 use Rattle.iscsi_history.specs.rules.Settings.{Setting, is_known}
 use Rattle.iscsi_history.specs.rules.Trace.{Mark, Trace, after_items, received}
 use Rattle.iscsi_history.specs.rules.Run.{effects_of}
@@ -272,6 +272,10 @@ completed s None status = record { core = s; effects = Ignore Stale ∷ [] }
 completed s (Some l) status = left_answered s l.unit (covers_ticket l.ticket) l.conn (Scsi l.itt status (sense_of_status status))
 
 -- ---- task management
+
+-- commands leave, and the function is answered
+abbrev pub aborted : Core → Request → ℕ → (Task → Bool) → Step
+aborted s r unit covers = left_answered s unit covers (connection_of r) (reply_of r (Respond 0))
 
 -- a number is received without a request, if it wasn't received before
 abbrev pub number_voided : Core → ℕ → Step
