@@ -61,7 +61,7 @@ pub(crate) fn push(
     ensures marked { IsMarked marks.new chain.new.slots chain.new.members }
 {
     let slot = chain.push(task, enabled, given);
-    *marks = marks.with_last(task.attr, enabled, given, slot);
+    marks.note_last(task.attr, enabled, given, slot);
     slot
 }
 

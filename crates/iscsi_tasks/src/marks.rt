@@ -57,9 +57,22 @@ impl Marks {
         self.new_from == self.new_to
     }
 
+    /// This command is in the last slot from now on.
+    // A SIMPLE one that is enabled and given, as most are, changes nothing.
+    #[inline(always)]
+    pub(crate) fn note_last(&mut self, attr: Attr, enabled: bool, given: bool, slot: u16)
+        requires { self.old.heads < 1024 }
+        ensures { self.new ≡ pushed_by self.old attr enabled given slot }
+    {
+        if enabled && given && !attr.is_head() && !attr.is_ordered() {
+            return;
+        }
+        *self = self.with_last(attr, enabled, given, slot);
+    }
+
     /// The marks once this command is in the last slot.
     #[inline(always)]
-    pub(crate) fn with_last(self, attr: Attr, enabled: bool, given: bool, slot: u16) -> Marks
+    fn with_last(self, attr: Attr, enabled: bool, given: bool, slot: u16) -> Marks
         requires { self.heads < 1024 }
         ensures { result ≡ pushed_by self attr enabled given slot }
     {
