@@ -156,6 +156,7 @@ impl LiveCommands {
     }
 
     /// The command with this ticket leaves, if there is one.
+    #[inline(always)]
     pub fn remove(&mut self, ticket: u64)
         ensures { self.new ≡ queued (without_ticket ticket self.old.items) self.old.room }
     {
@@ -278,33 +279,36 @@ fn is_newest(log: &[Entry], ticket: u64) -> bool
     len == 0 || entry_at(log, len - 1).command.ticket < ticket
 }
 
-/// The place of the live command with this ticket.
+/// The place of the live command with this ticket. The place that its group's hint tells is looked at first.
 #[inline(always)]
 fn place_of(log: &[Entry], hints: &[u16], ticket: u64) -> Option<usize>
     requires ascending { AreKeysAscending ticket_of log.now }
     requires hints { length hints.now ≡ 4096 }
     ensures { IsLivePlace log.now ticket result }
 {
-    let k = place_in(log, hints, ticket);
-    if is_at(log, k, ticket) && entry_at(log, k).is_live {
-        Some(k)
+    let hint = usize::from(hints[hint_of(ticket)]);
+    if !is_at(log, hint, ticket) {
+        return seek(log, ticket);
+    }
+    if entry_at(log, hint).is_live {
+        Some(hint)
     } else {
         None
     }
 }
 
-/// Where a ticket stands in the log, if it does. The place of its group is looked at first.
-#[inline(always)]
-fn place_in(log: &[Entry], hints: &[u16], ticket: u64) -> usize
-    requires ascending { AreKeysAscending ticket_of log.now }
-    requires hints { length hints.now ≡ 4096 }
-    ensures { (k : ℕ) → k < length log.now → ticket_of (entry_at log.now k) ≡ ticket → k ≡ result }
+/// The place of the live command with this ticket, where the hint doesn't tell it.
+#[inline(never)]
+fn seek(log: &[Entry], ticket: u64) -> Option<usize>
+    requires { AreKeysAscending ticket_of log.now }
+    ensures { IsLivePlace log.now ticket result }
 {
-    let hint = usize::from(hints[hint_of(ticket)]);
-    if is_at(log, hint, ticket) {
-        return hint;
+    let k = count_below(log, ticket);
+    if is_at(log, k, ticket) && entry_at(log, k).is_live {
+        Some(k)
+    } else {
+        None
     }
-    count_below(log, ticket)
 }
 
 /// Whether the command at a place is there, and has this ticket.

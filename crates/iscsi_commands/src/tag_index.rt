@@ -98,7 +98,8 @@ impl TagIndex {
         }
     }
 
-    /// The live command at a place leaves.
+    /// The live command at a place leaves. Mostly it stands at the place of its group.
+    #[inline(always)]
     #[tactic(auto, using(crate::proofs::LogLemmas::group_below))]
     pub(crate) fn leave(&mut self, log: &[Entry], k: usize)
         requires tagged { AreTagged log.now self.old.places.items self.old.crowded.items self.old.others.items }
@@ -112,6 +113,20 @@ impl TagIndex {
         if !self.crowded[group_of(itt)] {
             return;
         }
+        self.leave_apart(log, k);
+    }
+
+    /// The live command at a place leaves, which may stand apart.
+    #[inline(never)]
+    fn leave_apart(&mut self, log: &[Entry], k: usize)
+        requires tagged { AreTagged log.now self.old.places.items self.old.crowded.items self.old.others.items }
+        requires live { IsLiveAt log.now k }
+        requires place { k < length log.now }
+        ensures tagged { AreTagged (slice_set log.now k (ended (entry_at log.now k))) self.new.places.items
+            self.new.crowded.items self.new.others.items }
+        ensures room { self.new.others.room ≡ self.old.others.room }
+    {
+        let itt = entry_at(log, k).command.itt;
         let place = count_below(&self.others, log, itt);
         if place < self.others.len() && usize::from(self.others.at(place)) == k {
             self.others.remove(place);
