@@ -1,7 +1,5 @@
 -- What a request does that executes, by what a session keeps: when it does that, and what stays as it was.
 use Rattle.std.proofs.Common.{◌≡◌, ℕ, ℤ, ◌+◌, ◌<◌, ◌≤◌, ◌==◌, ◌&&◌, not, cond, Bool, true, false, length, count_by, is_some, Option, Some, None, refl, ap, sym, ◌∙◌, arith, ◌-◌, subst, filter}
-use Rattle.iscsi_history.specs.declared.effect.Effect.TheVariants.{Immediate}
-use Rattle.iscsi_history.specs.declared.deed.Answer.TheVariants.{Respond}
 use Rattle.std.proofs.lemmas.Bool.Decides.{nat_tests}
 use Rattle.std.proofs.lemmas.Bool.{false≢true, cond_both}
 use Rattle.iscsi_window.specs.declared.held_request.HeldRequest.{HeldRequest}
@@ -16,12 +14,12 @@ use Rattle.iscsi_history.specs.declared.deed.Answer.{Answer}
 use Rattle.iscsi_history.specs.declared.deed.Deed.{Deed}
 use Rattle.iscsi_history.specs.declared.deed.Deed.TheVariants.{Nothing, Wait, Reply, Enter, Void, Empty, Abort, AbortEarlier, AbortAll, CloseConn, CloseSession}
 use Rattle.iscsi_history.specs.rules.Settings.{is_known}
-use Rattle.iscsi_history.specs.rules.Execution.{unit_named, reply_of}
+use Rattle.iscsi_history.specs.rules.Execution.{unit_named}
 use Rattle.iscsi_history.specs.rules.Management.{may_wait}
 use Rattle.iscsi_history.specs.rules.Deeds.{Facts, of_unit, function_deed}
 use Rattle.iscsi_session.specs.private.Standing.{Core}
-use Rattle.iscsi_session.specs.private.Steps.{set_at, is_numbered, is_gone, covers_ticket, left_answered, after_effect, KeepsPace, completed}
-use Rattle.iscsi_session.specs.private.Deeds.{refusal_by, live_by, held_by, missing_by, facts_by, deed_by, waits_by, arrival_by, Fits, IsReady, most_emptied, carried, position_by, executed, turn_taken, next_position, function_taken, immediate_taken}
+use Rattle.iscsi_session.specs.private.Steps.{set_at, is_numbered, is_gone, covers_ticket, aborted, KeepsPace, completed}
+use Rattle.iscsi_session.specs.private.Deeds.{refusal_by, live_by, held_by, missing_by, facts_by, deed_by, waits_by, arrival_by, Fits, IsReady, most_emptied, carried, position_by, executed, turn_taken, next_position, function_taken, done_at_once, immediate_taken}
 use Rattle.iscsi_history.proofs.BoolLemmas.{and_first, and_second}
 use Rattle.iscsi_history.proofs.ListLemmas.{fewer_counted, filter-shorter}
 use Rattle.iscsi_history.proofs.DeedTable.{named_below, Befits, befits_function, befits_deed, through_function}
@@ -109,7 +107,7 @@ begins r _ = 0
 pub begins_one : (r : Request) (d : Deed) → begins r d ≤ 1
 begins_one r d = grind arith
 
-aborted_stays : (s : Core) (r : Request) (unit : ℕ) (covers : Task → Bool) → Stays 0 s (left_answered s unit covers (connection_of r) (reply_of r (Respond 0))).core
+aborted_stays : (s : Core) (r : Request) (unit : ℕ) (covers : Task → Bool) → Stays 0 s (aborted s r unit covers).core
 aborted_stays s r unit covers = omega (arith, fewer_counted is_numbered (λ l. not (is_gone covers (set_at s unit) l.ticket)) s.live)
 
 pub carried_stays : (s : Core) (r : Request) (number : ℤ) (event : ℕ) (d : Deed) → Fits s r d → Stays (begins r d) s (carried s r number event d).core
@@ -186,10 +184,10 @@ pub executed_counted : (s : Core) (r : Request) (event : ℕ) → is_immediate r
 executed_counted s r event numbered = carried_counted s r (position_by s r) event (deed_by s r) (fits_deed s r) numbered
 
 -- an immediate one that doesn't wait begins none of the numbered commands
-pub at_once_stays : (s : Core) (r : Request) (d : Deed) → Fits s r d → is_immediate r ≡ true → Stays 0 s (after_effect (Immediate r) (carried s r (position_by s r) (s.taken - 1) d)).core
+pub at_once_stays : (s : Core) (r : Request) (d : Deed) → Fits s r d → is_immediate r ≡ true → Stays 0 s (done_at_once s r d).core
 at_once_stays s r d fits immediate = let h = carried_stays s r (position_by s r) (s.taken - 1) d fits in omega (arith, h, begins_none r d immediate)
 
-pub immediate_is : (s : Core) (r : Request) (d : Deed) → (d ≡ Wait → ⊥) → immediate_taken s r d ≡ after_effect (Immediate r) (carried s r (position_by s r) (s.taken - 1) d)
+pub immediate_is : (s : Core) (r : Request) (d : Deed) → (d ≡ Wait → ⊥) → immediate_taken s r d ≡ done_at_once s r d
 immediate_is s r d other = grind (arith, nat_tests)
 
 -- the numbers and the events are the same after it
@@ -200,9 +198,9 @@ pub record Same (s s' : Core) : Type 0 where
 pub immediate_same : (s : Core) (r : Request) → Same s (immediate_taken s r (arrival_by s r)).core
 immediate_same s r =
     let d : Deed = arrival_by s r in
-    by_deed d (one_more s (after_effect (Immediate r) (carried s r (position_by s r) (s.taken - 1) d)).core r d (carried_stays s r (position_by s r) (s.taken - 1) d (fits_arrival s r)))
+    by_deed d (one_more s (done_at_once s r d).core r d (carried_stays s r (position_by s r) (s.taken - 1) d (fits_arrival s r)))
   where
-    by_deed : (d : Deed) → Stays 1 s (after_effect (Immediate r) (carried s r (position_by s r) (s.taken - 1) d)).core → Same s (immediate_taken s r d).core
+    by_deed : (d : Deed) → Stays 1 s (done_at_once s r d).core → Same s (immediate_taken s r d).core
     by_deed d h = grind (arith, nat_tests, stays_expected)
 
 -- ---- a completion

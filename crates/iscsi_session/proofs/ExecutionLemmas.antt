@@ -1,6 +1,5 @@
 -- A request executes: it is answered, a command enters, or nothing more happens.
 use Rattle.std.proofs.Common.{◌≡◌, ℕ, ◌+◌, ◌<◌, not, cond, Bool, true, false, List, [], ◌∷◌, length, map, count_by, get_or, None, refl, ap, sym, ◌∙◌, arith, Option, Some, ◌-◌, ◌≤◌, ◌==◌, ◌&&◌, ◌++◌, filter, set, append_assoc}
-use Rattle.iscsi_history.specs.declared.deed.Answer.TheVariants.{Respond}
 use Rattle.std.proofs.lemmas.Bool.{cond_both, lt-ltb, eqb-true}
 use Rattle.std.proofs.lemmas.List.{append-nil, length-map, get_or-set_same, set-set}
 use Rattle.iscsi_wire.specs.declared.request.Request.{Request}
@@ -11,10 +10,10 @@ use Rattle.iscsi_tasks.specs.Sets.{opened, Members}
 use Rattle.iscsi_history.specs.declared.effect.Effect.{Effect}
 use Rattle.iscsi_history.specs.rules.Settings.{Setting, is_known}
 use Rattle.iscsi_history.specs.rules.Trace.{Arrival, Command, Mark, Enters, Sends, Trace, waiting, waiting_by, enters, leaves_ticket, sent_on, entered, live, live_in, Delivers, Leaves, is_among, are_apart}
-use Rattle.iscsi_history.specs.rules.Execution.{unfinished, is_crowded, is_full, reply_on, next_command, reply_of}
+use Rattle.iscsi_history.specs.rules.Execution.{unfinished, is_crowded, is_full, reply_on, next_command}
 use Rattle.iscsi_history.specs.rules.Run.{effects_of_mark, effects_of_item, newly_enabled, stat_sn_of}
 use Rattle.iscsi_session.specs.private.Standing.{Core, kept, is_regular, task_of, member_of, WindowAgrees, RepliesAgree, SetsAgree, WaitingAgrees, Agrees, set_of, CommandsAgree}
-use Rattle.iscsi_session.specs.private.Steps.{count_reply, Step, unchanged, after_effect, is_set_full, is_immediate_on, is_crowded_by, replied, new_live, number_by, event_by, new_task, started, command_entered, set_staying, covered_tickets, set_at, as_given, all_given, enable_effects, is_numbered, is_gone, staying, leave_each, has_covered, left_answered}
+use Rattle.iscsi_session.specs.private.Steps.{count_reply, Step, unchanged, after_effect, is_set_full, is_immediate_on, is_crowded_by, replied, new_live, number_by, event_by, new_task, started, command_entered, set_staying, covered_tickets, set_at, as_given, all_given, enable_effects, is_numbered, is_gone, staying, leave_each, has_covered, left_answered, aborted}
 use Rattle.iscsi_history.proofs.BoolLemmas.{and_both, and_parts, not_true, and_comm, alike, alike_same}
 use Rattle.iscsi_session.proofs.AgreeLemmas.{open_of-same, RepliesAgree-quiet, RepliesAgree-sent, EnabledSoFar-entered, live-entered, CommandsAgree-entered, Lasting, Agrees-untouched, SetEntry, SetsAgree-entered, set_of-same, noted_given, noted_effects, CommandsAgree-left, set-changed, units_live}
 use Rattle.iscsi_history.proofs.ListLemmas.{count_by-map, count_by-push, list_any-map, list_all-filter, any_filter, any_same, fewer_counted, map_all, filter-map, map-map, none_out}
@@ -325,7 +324,7 @@ module _ (o : Setting) (s : Core) (t : Trace) (item : List Mark) (unit : ℕ) (c
   leaving-effects = rw (leaving_shown o t old unit list_is covers, b.replies.stat_sns conn b.known, left_is, left.effects, ← newly-one o item t unit b.inside elsewhere)
 
 -- a function takes them out
-pub leaving-item : (o : Setting) (s : Core) (t : Trace) (m : Mark) (e : Effect) (a : Arrival) → Begun o s t m e a → (unit : ℕ) → unit < o.units → (covers : Task → Bool) → Follows o t (leaving_item o t m a unit covers) (after_effect e (left_answered s unit covers (connection_of a.request) (reply_of a.request (Respond 0))))
+pub leaving-item : (o : Setting) (s : Core) (t : Trace) (m : Mark) (e : Effect) (a : Arrival) → Begun o s t m e a → (unit : ℕ) → unit < o.units → (covers : Task → Bool) → Follows o t (leaving_item o t m a unit covers) (after_effect e (aborted s a.request unit covers))
 leaving-item o s t m e a b unit inside covers = (leaving-agrees o s t item unit covers conn reply leaving, rw (leaving-effects o s t item unit covers conn reply leaving, b.shows, leaving-shown o t gone a reply, append_assoc))
   where
     item : List Mark

@@ -266,7 +266,7 @@ impl Session {
         ensures capacity { vec_capacity out.new ≡ vec_capacity out.old }
     {
         match *event {
-            Event::Arrive { conn, header } => self.arrive(Request::read(conn, &header), out),
+            Event::Arrive { conn, header } => self.arrive(&Request::read(conn, &header), out),
             Event::Done { ticket, status } => self.complete(ticket, status, out),
         }
     }

@@ -24,15 +24,15 @@ impl Session {
     /// Takes a request that arrived. Nothing is taken on a connection that is closed.
     ///
     /// Rule: `arrival/closed`.
-    pub(crate) fn arrive(&mut self, request: Request, out: &mut Vec<Effect>)
-        requires known { known_in (connection_of request) self.old.conns ≡ true }
+    pub(crate) fn arrive(&mut self, request: &Request, out: &mut Vec<Effect>)
+        requires known { known_in (connection_of request.now) self.old.conns ≡ true }
         requires counted { self.old.window.turned + count_by is_some self.old.window.places < self.old.taken }
         requires entered { self.old.entered + count_by is_some self.old.window.places < self.old.taken }
         requires waited { list_all (λ w. nat_lt (w.event + 1) self.old.taken) self.old.waiting ≡ true }
         requires room { vec_len out.old + owed self.old.live self.old.sets
             + 6 * (count_by is_held self.old.window.places + length self.old.waiting + 1) + 1 ≤ vec_capacity out.old }
         ensures items { (o : Setting) (index : ℕ) (t : Trace) → self.old.taken ≡ index + 1 → Settled o self.old t →
-            Handles o t (arrival o t (arrival_of o index t request)) HasOneMore self.new out.old.items out.new.items }
+            Handles o t (arrival o t (arrival_of o index t request.now)) HasOneMore self.new out.old.items out.new.items }
         ensures taken { self.new.taken ≡ self.old.taken }
         ensures pace { KeepsPace self.old.window self.new.window }
         ensures spent { vec_len out.new ≤ vec_len out.old + owed self.old.live self.old.sets
@@ -49,15 +49,15 @@ impl Session {
     /// Dispatches a request that arrived on an open connection, by its opcode.
     ///
     /// Rules: `arrival/data`, `arrival/unknown-opcode`, `arrival/immediate`.
-    fn dispatch(&mut self, request: Request, out: &mut Vec<Effect>)
-        requires known { known_in (connection_of request) self.old.conns ≡ true }
+    fn dispatch(&mut self, request: &Request, out: &mut Vec<Effect>)
+        requires known { known_in (connection_of request.now) self.old.conns ≡ true }
         requires counted { self.old.window.turned + count_by is_some self.old.window.places < self.old.taken }
         requires entered { self.old.entered + count_by is_some self.old.window.places < self.old.taken }
         requires waited { list_all (λ w. nat_lt (w.event + 1) self.old.taken) self.old.waiting ≡ true }
         requires room { vec_len out.old + owed self.old.live self.old.sets
             + 6 * (count_by is_held self.old.window.places + length self.old.waiting + 1) + 1 ≤ vec_capacity out.old }
         ensures items { (o : Setting) (index : ℕ) (t : Trace) → self.old.taken ≡ index + 1 → Settled o self.old t →
-            Handles o t (arrival_open o t (arrival_of o index t request)) HasOneMore self.new out.old.items
+            Handles o t (arrival_open o t (arrival_of o index t request.now)) HasOneMore self.new out.old.items
             out.new.items }
         ensures taken { self.new.taken ≡ self.old.taken }
         ensures pace { KeepsPace self.old.window self.new.window }
@@ -65,9 +65,9 @@ impl Session {
             + 6 * (count_by is_held self.old.window.places + length self.old.waiting + 1) + 1 }
         ensures capacity { vec_capacity out.new ≡ vec_capacity out.old }
     {
-        match kind_of(&request) {
+        match kind_of(request) {
             Kind::PassedOver => out.push_reserved(Effect::Ignore { why: Why::Data }),
-            Kind::Unknown => self.reject_opcode(&request, out),
+            Kind::Unknown => self.reject_opcode(request, out),
             Kind::Executes => {
                 if request.immediate() {
                     self.receive_immediate(request, out);
@@ -82,27 +82,27 @@ impl Session {
     /// Offers a numbered request to the window, and delivers what becomes due by it.
     ///
     /// Rules: `arrival/outside`, `arrival/duplicate`, `arrival/held`.
-    fn receive_numbered(&mut self, request: Request, out: &mut Vec<Effect>)
-        requires regular { is_immediate request ≡ false }
-        requires known { known_in (connection_of request) self.old.conns ≡ true }
+    fn receive_numbered(&mut self, request: &Request, out: &mut Vec<Effect>)
+        requires regular { is_immediate request.now ≡ false }
+        requires known { known_in (connection_of request.now) self.old.conns ≡ true }
         requires counted { self.old.window.turned + count_by is_some self.old.window.places < self.old.taken }
         requires entered { self.old.entered + count_by is_some self.old.window.places < self.old.taken }
         requires room { vec_len out.old + owed self.old.live self.old.sets
             + 6 * (count_by is_held self.old.window.places + length self.old.waiting + 1) ≤ vec_capacity out.old }
         ensures items { (o : Setting) (index : ℕ) (t : Trace) → self.old.taken ≡ index + 1 → Settled o self.old t →
-            Handles o t (numbered o t (arrival_of o index t request)) HasOneMore self.new out.old.items out.new.items }
+            Handles o t (numbered o t (arrival_of o index t request.now)) HasOneMore self.new out.old.items out.new.items }
         ensures taken { self.new.taken ≡ self.old.taken }
         ensures pace { KeepsPace self.old.window self.new.window }
         ensures spent { vec_len out.new ≤ vec_len out.old + owed self.old.live self.old.sets
             + 6 * (count_by is_held self.old.window.places + length self.old.waiting + 1) }
         ensures capacity { vec_capacity out.new ≡ vec_capacity out.old }
     {
-        if self.comes_next(&request) {
+        if self.comes_next(request) {
             self.deliver_at_once(request, out);
             self.run_agenda(out);
             return;
         }
-        match self.offer(&request) {
+        match self.offer(request) {
             Offer::Held => self.run_agenda(out),
             Offer::Outside => out.push_reserved(Effect::Ignore { why: Why::Outside }),
             Offer::Duplicate => out.push_reserved(Effect::Ignore {
@@ -120,17 +120,17 @@ impl Session {
     }
 
     /// Delivers a numbered request as it comes, so that the window needn't hold it.
-    fn deliver_at_once(&mut self, request: Request, out: &mut Vec<Effect>)
-        requires next { comes_next self.old request ≡ true }
-        requires regular { is_immediate request ≡ false }
-        requires known { known_in (connection_of request) self.old.conns ≡ true }
+    fn deliver_at_once(&mut self, request: &Request, out: &mut Vec<Effect>)
+        requires next { comes_next self.old request.now ≡ true }
+        requires regular { is_immediate request.now ≡ false }
+        requires known { known_in (connection_of request.now) self.old.conns ≡ true }
         requires counted { self.old.window.turned + count_by is_some self.old.window.places < self.old.taken }
         requires entered { self.old.entered + count_by is_some self.old.window.places < self.old.taken }
         requires room { vec_len out.old + owed self.old.live self.old.sets + 6 * count_by is_held self.old.window.places
             + 6 ≤ vec_capacity out.old }
         // It is offered, and turns.
-        ensures done { Takes (turn_taken (with_offered self.old request) (Some (Some (record {
-          request = request;
+        ensures done { Takes (turn_taken (with_offered self.old request.now) (Some (Some (record {
+          request = request.now;
           event = self.old.taken - 1;
         })))) self.new out.old out.new }
         ensures spent { vec_len out.new + owed self.new.live self.new.sets
@@ -138,7 +138,7 @@ impl Session {
             + owed self.old.live self.old.sets
             + 6 * (count_by is_held self.old.window.places + length self.old.waiting + 1) }
     {
-        self.window.pass(&request);
+        self.window.pass(request);
         let event = self.taken - 1;
         self.deliver(request, event, out);
     }
@@ -159,6 +159,8 @@ impl Session {
     }
 
     /// Runs the agenda: delivers each number that is due, and executes the functions that waited for it before.
+    // It is inlined: mostly nothing is due.
+    #[inline(always)]
     fn run_agenda(&mut self, out: &mut Vec<Effect>)
         requires room { vec_len out.old + owed self.old.live self.old.sets
             + 6 * (count_by is_held self.old.window.places + length self.old.waiting) ≤ vec_capacity out.old }
@@ -219,14 +221,14 @@ impl Session {
 
     /// Delivers a request that was held, apart from those that are delivered as they come.
     #[inline(never)]
-    fn deliver_apart(&mut self, request: Request, event: u64, out: &mut Vec<Effect>)
+    fn deliver_apart(&mut self, request: &Request, event: u64, out: &mut Vec<Effect>)
         requires space { HasRoom self.old.window }
-        requires numbered { is_immediate request ≡ false }
+        requires numbered { is_immediate request.now ≡ false }
         requires counted { self.old.entered + count_by is_some self.old.window.places < self.old.taken }
-        requires known { known_in (connection_of request) self.old.conns ≡ true }
+        requires known { known_in (connection_of request.now) self.old.conns ≡ true }
         requires room { vec_len out.old + owed self.old.live self.old.sets + 6 * count_by is_held self.old.window.places
             + 6 ≤ vec_capacity out.old }
-        ensures done { Takes (after_effect (Effect.Deliver request) (executed self.old request event)) self.new
+        ensures done { Takes (after_effect (Effect.Deliver request.now) (executed self.old request.now event)) self.new
             out.old out.new }
         ensures spent { vec_len out.new + owed self.new.live self.new.sets + 6 * count_by is_held self.new.window.places
             ≤ vec_len out.old + owed self.old.live self.old.sets + 6 * count_by is_held self.old.window.places + 6 }
@@ -251,7 +253,7 @@ impl Session {
             return false;
         };
         if let Some(HeldRequest { request, event }) = held {
-            self.deliver_apart(request, event, out);
+            self.deliver_apart(&request, event, out);
         }
         true
     }

@@ -57,7 +57,7 @@ impl Session {
     ///
     /// Rules: `command/no-tag`, `command/attribute`, `command/tag-in-use`, `command/no-unit`, `command/crowded`, `command/full`, `command/enters`.
     #[inline(always)]
-    fn decide_command(&self, request: &Request) -> Deed
+    pub(crate) fn decide_command(&self, request: &Request) -> Deed
         requires { known_in (connection_of request.now) self.now.conns ≡ true }
         ensures { result ≡ command_deed (facts_by self.now request.now) request.now }
     {

@@ -8,8 +8,9 @@ ghost use Rattle.iscsi_history.specs.rules.Settings.{is_known as known_in};
 ghost use Rattle.iscsi_history.specs.rules.Execution.{MOST_IMMEDIATE, attr_of as attr_named, reply_of};
 ghost use Rattle.iscsi_session.specs.private.Standing.{is_held};
 ghost use Rattle.iscsi_session.specs.private.Steps.{counted_on, after_effect, Takes, set_at, is_tag_kept, is_set_full, immediate_in, replied, request_answered, number_by, event_by, started, command_entered, owed};
-ghost use Rattle.iscsi_session.specs.private.Deeds.{Fits, IsReady, most_emptied, position_by, carried, executed};
+ghost use Rattle.iscsi_session.specs.private.Deeds.{Fits, IsReady, most_emptied, deed_by, position_by, carried, executed};
 
+use crate::opcode::Opcode;
 use crate::reason::Reason;
 use crate::session::management::COMPLETE;
 use crate::session::sets::CHECK_CONDITION;
@@ -35,21 +36,23 @@ impl Session {
     /// Executes the request of the number that has turned last, which arrived in this event.
     // It is inlined where a request is delivered as it comes: what it does is found in registers then.
     #[inline(always)]
-    pub(crate) fn deliver(&mut self, request: Request, event: u64, out: &mut Vec<Effect>)
+    pub(crate) fn deliver(&mut self, request: &Request, event: u64, out: &mut Vec<Effect>)
         requires space { HasRoom self.old.window }
-        requires numbered { is_immediate request ≡ false }
+        requires numbered { is_immediate request.now ≡ false }
         requires counted { self.old.entered + count_by is_some self.old.window.places < self.old.taken }
-        requires known { known_in (connection_of request) self.old.conns ≡ true }
+        requires known { known_in (connection_of request.now) self.old.conns ≡ true }
         requires room { vec_len out.old + owed self.old.live self.old.sets + 6 * count_by is_held self.old.window.places
             + 6 ≤ vec_capacity out.old }
-        ensures done { Takes (after_effect (Effect.Deliver request) (executed self.old request event)) self.new
+        ensures done { Takes (after_effect (Effect.Deliver request.now) (executed self.old request.now event)) self.new
             out.old out.new }
         ensures spent { vec_len out.new + owed self.new.live self.new.sets + 6 * count_by is_held self.new.window.places
             ≤ vec_len out.old + owed self.old.live self.old.sets + 6 * count_by is_held self.old.window.places + 6 }
         ensures waiting { length self.new.waiting ≤ length self.old.waiting }
     {
-        out.push_reserved(Effect::Deliver { request });
-        self.execute(&request, event, out);
+        out.push_reserved(Effect::Deliver {
+            request: copy_of(request),
+        });
+        self.execute(request, event, out);
     }
 
     /// Rejects a request for its opcode.
@@ -63,6 +66,7 @@ impl Session {
     }
 
     /// Executes a request that arrived in this event.
+    // A SCSI Command, which most are, has a way of its own: what it does stays in registers there.
     #[inline(always)]
     fn execute(&mut self, request: &Request, event: u64, out: &mut Vec<Effect>)
         requires space { is_immediate request.now ≡ false → HasRoom self.old.window }
@@ -77,7 +81,50 @@ impl Session {
             ≤ vec_len out.old + owed self.old.live self.old.sets + 6 * count_by is_held self.old.window.places + 5 }
         ensures waiting { length self.new.waiting ≤ length self.old.waiting }
     {
+        match Opcode::of(request) {
+            Opcode::ScsiCommand => {
+                let deed = self.decide_command(request);
+                self.execute_by(request, event, deed, out);
+            }
+            _ => self.execute_otherwise(request, event, out),
+        }
+    }
+
+    /// Executes a request of any opcode that arrived in this event.
+    #[inline(never)]
+    fn execute_otherwise(&mut self, request: &Request, event: u64, out: &mut Vec<Effect>)
+        requires space { is_immediate request.now ≡ false → HasRoom self.old.window }
+        requires turned { is_immediate request.now ≡ true →
+            self.old.window.turned + count_by is_some self.old.window.places < self.old.taken }
+        requires counted { self.old.entered + count_by is_some self.old.window.places < self.old.taken }
+        requires known { known_in (connection_of request.now) self.old.conns ≡ true }
+        requires room { vec_len out.old + owed self.old.live self.old.sets + 6 * count_by is_held self.old.window.places
+            + 5 ≤ vec_capacity out.old }
+        ensures done { Takes (executed self.old request.now event) self.new out.old out.new }
+        ensures spent { vec_len out.new + owed self.new.live self.new.sets + 6 * count_by is_held self.new.window.places
+            ≤ vec_len out.old + owed self.old.live self.old.sets + 6 * count_by is_held self.old.window.places + 5 }
+        ensures waiting { length self.new.waiting ≤ length self.old.waiting }
+    {
         let deed = self.decide(request);
+        self.execute_by(request, event, deed, out);
+    }
+
+    /// Executes a request that arrived in this event, which does this.
+    #[inline(always)]
+    fn execute_by(&mut self, request: &Request, event: u64, deed: Deed, out: &mut Vec<Effect>)
+        requires deed { deed ≡ deed_by self.old request.now }
+        requires space { is_immediate request.now ≡ false → HasRoom self.old.window }
+        requires turned { is_immediate request.now ≡ true →
+            self.old.window.turned + count_by is_some self.old.window.places < self.old.taken }
+        requires counted { self.old.entered + count_by is_some self.old.window.places < self.old.taken }
+        requires known { known_in (connection_of request.now) self.old.conns ≡ true }
+        requires room { vec_len out.old + owed self.old.live self.old.sets + 6 * count_by is_held self.old.window.places
+            + 5 ≤ vec_capacity out.old }
+        ensures done { Takes (executed self.old request.now event) self.new out.old out.new }
+        ensures spent { vec_len out.new + owed self.new.live self.new.sets + 6 * count_by is_held self.new.window.places
+            ≤ vec_len out.old + owed self.old.live self.old.sets + 6 * count_by is_held self.old.window.places + 5 }
+        ensures waiting { length self.new.waiting ≤ length self.old.waiting }
+    {
         let number = self.position(request);
         self.carry_out(request, number, event, deed, out);
     }
@@ -242,6 +289,14 @@ impl Session {
             0
         }
     }
+}
+
+/// A copy of a request. It is read as it was stored: a load that spans two stores waits for both.
+#[inline(always)]
+pub(crate) fn copy_of(request: &Request) -> Request
+    ensures { result ≡ request.now }
+{
+    Request::read(request.conn(), &request.bytes())
 }
 
 /// A command begins: it takes a place of the window, or counts among the immediate ones of its connection.

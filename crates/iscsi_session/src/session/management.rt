@@ -6,13 +6,13 @@ ghost use Rattle.iscsi_wire.specs.Fields.{connection_of, is_immediate};
 ghost use Rattle.iscsi_window.specs.Windows.{IsInside, place_in, held_at};
 ghost use Rattle.iscsi_tasks.specs.Sets.{is_covered};
 ghost use Rattle.iscsi_history.specs.rules.Settings.{is_known as known_in};
-ghost use Rattle.iscsi_history.specs.rules.Execution.{reply_of};
 ghost use Rattle.iscsi_session.specs.private.Standing.{is_held};
-ghost use Rattle.iscsi_session.specs.private.Steps.{KeepsPace, Takes, covers_ticket, left_answered, after_effect, number_voided, number_emptied, owed};
-ghost use Rattle.iscsi_session.specs.private.Deeds.{arrival_by, Fits, IsReady, most_emptied, next_waiting, function_taken, position_by, carried, immediate_taken};
+ghost use Rattle.iscsi_session.specs.private.Steps.{KeepsPace, Takes, covers_ticket, aborted, number_voided, number_emptied, owed};
+ghost use Rattle.iscsi_session.specs.private.Deeds.{arrival_by, Fits, IsReady, most_emptied, next_waiting, function_taken, done_at_once, immediate_taken};
 
 use crate::response::Response;
 use crate::session::Session;
+use crate::session::execution::copy_of;
 use crate::session::waiting::Waiting;
 use iscsi_history::{Answer, Deed, Effect};
 use iscsi_tasks::Cover;
@@ -23,24 +23,24 @@ pub(crate) const COMPLETE: Answer = Answer::Respond(Response::Complete as u8);
 
 impl Session {
     /// An immediate request executes, or is a function that waits.
-    pub(crate) fn receive_immediate(&mut self, request: Request, out: &mut Vec<Effect>)
-        requires immediate { is_immediate request ≡ true }
-        requires known { known_in (connection_of request) self.old.conns ≡ true }
+    pub(crate) fn receive_immediate(&mut self, request: &Request, out: &mut Vec<Effect>)
+        requires immediate { is_immediate request.now ≡ true }
+        requires known { known_in (connection_of request.now) self.old.conns ≡ true }
         requires turned { self.old.window.turned + count_by is_some self.old.window.places < self.old.taken }
         requires entered { self.old.entered + count_by is_some self.old.window.places < self.old.taken }
         requires waited { list_all (λ w. nat_lt (w.event + 1) self.old.taken) self.old.waiting ≡ true }
         requires room { vec_len out.old + owed self.old.live self.old.sets + 6 * count_by is_held self.old.window.places
             + 6 ≤ vec_capacity out.old }
-        ensures done { Takes (immediate_taken self.old request (arrival_by self.old request)) self.new out.old out.new }
+        ensures done { Takes (immediate_taken self.old request.now (arrival_by self.old request.now)) self.new out.old out.new }
         ensures pace { KeepsPace self.old.window self.new.window }
         ensures spent { vec_len out.new + owed self.new.live self.new.sets
             + 6 * (count_by is_held self.new.window.places + length self.new.waiting) ≤ vec_len out.old
             + owed self.old.live self.old.sets
             + 6 * (count_by is_held self.old.window.places + length self.old.waiting + 1) + 1 }
     {
-        match self.decide_arrival(&request) {
+        match self.decide_arrival(request) {
             Deed::Wait => self.wait(request, out),
-            deed => self.execute_at_once(&request, deed, out),
+            deed => self.execute_at_once(request, deed, out),
         }
     }
 
@@ -52,31 +52,32 @@ impl Session {
         requires taken { 0 < self.old.taken }
         requires room { vec_len out.old + owed self.old.live self.old.sets + most_emptied self.old deed + 5
             ≤ vec_capacity out.old }
-        ensures done { Takes (after_effect (Effect.Immediate request.now) (carried self.old request.now
-            (position_by self.old request.now) (self.old.taken - 1) deed)) self.new out.old out.new }
+        ensures done { Takes (done_at_once self.old request.now deed) self.new out.old out.new }
         ensures spent { vec_len out.new + owed self.new.live self.new.sets + count_by is_held self.new.window.places
             ≤ vec_len out.old + owed self.old.live self.old.sets + count_by is_held self.old.window.places + 5 }
     {
-        out.push_reserved(Effect::Immediate { request: *request });
+        out.push_reserved(Effect::Immediate {
+            request: copy_of(request),
+        });
         let number = self.position(request);
         let event = self.taken - 1;
         self.carry_out(request, number, event, deed, out);
     }
 
     /// A function waits for its number.
-    fn wait(&mut self, request: Request, out: &mut Vec<Effect>)
-        requires later { Fits self.old request Deed.Wait }
-        requires known { known_in (connection_of request) self.old.conns ≡ true }
+    fn wait(&mut self, request: &Request, out: &mut Vec<Effect>)
+        requires later { Fits self.old request.now Deed.Wait }
+        requires known { known_in (connection_of request.now) self.old.conns ≡ true }
         requires taken { 0 < self.old.taken }
         requires waited { list_all (λ w. nat_lt (w.event + 1) self.old.taken) self.old.waiting ≡ true }
         requires room { vec_len out.old + 1 ≤ vec_capacity out.old }
-        ensures done { Takes (immediate_taken self.old request Deed.Wait) self.new out.old out.new }
+        ensures done { Takes (immediate_taken self.old request.now Deed.Wait) self.new out.old out.new }
         ensures len { vec_len out.new ≡ vec_len out.old + 1 }
     {
-        out.push_reserved(Effect::Wait { request });
+        out.push_reserved(Effect::Wait { request: *request });
         let ahead = request.cmd_sn().wrapping_sub(self.window.exp());
         self.waiting.push(Waiting {
-            request,
+            request: *request,
             turn: self.window.turned() + u64::from(ahead),
             event: self.taken - 1,
         });
@@ -115,8 +116,7 @@ impl Session {
     )
         requires unit { unit < length self.old.sets }
         requires room { vec_len out.old + owed self.old.live self.old.sets + 1 ≤ vec_capacity out.old }
-        ensures done { Takes (left_answered self.old unit (is_covered cover) (connection_of request.now)
-            (reply_of request.now (Answer.Respond 0))) self.new out.old out.new }
+        ensures done { Takes (aborted self.old request.now unit (is_covered cover)) self.new out.old out.new }
         ensures spent { vec_len out.new + owed self.new.live self.new.sets ≤ vec_len out.old
             + owed self.old.live self.old.sets + 1 }
     {
@@ -136,8 +136,7 @@ impl Session {
     )
         requires unit { unit < length self.old.sets }
         requires room { vec_len out.old + owed self.old.live self.old.sets + 1 ≤ vec_capacity out.old }
-        ensures done { Takes (left_answered self.old unit (covers_ticket ticket) (connection_of request.now)
-            (reply_of request.now (Answer.Respond 0))) self.new out.old out.new }
+        ensures done { Takes (aborted self.old request.now unit (covers_ticket ticket)) self.new out.old out.new }
         ensures spent { vec_len out.new + owed self.new.live self.new.sets ≤ vec_len out.old
             + owed self.old.live self.old.sets + 1 }
     {

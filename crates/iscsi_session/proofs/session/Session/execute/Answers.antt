@@ -1,25 +1,6 @@
-use Rattle.std.proofs.Common.{rules, w64, ◌∙◌, arith}
-use Rattle.std.proofs.lemmas.Int.{to_z-of_z}
-use Rattle.iscsi_session.specs.private.Deeds.{deed_by}
-use Rattle.iscsi_session.proofs.DeedLemmas.{fits_deed, ready}
-use Rattle.iscsi_session.proofs.LoggedOutLemmas.{Stays}
-use Rattle.iscsi_session.proofs.DeedLemmas.{executed_stays}
+use Rattle.std.proofs.Common.{arith}
+use Rattle.std.proofs.lemmas.Bool.Decides.{nat_tests}
 use Rattle.iscsi_session.proofs.session.Session.execute.Goals as goal
 
-pub carry_out-requires-clause-fits : goal.carry_out-requires-clause-fits
-carry_out-requires-clause-fits c = rw c.decide-deed.ensures (fits_deed c.args.self.now c.args.request.now)
-
-pub carry_out-requires-clause-ready : goal.carry_out-requires-clause-ready
-carry_out-requires-clause-ready c =
-    rw c.decide-deed.ensures
-    (ready c.args.self.now c.args.request.now (deed_by c.args.self.now c.args.request.now) (fits_deed c.args.self.now c.args.request.now) c.requires.space c.requires.turned c.requires.counted c.requires.known)
-
-pub carry_out-requires-clause-number : goal.carry_out-requires-clause-number
-carry_out-requires-clause-number c = λ unit is. to_z-of_z w64 c.position-number.result (search rules) ∙ c.position-number.ensures
-
-pub returns : goal.returns
-returns c =
-    let number = to_z-of_z w64 c.position-number.result (search rules) in
-    let done = rw (number, c.decide-deed.ensures, c.position-number.ensures) at c.carry_out.ensures.done in
-    let stays : Stays 1 c.args.self.now c.carry_out.new.self = rw done.core (executed_stays c.args.self.now c.args.request.now c.args.event) in
-    record { done = done; spent = omega (arith, c.carry_out.ensures.spent, stays.held); waiting = stays.waiting }
+pub execute_by-requires-clause-deed : goal.execute_by-requires-clause-deed
+execute_by-requires-clause-deed c = grind (arith, nat_tests)

@@ -12,8 +12,8 @@ use Rattle.iscsi_session.proofs.session.Session.receive_immediate.Goals as goal
 use Rattle.iscsi_session.proofs.session.Session.receive_immediate.Goals.{After-decide_arrival}
 
 -- what it does fits
-fits : (c : After-decide_arrival) → Fits c.args.self.now c.args.request c.decide_arrival.result
-fits c = rw c.decide_arrival.ensures (fits_arrival c.args.self.now c.args.request)
+fits : (c : After-decide_arrival) → Fits c.args.self.now c.args.request.now c.decide_arrival.result
+fits c = rw c.decide_arrival.ensures (fits_arrival c.args.self.now c.args.request.now)
 
 emptied_most : (s : Core) (d : Deed) → most_emptied s d ≤ count_by is_held s.window.places
 emptied_most s (CloseConn conn) = omega arith
@@ -27,7 +27,7 @@ execute_at_once-requires c =
     let d = fits (goal.at.execute_at_once-requires c).After-decide_arrival in
     record {
       fits = d;
-      ready = ready c.args.self.now c.args.request c.decide_arrival.result d (λ no. absurd (false≢true (sym no ∙ c.requires.immediate))) (λ is. c.requires.turned) c.requires.entered c.requires.known;
+      ready = ready c.args.self.now c.args.request.now c.decide_arrival.result d (λ no. absurd (false≢true (sym no ∙ c.requires.immediate))) (λ is. c.requires.turned) c.requires.entered c.requires.known;
       taken = omega (arith, c.requires.turned);
       room = omega (arith, c.requires.room, emptied_most c.args.self.now c.decide_arrival.result);
     }
@@ -35,7 +35,7 @@ execute_at_once-requires c =
 pub returns-in_default : goal.returns-in_default
 returns-in_default c =
     let s : Core = c.args.self.now in
-    let r : Request = c.args.request in
+    let r : Request = c.args.request.now in
     let d : Deed = c.decide_arrival.result in
     let done = c.execute_at_once.ensures.done in
     let stays : Stays 0 s c.execute_at_once.new.self = rw done.core (at_once_stays s r d (fits (goal.at.returns-in_default c).After-decide_arrival) c.requires.immediate) in
