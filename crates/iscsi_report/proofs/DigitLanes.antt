@@ -138,3 +138,9 @@ halves_said front back v len long small is =
 pub numbers_of_header : (h : List ℕ) → (take 4 (take 16 (drop 16 h)) ≡ take 4 (drop 16 h)) × (take 4 (drop 8 (take 16 (drop 16 h))) ≡ take 4 (drop 24 h))
 numbers_of_header h =
     (take-take 4 16 (drop 16 h) (omega arith), ap (take 4) (drop-take 8 8 (drop 16 h)) ∙ take-take 4 8 (drop 8 (drop 16 h)) (omega arith) ∙ ap (take 4) (drop-drop 8 16 h))
+
+-- eight digits, and the end of the line
+pub with_end : (v : List ℕ) → length v ≡ 16
+    → take 9 (pick_l 0 (v ++ replicate 16 10) (0 ∷ 1 ∷ 2 ∷ 3 ∷ 4 ∷ 5 ∷ 6 ∷ 7 ∷ 16 ∷ 17 ∷ 18 ∷ 19 ∷ 20 ∷ 21 ∷ 22 ∷ 23 ∷ [])) ≡ take 8 v ++ 10 ∷ []
+with_end (a ∷ b ∷ c ∷ d ∷ e ∷ f ∷ g ∷ h ∷ i ∷ j ∷ k ∷ l ∷ m ∷ n ∷ o ∷ p ∷ []) len = refl
+with_end _ len = absurd (omega arith)

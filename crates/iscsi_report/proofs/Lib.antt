@@ -3,4 +3,5 @@ pub mod DigitLanes
 pub mod LineEnds
 mod DecimalLemmas
 mod EntryLemmas
+mod TensLemmas
 mod AnswerDigits

@@ -1,5 +1,5 @@
 -- Hexadecimal digits of bytes in two parts.
-use Rattle.std.proofs.Common.{◌≡◌, ℕ, List, [], ◌∷◌, ◌++◌, refl, ◌+◌, ap, sym, ◌∙◌, append_assoc}
+use Rattle.std.proofs.Common.{◌≡◌, ℕ, List, [], ◌∷◌, ◌++◌, ◌/◌, ◌%◌, slice_index, codes, refl, ◌+◌, ap, sym, ◌∙◌, append_assoc}
 use Rattle.hex.specs.Hex.{encode_with, lower_digits, encode_lower}
 use Rattle.iscsi_history.specs.declared.event.Event.{Event}
 use Rattle.iscsi_history.specs.declared.entry.Entry.{Entry}
@@ -9,6 +9,17 @@ use Rattle.iscsi_history.specs.rules.Run.{after_event, entry_of, entries_from, r
 use Rattle.iscsi_report.specs.Lines.{event_line, entry_lines, report_from}
 use Rattle.std.proofs.lemmas.List.{append-nil}
 use Rattle.iscsi_history.proofs.RunLemmas.{run_of-push}
+
+-- the digits of a byte, and those of two with fixed ones between them
+pub pair : (b x y : ℕ) → x ≡ slice_index lower_digits (b / 16) → y ≡ slice_index lower_digits (b % 16) → x ∷ y ∷ [] ≡ encode_lower (b ∷ [])
+unfolding encode_with
+pair b x y e f = rw (e, f) refl
+
+pub kind : (opcode response a b c d : ℕ) → a ≡ slice_index lower_digits (opcode / 16) → b ≡ slice_index lower_digits (opcode % 16)
+    → c ≡ slice_index lower_digits (response / 16) → d ≡ slice_index lower_digits (response % 16)
+    → a ∷ b ∷ 56 ∷ 48 ∷ c ∷ d ∷ [] ≡ encode_lower (opcode ∷ []) ++ (codes "80" ++ encode_lower (response ∷ []))
+unfolding encode_with
+kind opcode response a b c d p q r s = rw (p, q, r, s) refl
 
 encode_with-append : (t a b : List ℕ) → encode_with t (a ++ b) ≡ encode_with t a ++ encode_with t b
 unfolding encode_with

@@ -8,9 +8,10 @@ ghost use Rattle.iscsi_report.specs.Lines.{eight_digits, request_fields, enter_f
 
 use crate::decimal::{put_again, put_number, put_small, put_small_and_blank};
 use crate::line::{
-    put_byte, put_bytes, put_digits, put_first_eight, put_header, put_last_eight, put_sixteen,
-    put_text, put_two_numbers,
+    put_byte, put_bytes, put_digits, put_first_eight, put_header, put_kind, put_last_eight,
+    put_sixteen, put_text, put_two_numbers,
 };
+use crate::tens::Tens;
 use crate::vector::digits_of_four;
 use iscsi_history::{Effect, Numbers, Why};
 use iscsi_tasks::Attr;
@@ -25,7 +26,13 @@ const TASK_RESPONSE: u8 = 0x22;
 ///
 /// A word that is written often is an array first, which the compiler knows not to overlap the line.
 #[inline(always)]
-pub fn write_effect(effect: &Effect, numbers: Numbers, line: &mut [u8], at: usize) -> usize
+pub fn write_effect(
+    effect: &Effect,
+    numbers: Numbers,
+    entered: &mut Tens,
+    line: &mut [u8],
+    at: usize,
+) -> usize
     requires { at + 256 ≤ length line.old }
     ensures end { result ≤ at + 256 }
     ensures written { take result line.new ≡ take at line.old ++ effect_line effect.now numbers }
@@ -36,7 +43,9 @@ pub fn write_effect(effect: &Effect, numbers: Numbers, line: &mut [u8], at: usiz
         Effect::Wait { request } => write_request(b"  wait ", request, line, at),
         Effect::Void { sn } => write_place(b"  void ", *sn, line, at),
         Effect::Empty { sn } => write_place(b"  empty ", *sn, line, at),
-        Effect::Enter { ticket, unit, attr } => { write_enter(*ticket, *unit, *attr, line, at).1 }
+        Effect::Enter { ticket, unit, attr } => {
+            write_enter(*ticket, *unit, *attr, entered, line, at).1
+        }
         Effect::Enable { ticket, .. } => write_enable(*ticket, line, at),
         Effect::Leave { ticket, .. } => write_leave(*ticket, line, at),
         Effect::Send {
@@ -110,8 +119,7 @@ fn write_request(word: &[u8], request: &Request, line: &mut [u8], at: usize) -> 
 {
     let at = put_text(word, line, at);
     let at = put_small_and_blank(request.conn(), line, at);
-    let at = put_two_numbers(&request.bytes()[16..32], line, at);
-    put_text(b"\n", line, at)
+    put_two_numbers(&request.bytes()[16..32], line, at)
 }
 
 /// A word and a CmdSN.
@@ -190,7 +198,14 @@ fn write_closing(conn: u16, line: &mut [u8], at: usize) -> usize
 /// The line of a command that enters the task set of a unit. It says first where the ticket ends, whose digits begin
 /// behind eight bytes.
 #[inline(always)]
-pub fn write_enter(ticket: u64, unit: u16, attr: Attr, line: &mut [u8], at: usize) -> (usize, usize)
+pub fn write_enter(
+    ticket: u64,
+    unit: u16,
+    attr: Attr,
+    entered: &mut Tens,
+    line: &mut [u8],
+    at: usize,
+) -> (usize, usize)
     requires { at + 256 ≤ length line.old }
     ensures ticket { (at + 8 ≤ result.0) × (result.0 ≤ at + 28)
         × (drop (at + 8) (take result.0 line.new) ≡ decimal ticket) }
@@ -199,7 +214,7 @@ pub fn write_enter(ticket: u64, unit: u16, attr: Attr, line: &mut [u8], at: usiz
         ++ (codes "  enter " ++ (enter_fields ticket unit attr ++ codes "\n")) }
 {
     let at = put_text(b"  enter ", line, at);
-    let ticket_end = put_number(ticket, line, at);
+    let ticket_end = entered.put(ticket, line, at);
     let at = put_text(b" ", line, ticket_end);
     let at = put_small(unit, line, at);
     (ticket_end, put_attr(attr, line, at))
@@ -311,13 +326,10 @@ fn write_answer(
 {
     let (front, back) = digits_of_four(itt, stat_sn, numbers.exp, numbers.max);
     let word = *b"  send ";
-    let flags = *b"80";
     let zeros = *b"000000000000000000000000\n";
     let at = put_text(&word, line, at);
     let at = put_small_and_blank(conn, line, at);
-    let at = put_byte(opcode, line, at);
-    let at = put_text(&flags, line, at);
-    let at = put_byte(response, line, at);
+    let at = put_kind(opcode, response, line, at);
     let at = put_byte(status, line, at);
     let at = put_text(&zeros[..24], line, at);
     let at = put_first_eight(front, line, at);

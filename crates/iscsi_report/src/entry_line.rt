@@ -9,6 +9,7 @@ use crate::effect_line::{
     write_ticket_again,
 };
 use crate::event_line::{write_arrival, write_completion};
+use crate::tens::Tens;
 use iscsi_history::{Effect, Event, Numbers};
 
 /// Writes the lines of an event that ended with these numbers, and of its effects.
@@ -17,6 +18,8 @@ pub fn write_entry(
     event: &Event,
     numbers: Numbers,
     effects: &[Effect],
+    entered: &mut Tens,
+    completed: &mut Tens,
     line: &mut [u8],
     at: usize,
 ) -> usize
@@ -28,10 +31,12 @@ pub fn write_entry(
     match event {
         Event::Arrive { conn, header } => {
             let at = write_arrival(*conn, header, line, at);
-            write_effects(effects, numbers, line, at)
+            write_effects(effects, numbers, entered, line, at)
         }
         Event::Done { ticket, status } => {
-            write_done(*ticket, *status, effects, numbers, line, at)
+            write_done(
+                *ticket, *status, effects, numbers, entered, completed, line, at,
+            )
         }
     }
 }
@@ -42,6 +47,8 @@ fn write_done(
     status: u8,
     effects: &[Effect],
     numbers: Numbers,
+    entered: &mut Tens,
+    completed: &mut Tens,
     line: &mut [u8],
     at: usize,
 ) -> usize
@@ -50,9 +57,9 @@ fn write_done(
     ensures written { take result line.new ≡ take at line.old
         ++ (event_line (Event.Done ticket status) ++ flat_map (λ effect. effect_line effect numbers) effects.now) }
 {
-    let (ticket_end, end) = write_completion(ticket, status, line, at);
+    let (ticket_end, end) = write_completion(ticket, status, completed, line, at);
     let (count, end) = write_response(ticket, at + 4, ticket_end, effects, numbers, line, end);
-    write_effects(&effects[count..], numbers, line, end)
+    write_effects(&effects[count..], numbers, entered, line, end)
 }
 
 /// Writes the lines of the first effects of a completion if they are that the command leaves and a response goes out,
@@ -98,7 +105,13 @@ fn write_response(
 
 /// Writes the lines of effects.
 #[inline(always)]
-fn write_effects(effects: &[Effect], numbers: Numbers, line: &mut [u8], at: usize) -> usize
+fn write_effects(
+    effects: &[Effect],
+    numbers: Numbers,
+    entered: &mut Tens,
+    line: &mut [u8],
+    at: usize,
+) -> usize
     requires { at + 256 * length effects.now ≤ length line.old }
     ensures end { result ≤ at + 256 * length effects.now }
     ensures written { take result line.new ≡ take at line.old
@@ -110,12 +123,18 @@ fn write_effects(effects: &[Effect], numbers: Numbers, line: &mut [u8], at: usiz
     if let [Effect::Ignore { why }] = effects {
         return write_ignore(*why, line, at);
     }
-    write_all(effects, numbers, line, at)
+    write_all(effects, numbers, entered, line, at)
 }
 
 /// The same. It is apart, since many events have no effects, or none that is left, or are passed over.
 #[inline(never)]
-fn write_all(effects: &[Effect], numbers: Numbers, line: &mut [u8], at: usize) -> usize
+fn write_all(
+    effects: &[Effect],
+    numbers: Numbers,
+    entered: &mut Tens,
+    line: &mut [u8],
+    at: usize,
+) -> usize
     requires { at + 256 * length effects.now ≤ length line.old }
     ensures end { result ≤ at + 256 * length effects.now }
     ensures written { take result line.new ≡ take at line.old
@@ -124,7 +143,7 @@ fn write_all(effects: &[Effect], numbers: Numbers, line: &mut [u8], at: usize) -
     let mut rest = effects;
     let mut end = at;
     'effects: while !rest.is_empty() {
-        let (count, next) = write_first(rest, numbers, line, end);
+        let (count, next) = write_first(rest, numbers, entered, line, end);
         rest = &rest[count..];
         end = next;
     }
@@ -134,7 +153,13 @@ fn write_all(effects: &[Effect], numbers: Numbers, line: &mut [u8], at: usize) -
 /// Writes the lines of the first effects, and says how many and where they end. Mostly a command is delivered, enters,
 /// and is enabled at once.
 #[inline(always)]
-fn write_first(effects: &[Effect], numbers: Numbers, line: &mut [u8], at: usize) -> (usize, usize)
+fn write_first(
+    effects: &[Effect],
+    numbers: Numbers,
+    entered: &mut Tens,
+    line: &mut [u8],
+    at: usize,
+) -> (usize, usize)
     requires some { 0 < length effects.now }
     requires room { at + 256 * length effects.now ≤ length line.old }
     ensures count { (0 < result.0) × (result.0 ≤ length effects.now) }
@@ -153,12 +178,12 @@ fn write_first(effects: &[Effect], numbers: Numbers, line: &mut [u8], at: usize)
     ] = effects
     {
         let at = write_deliver(request, line, at);
-        let (ticket_end, end) = write_enter(*ticket, *unit, *attr, line, at);
+        let (ticket_end, end) = write_enter(*ticket, *unit, *attr, entered, line, at);
         if *enabled != *ticket {
             return (3, write_enable(*enabled, line, end));
         }
         let word = *b"  enable ";
         return (3, write_ticket_again(&word, at + 8, ticket_end, line, end));
     }
-    (1, write_effect(&effects[0], numbers, line, at))
+    (1, write_effect(&effects[0], numbers, entered, line, at))
 }

@@ -8,6 +8,7 @@ mod entry_line;
 mod event_line;
 mod line;
 mod lines;
+mod tens;
 mod vector;
 
 pub use lines::{LONGEST_LINE, Lines, put_effect, put_event};

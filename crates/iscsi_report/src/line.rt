@@ -36,19 +36,19 @@ pub fn put_digits(n: u32, line: &mut [u8], at: usize) -> usize
 }
 
 /// Writes the number that begins at byte 8 and the one that begins at byte 0, in eight digits each, with a blank
-/// between them.
+/// between them and the end of the line behind them.
 #[inline(always)]
 pub fn put_two_numbers(bytes: &[u8], line: &mut [u8], at: usize) -> usize
     requires { (length bytes.now ≡ 16) × (at + 25 ≤ length line.old) }
-    ensures end { result ≡ at + 17 }
+    ensures end { result ≡ at + 18 }
     ensures written { take result line.new ≡ take at line.old
         ++ (eight_digits (big_endian_from 0 (take 4 (drop 8 bytes.now)))
-        ++ (codes " " ++ eight_digits (big_endian_from 0 (take 4 bytes.now)))) }
+        ++ (codes " " ++ (eight_digits (big_endian_from 0 (take 4 bytes.now)) ++ codes "\n"))) }
 {
     let (second, first) = digits_of(u8x16::from_slice(bytes));
     let at = put_first_eight(first, line, at);
     let at = put_text(b" ", line, at);
-    put_first_eight(second, line, at)
+    put_eight_and_end(second, line, at)
 }
 
 /// Writes the first eight of these.
@@ -60,6 +60,23 @@ pub fn put_first_eight(digits: u8x16, line: &mut [u8], at: usize) -> usize
 {
     put_text(&digits.to_array(), line, at);
     at + 8
+}
+
+/// Writes the first eight of these, and the end of the line.
+#[inline(always)]
+fn put_eight_and_end(digits: u8x16, line: &mut [u8], at: usize) -> usize
+    requires { (length digits ≡ 16) × (at + 16 ≤ length line.old) }
+    ensures end { result ≡ at + 9 }
+    ensures written { take result line.new ≡ take at line.old ++ (take 8 digits ++ codes "\n") }
+{
+    // The end is put into the vector, since the compiler would take this one apart where a byte is written over it.
+    let line_ends = u8x16::splat(b'\n');
+    let text = digits.shuffle(
+        line_ends,
+        [0, 1, 2, 3, 4, 5, 6, 7, 16, 17, 18, 19, 20, 21, 22, 23],
+    );
+    put_text(&text.to_array(), line, at);
+    at + 9
 }
 
 /// Writes the last eight of these.
@@ -82,14 +99,36 @@ pub fn put_sixteen(digits: u8x16, line: &mut [u8], at: usize) -> usize
     put_text(&digits.to_array(), line, at)
 }
 
-/// Writes the digits of a byte.
+/// Writes the digits of a byte that is mostly 0, as a status.
 #[inline(always)]
 pub fn put_byte(byte: u8, line: &mut [u8], at: usize) -> usize
     requires { at + 2 ≤ length line.old }
     ensures end { result ≡ at + 2 }
     ensures written { take result line.new ≡ take at line.old ++ encode_lower (byte ∷ []) }
 {
+    if byte == 0 {
+        return put_text(&[b'0', b'0'], line, at);
+    }
     put_text(&[digit(byte >> 4), digit(byte & 0x0f)], line, at)
+}
+
+/// Writes the digits of the first three bytes of a response, the second of which is 80.
+#[inline(always)]
+pub fn put_kind(opcode: u8, response: u8, line: &mut [u8], at: usize) -> usize
+    requires { at + 6 ≤ length line.old }
+    ensures end { result ≡ at + 6 }
+    ensures written { take result line.new ≡ take at line.old
+        ++ (encode_lower (opcode ∷ []) ++ (codes "80" ++ encode_lower (response ∷ []))) }
+{
+    let digits = [
+        digit(opcode >> 4),
+        digit(opcode & 0x0f),
+        b'8',
+        b'0',
+        digit(response >> 4),
+        digit(response & 0x0f),
+    ];
+    put_text(&digits, line, at)
 }
 
 /// Writes the digits of a header.

@@ -6,6 +6,7 @@ ghost use Rattle.iscsi_report.specs.Lines.{event_line, effect_line, entry_lines}
 use crate::effect_line::write_effect;
 use crate::entry_line::write_entry;
 use crate::event_line::write_event;
+use crate::tens::Tens;
 use iscsi_history::{Effect, Event, Numbers};
 use std::alloc::{AllocError, Global};
 use std::marker::Model;
@@ -20,6 +21,10 @@ const GROWTH: usize = 65_536;
 pub struct Lines {
     memory: Vec<u8>,
     len: usize,
+    /// The digits of the ticket of the command that entered last.
+    entered: Tens,
+    /// Those of the ticket of a command that was completed.
+    completed: Tens,
 }
 
 impl Drop for Lines {
@@ -27,6 +32,8 @@ impl Drop for Lines {
         let Lines {
             memory: _memory,
             len: _len,
+            entered: _entered,
+            completed: _completed,
         } = self;
     }
 }
@@ -49,6 +56,8 @@ impl Lines {
         Lines {
             memory: Vec::new(alloc),
             len: 0,
+            entered: Tens::new(),
+            completed: Tens::new(),
         }
     }
 
@@ -71,6 +80,8 @@ impl Lines {
         ensures { self.new ≡ [] }
     {
         self.len = 0;
+        // Once in a while, so that the digits are found again where tickets come in order after others that didn't.
+        self.completed.take_any();
     }
 
     /// Puts the line of an event behind the others. On `Err`, where memory is refused, they stay as they were.
@@ -80,7 +91,7 @@ impl Lines {
         ensures err { OnErr result (self.new ≡ self.old) }
     {
         make_room(&mut self.memory, self.len)?;
-        self.len = write_event(event, &mut self.memory, self.len);
+        self.len = write_event(event, &mut self.completed, &mut self.memory, self.len);
         Ok(())
     }
 
@@ -92,7 +103,13 @@ impl Lines {
         ensures err { OnErr result (self.new ≡ self.old) }
     {
         make_room(&mut self.memory, self.len)?;
-        self.len = write_effect(effect, numbers, &mut self.memory, self.len);
+        self.len = write_effect(
+            effect,
+            numbers,
+            &mut self.entered,
+            &mut self.memory,
+            self.len,
+        );
         Ok(())
     }
 
@@ -113,7 +130,15 @@ impl Lines {
         if effects.len() >= (self.memory.len() - self.len) / LONGEST_LINE {
             return self.put_all_or_none(event, numbers, effects);
         }
-        self.len = write_entry(event, numbers, effects, &mut self.memory, self.len);
+        self.len = write_entry(
+            event,
+            numbers,
+            effects,
+            &mut self.entered,
+            &mut self.completed,
+            &mut self.memory,
+            self.len,
+        );
         Ok(())
     }
 
@@ -187,7 +212,7 @@ pub fn put_event(event: &Event, out: &mut Vec<u8>) -> Result<(), AllocError>
     ensures room { vec_len out.old + LONGEST_LINE ≤ vec_capacity out.old → IsOk result }
 {
     let mut line = [0u8; LONGEST_LINE];
-    let end = write_event(event, &mut line, 0);
+    let end = write_event(event, &mut Tens::fixed(), &mut line, 0);
     out.extend_from_slice(&line[..end])
 }
 
@@ -199,6 +224,6 @@ pub fn put_effect(effect: &Effect, numbers: Numbers, out: &mut Vec<u8>) -> Resul
     ensures room { vec_len out.old + LONGEST_LINE ≤ vec_capacity out.old → IsOk result }
 {
     let mut line = [0u8; LONGEST_LINE];
-    let end = write_effect(effect, numbers, &mut line, 0);
+    let end = write_effect(effect, numbers, &mut Tens::fixed(), &mut line, 0);
     out.extend_from_slice(&line[..end])
 }

@@ -4,7 +4,7 @@ use Rattle.iscsi_report.proofs.event_line.write_completion.Goals as goal
 
 pub returns-clause-ticket : goal.returns-clause-ticket
 returns-clause-ticket c =
-    let number = c.put_number-ticket_end in
+    let number = c.put-ticket_end in
     let behind : c.args.at + 4 ≡ c.put_text-at.result = omega arith in
     let blank = kept c.put_text-at-2.new.line number.new.line _ number.result number.result c.put_text-at-2.result c.put_text-at-2.ensures.written
     (omega arith) (omega arith) (omega arith) in
