@@ -13,3 +13,4 @@ mod DigitTable
 mod DigitSteps
 mod FirstLemmas
 mod FrontLemmas
+mod EightLemmas

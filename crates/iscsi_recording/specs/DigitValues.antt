@@ -1,5 +1,5 @@
--- Values of hexadecimal digits.
-use Rattle.std.specs.Prelude.{◌≡◌, ℕ, ◌+◌, ◌*◌, ◌<◌, List, [], ◌∷◌, length, slice_index, None, Some, MatchOption}
+-- Values of digits.
+use Rattle.std.specs.Prelude.{◌≡◌, ℕ, zero, suc, ◌+◌, ◌*◌, ◌<◌, List, [], ◌∷◌, length, slice_index, None, Some, MatchOption}
 use Rattle.hex.specs.Hex.{hex_digit_value}
 
 -- the value of the digit c, or 16 or more where c is none
@@ -21,3 +21,8 @@ abbrev pub paired : List ℕ → List ℕ
 paired [] = []
 paired (high ∷ []) = []
 paired (high ∷ low ∷ rest) = (high * 16 + low) ∷ paired rest
+
+-- the number of the first k digits, whose values these are
+abbrev pub number_of : List ℕ → ℕ → ℕ
+number_of values zero = 0
+number_of values (suc k) = number_of values k * 10 + slice_index values k

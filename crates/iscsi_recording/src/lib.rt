@@ -4,6 +4,7 @@
 
 mod bytes;
 mod conns;
+mod eight;
 mod event_source;
 mod events;
 mod fault;

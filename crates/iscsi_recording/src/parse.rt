@@ -8,7 +8,8 @@ ghost use Rattle.iscsi_recording.specs.DigitValues.{IsValue, HasNonDigit, AreVal
 ghost use Rattle.iscsi_recording.specs.Grammar.{arrival_of, completion_of, event_of, connection_of, line_of};
 ghost use Rattle.iscsi_recording.specs.Fronts.{FirstSays};
 
-use crate::fronts::{cid_first, number_first};
+use crate::eight::{TICKET_DIGITS, common_ticket};
+use crate::fronts::cid_first;
 use crate::line::Line;
 use iscsi_history::Event;
 
@@ -194,9 +195,6 @@ pub fn arrival(bytes: &[u8]) -> Option<Event>
     Some(Event::Arrive { conn, header })
 }
 
-/// How many digits a ticket has at most in its common form.
-const TICKET_DIGITS: usize = 18;
-
 /// How many bytes the shortest line of an arrival has, and the longest of a completion in its common form.
 const SHORTEST_ARRIVAL: usize = 2 + 1 + 1 + 96;
 
@@ -249,7 +247,7 @@ pub fn first_completion(bytes: &[u8]) -> Option<(u64, u8, usize)>
         return None;
     }
     let rest = &bytes[2..];
-    let ticket = number_first(rest, TICKET_DIGITS)?;
+    let ticket = common_ticket(rest)?;
     if rest[ticket.1 + 3] != b'\n' {
         return None;
     }
