@@ -16,6 +16,9 @@ pub(crate) const FIRST_UNIT: usize = 64;
 
 const WORDS: usize = 5;
 
+// The word of the bells behind those of the rings.
+const ANY: usize = WORDS;
+
 /// A set of numbers below `MOST_RINGS`.
 pub(crate) struct Marks {
     words: [u64; WORDS],
@@ -81,9 +84,10 @@ impl Marks {
     }
 }
 
-/// A bit for each ring, set by whoever put something in since the loop last looked.
+/// A bit for each ring, set by whoever put something in since the loop last looked. The last word isn't 0 where one of
+/// them was set: it is set after the bit, and silenced before the bits are looked at, so none of them is passed over.
 pub(crate) struct Bells {
-    words: [AtomicU64; WORDS],
+    words: [AtomicU64; WORDS + 1],
 }
 
 impl Drop for Bells {
@@ -102,12 +106,17 @@ impl Bells {
                 AtomicU64::new(0),
                 AtomicU64::new(0),
                 AtomicU64::new(0),
+                AtomicU64::new(0),
             ],
         }
     }
 
     /// Marks the rings whose bell rang, and silences them.
     pub(crate) fn hear(&self, marks: &mut Marks) {
+        if self.words[ANY].load(Ordering::SeqCst) == 0 {
+            return;
+        }
+        self.words[ANY].store(0, Ordering::SeqCst);
         for word in 0..WORDS {
             if self.words[word].load(Ordering::SeqCst) != 0 {
                 marks.words[word] |= self.words[word].swap(0, Ordering::SeqCst);
@@ -135,9 +144,13 @@ impl Bell {
     /// Rings, after something was put into the ring.
     pub(crate) fn ring(&self) {
         let word = &self.bells.words[self.number / 64];
+        let any = &self.bells.words[ANY];
         let bit = 1 << (self.number % 64);
         if word.load(Ordering::SeqCst) & bit == 0 {
             word.fetch_or(bit, Ordering::SeqCst);
+            if any.load(Ordering::SeqCst) == 0 {
+                any.store(1, Ordering::SeqCst);
+            }
         }
     }
 }

@@ -2,7 +2,7 @@
 
 ghost use Rattle.std.specs.Prelude.{◌≡◌, ◌+◌, ◌≤◌, ◌++◌, length, position};
 ghost use Rattle.std.specs.VecDeque.{deque_len, deque_capacity};
-ghost use Rattle.iscsi_threads.specs.Desks.{is_for, seen, jobs_from, known_after, InOrderOfTickets, EnterAbove};
+ghost use Rattle.iscsi_threads.specs.Desks.{is_for, job_for, seen, jobs_from, known_after, InOrderOfTickets, EnterAbove};
 
 use crate::job::Job;
 use iscsi_session::{Attr, Effect};
@@ -33,8 +33,51 @@ fn place_of(jobs: &VecDeque<Job>, ticket: u64) -> Option<usize>
     jobs.binary_search_by_key(&ticket, |job| job.ticket).ok()
 }
 
-/// Notes the effects of an event, and puts the jobs of the commands that became enabled behind the fresh ones.
+// The job of a command that enters as this request executes.
+fn job_of(request: &Request, ticket: u64, unit: u16, attr: Attr) -> Job
+    ensures { result ≡ job_for request.now ticket unit attr }
+{
+    Job {
+        ticket,
+        unit,
+        itt: request.itt(),
+        attr,
+        cdb: request.cdb(),
+    }
+}
+
+/// Notes the effects of an event, and puts the jobs of the commands that became enabled behind the fresh ones. Those of
+/// the two commonest events are noted straight: the job of a command that is enabled as it enters never waits.
 pub(crate) fn note_all(desk: &mut Desk, fresh: &mut VecDeque<Job>, effects: &[Effect])
+    requires desk { deque_len desk.old.dormant + length effects.now ≤ deque_capacity desk.old.dormant }
+    requires fresh { deque_len fresh.old + length effects.now ≤ deque_capacity fresh.old }
+    requires numbered { EnterAbove (seen desk.old) effects.now }
+    ensures jobs { fresh.new.items ≡ fresh.old.items ++ jobs_from (seen desk.old) effects.now }
+    ensures known { seen desk.new ≡ known_after (seen desk.old) effects.now }
+{
+    if let [Effect::Leave { ticket, .. }, Effect::Send { .. }] = effects {
+        desk.forget(*ticket);
+        return;
+    }
+    if let [first, second, third] = effects
+        && let Effect::Deliver { request } = first
+        && let Effect::Enter { ticket, unit, attr } = second
+        && let Effect::Enable {
+            ticket: enabled,
+            ..
+        } = third
+        && *enabled == *ticket
+    {
+        desk.last = Some(*request);
+        fresh.push_back_reserved(job_of(request, *ticket, *unit, *attr));
+        return;
+    }
+    note_each(desk, fresh, effects);
+}
+
+// Notes the effects of any event, one by one.
+#[inline(never)]
+fn note_each(desk: &mut Desk, fresh: &mut VecDeque<Job>, effects: &[Effect])
     requires desk { deque_len desk.old.dormant + length effects.now ≤ deque_capacity desk.old.dormant }
     requires fresh { deque_len fresh.old + length effects.now ≤ deque_capacity fresh.old }
     requires numbered { EnterAbove (seen desk.old) effects.now }
@@ -67,6 +110,19 @@ impl Desk {
         self.dormant.remove(at)
     }
 
+    // Drops the job of this ticket. Mostly none waits, since the command was enabled before it leaves.
+    fn forget(&mut self, ticket: u64)
+        requires { InOrderOfTickets self.old.dormant.items }
+        ensures dormant { self.new.dormant.items ≡ without ticket self.old.dormant.items }
+        ensures last { self.new.last ≡ self.old.last }
+        ensures len { deque_len self.new.dormant ≤ deque_len self.old.dormant }
+        ensures capacity { deque_capacity self.new.dormant ≡ deque_capacity self.old.dormant }
+    {
+        if !self.dormant.is_empty() {
+            self.take(ticket);
+        }
+    }
+
     // A command enters as the last request executes.
     fn enter(&mut self, ticket: u64, unit: u16, attr: Attr)
         requires { deque_len self.old.dormant + 1 ≤ deque_capacity self.old.dormant }
@@ -75,13 +131,8 @@ impl Desk {
         ensures capacity { deque_capacity self.new.dormant ≡ deque_capacity self.old.dormant }
     {
         if let Some(request) = self.last {
-            self.dormant.push_back_reserved(Job {
-                ticket,
-                unit,
-                itt: request.itt(),
-                attr,
-                cdb: request.cdb(),
-            });
+            self.dormant
+                .push_back_reserved(job_of(&request, ticket, unit, attr));
         }
     }
 
@@ -105,7 +156,7 @@ impl Desk {
             }
             Effect::Enable { ticket, .. } => self.take(ticket),
             Effect::Leave { ticket, .. } => {
-                self.take(ticket);
+                self.forget(ticket);
                 None
             }
             _ => None,

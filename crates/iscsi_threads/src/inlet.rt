@@ -3,6 +3,7 @@
 ghost use Rattle.std.specs.Prelude.{◌≡◌};
 ghost use Rattle.rtrb.specs.Ring.{consumer_capacity};
 
+use iscsi_session::Event;
 use rtrb::Consumer;
 
 /// The loop's end of a connection's ring of headers.
@@ -18,18 +19,23 @@ impl Drop for Inlet {
 }
 
 impl Inlet {
-    ghost use Rattle.std.specs.Prelude.{◌≡◌, ◌++◌, ◌∷◌, [], IfSome, IfNone};
+    ghost use Rattle.std.specs.Prelude.{◌≡◌, ◌++◌, ◌∷◌, [], ℕ, List, IfSome, IfNone};
+    ghost use Rattle.iscsi_history.specs.declared.event.Event.TheVariants.{Arrive};
     ghost use Rattle.iscsi_threads.specs.Outlets.{got, inlet_ring};
 
-    /// Takes a header.
-    pub(crate) fn hear(&mut self) -> Option<[u8; 48]>
-        ensures some { IfSome result (λ x. got self.new ≡ got self.old ++ x ∷ []) }
+    /// Takes a header, and writes the event of its arrival on this connection. Whether the ring has more.
+    pub(crate) fn hear(&mut self, conn: u16, event: &mut Event) -> Option<bool>
+        ensures some { IfSome result (λ _. (x : List ℕ) × (event.new ≡ Arrive conn x)
+            × (got self.new ≡ got self.old ++ x ∷ [])) }
         ensures none { IfNone result (got self.new ≡ got self.old) }
         ensures ring { inlet_ring self.new ≡ inlet_ring self.old }
     {
         if self.headers.is_empty() {
             return None;
         }
-        Some(self.headers.pop_known())
+        let header = *self.headers.peek_known();
+        *event = Event::Arrive { conn, header };
+        self.headers.pop_known();
+        Some(!self.headers.is_empty())
     }
 }

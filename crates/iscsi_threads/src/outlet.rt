@@ -4,6 +4,7 @@ ghost use Rattle.std.specs.Prelude.{◌≡◌};
 ghost use Rattle.rtrb.specs.Ring.{consumer_capacity};
 
 use crate::job::{Answer, Job};
+use iscsi_session::Event;
 use rtrb::{Consumer, Producer};
 use std::collections::VecDeque;
 
@@ -26,7 +27,11 @@ impl Drop for Outlet {
 }
 
 impl Outlet {
-    ghost use Rattle.std.specs.Prelude.{◌≡◌, ℕ, ◌+◌, ◌++◌, ◌∷◌, [], OnOk, IfSome, IfNone, IfErr};
+    ghost use Rattle.std.specs.Prelude.{◌≡◌, ℕ, ◌<◌, ◌+◌, ◌++◌, ◌∷◌, [], false, IsTrue, OnOk, IfSome, IfNone, IfErr};
+    ghost use Rattle.std.specs.VecDeque.{deque_len};
+    ghost use Rattle.iscsi_threads.specs.declared.job.Job.{Job};
+    ghost use Rattle.iscsi_history.specs.declared.event.Event.TheVariants.{Done};
+    ghost use Rattle.iscsi_threads.specs.Ports.{Answer};
     ghost use Rattle.iscsi_threads.specs.Outlets.{given, heard, outlet_rings, SameOutlet};
 
     /// Moves what fits from the backlog into the ring. Whether jobs are left in the backlog.
@@ -43,6 +48,28 @@ impl Outlet {
             self.jobs.push_reserved(job);
         }
         false
+    }
+
+    /// Moves the first of these jobs behind the others, where it can go straight into the ring: no job waits, and the ring
+    /// has a place. Whether it did. It isn't handed on by way of an answer, which would cost a copy of each of its parts.
+    pub(crate) fn take_first(&mut self, fresh: &mut VecDeque<Job>) -> bool
+        requires { 0 < deque_len fresh.old }
+        ensures moved { IsTrue result → (job : Job) × (fresh.old.items ≡ job ∷ fresh.new.items)
+            × (given self.new ≡ given self.old ++ job ∷ []) }
+        ensures count { IsTrue result → deque_len fresh.new + 1 ≡ deque_len fresh.old }
+        ensures stays { result ≡ false → (fresh.new.items ≡ fresh.old.items) × (deque_len fresh.new ≡ deque_len fresh.old)
+            × (given self.new ≡ given self.old) }
+        ensures heard { heard self.new ≡ heard self.old }
+        ensures rings { outlet_rings self.new ≡ outlet_rings self.old }
+    {
+        if !self.backlog.is_empty() || self.jobs.is_full() {
+            return false;
+        }
+        let Some(job) = fresh.pop_front() else {
+            unreachable!()
+        };
+        self.jobs.push_reserved(job);
+        true
     }
 
     /// Puts a job behind the others: into the ring where no job waits and it has a place, else into the backlog.
@@ -64,9 +91,10 @@ impl Outlet {
         Ok(())
     }
 
-    /// Takes an answer.
-    pub(crate) fn hear(&mut self) -> Option<Answer>
-        ensures some { IfSome result (λ a. heard self.new ≡ heard self.old ++ a ∷ []) }
+    /// Takes an answer, and writes the event of its completion. Whether the ring has more.
+    pub(crate) fn hear(&mut self, event: &mut Event) -> Option<bool>
+        ensures some { IfSome result (λ _. (a : Answer) × (event.new ≡ Done a.0 a.1)
+            × (heard self.new ≡ heard self.old ++ a ∷ [])) }
         ensures none { IfNone result (heard self.new ≡ heard self.old) }
         ensures given { given self.new ≡ given self.old }
         ensures rings { outlet_rings self.new ≡ outlet_rings self.old }
@@ -74,6 +102,8 @@ impl Outlet {
         if self.answers.is_empty() {
             return None;
         }
-        Some(self.answers.pop_known())
+        let (ticket, status) = self.answers.pop_known();
+        *event = Event::Done { ticket, status };
+        Some(!self.answers.is_empty())
     }
 }

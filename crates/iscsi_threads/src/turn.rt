@@ -23,9 +23,9 @@ pub enum Turn {
 }
 
 /// What stands for an event until one is taken.
-const NO_EVENT: Event = Event::Done {
-    ticket: 0,
-    status: 0,
+const NO_EVENT: Event = Event::Arrive {
+    conn: 0,
+    header: [0; 48],
 };
 
 // Makes the room for one event of so many effects.

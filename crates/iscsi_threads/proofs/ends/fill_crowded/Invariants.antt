@@ -1,6 +1,6 @@
 use Rattle.std.proofs.Common.{◌≡◌, ◌≤◌, map, vec_len}
 use Rattle.iscsi_threads.specs.Outlets.{given, heard, outlet_rings}
-use Rattle.iscsi_threads.proofs.ends.fill_all.Given as goal
+use Rattle.iscsi_threads.proofs.ends.fill_crowded.Given as goal
 
 abbrev pub invariant-loop : goal.invariant-loop
 invariant-loop l = record {

@@ -1,7 +1,7 @@
 use Rattle.std.proofs.Common.{◌≡◌, ◌+◌, ◌-◌, ◌≤◌, ◌++◌, take, drop, length}
 use Rattle.std.specs.VecDeque.{deque_len, deque_capacity}
 use Rattle.iscsi_threads.specs.Desks.{seen, jobs_from, known_after, EnterAbove}
-use Rattle.iscsi_threads.proofs.desk.note_all.Given as goal
+use Rattle.iscsi_threads.proofs.desk.note_each.Given as goal
 
 abbrev pub invariant-loop-effect : goal.invariant-loop-effect
 invariant-loop-effect l = record {
