@@ -6,7 +6,7 @@ use Rattle.std.proofs.lemmas.List.{get_or-map, get_or_default, length-map}
 use Rattle.std.proofs.lemmas.List.Sums.{position_or_len_is}
 use Rattle.std.specs.List.{list_any}
 use Rattle.std.specs.Prelude.{is_some}
-use Rattle.iscsi_history.specs.rules.Settings.{is_known, are_distinct}
+use Rattle.iscsi_rules.specs.rules.Settings.{is_known, are_distinct}
 use Rattle.iscsi_connections.specs.declared.connections.Connection.{Connection}
 use Rattle.iscsi_connections.specs.Placed.{cid_and_stat_sn, TellsPlaces, ArePlaced}
 

@@ -1,6 +1,6 @@
 -- The commands that never start are completed, one after the other.
 use Rattle.std.proofs.Common.{◌≡◌, ◌∙◌, ℕ, zero, suc, List, [], ◌∷◌, Option, Some, None, refl, sym, ap, subst}
-use Rattle.iscsi_history.specs.declared.event.Event.TheVariants.{Done}
+use Rattle.iscsi_rules.specs.declared.event.Event.TheVariants.{Done}
 use Rattle.iscsi_ffi_rules.specs.rules.Calls.{Interface}
 use Rattle.iscsi_ffi_steps.specs.Walk.{Doing, in_state}
 use Rattle.iscsi_ffi_steps.specs.Steps.{Going, changed, happening, status_of, withholding}

@@ -1,7 +1,7 @@
 -- What a target asks.
 use Rattle.std.specs.Prelude.{ℕ, nat_lt, Bool, false, Some, None}
 use Rattle.iscsi_wire.specs.Serial.{wire}
-use Rattle.iscsi_history.specs.declared.effect.Numbers.{Numbers}
+use Rattle.iscsi_rules.specs.declared.effect.Numbers.{Numbers}
 use Rattle.iscsi_arrivals.specs.Counts.{may_join_by}
 use Rattle.iscsi_outbox_steps.specs.State.{State, link_at, place_of}
 

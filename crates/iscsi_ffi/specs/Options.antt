@@ -1,7 +1,7 @@
 -- The options of a side, as C gives them, and what they say.
 use Rattle.std.specs.Prelude.{◌≡◌, ℕ, ◌==◌, ◌&&◌, nat_le, Bool, List, length, map}
 use Rattle.std.specs.List.{list_all}
-use Rattle.iscsi_history.specs.rules.Settings.{Setting, is_valid as is_valid_setting, is_within}
+use Rattle.iscsi_rules.specs.rules.Settings.{Setting, is_valid as is_valid_setting, is_within}
 use Rattle.iscsi_ffi_rules.specs.rules.Calls.{Interface}
 use Rattle.iscsi_ffi_desk.specs.declared.desk.opening.DeskOptions.{DeskOptions}
 use Rattle.iscsi_ffi.specs.declared.options.PlainOptions.{PlainOptions}

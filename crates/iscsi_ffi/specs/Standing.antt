@@ -1,7 +1,7 @@
 -- What a side keeps, and when it follows a list of calls.
 use Rattle.std.specs.Prelude.{◌≡◌, ℕ, ◌+◌, Bool, true, false, List, [], ◌∷◌, ◌++◌, ◌||◌, length, nat_lt, drop, if◌then◌else◌}
-use Rattle.iscsi_history.specs.declared.event.Event.{Event}
-use Rattle.iscsi_history.specs.rules.Run.{trace_of}
+use Rattle.iscsi_rules.specs.declared.event.Event.{Event}
+use Rattle.iscsi_rules.specs.rules.Run.{trace_of}
 use Rattle.iscsi_outbox_steps.specs.State.{limits_of}
 use Rattle.iscsi_host.specs.Serving.{Hosted, Serves}
 use Rattle.iscsi_ffi_rules.specs.declared.action.Action.{Action}

@@ -3,8 +3,8 @@ use Rattle.std.proofs.Common.{◌≡◌, ◌<◌, ◌≤◌, ℕ, zero, suc, ◌
 use Rattle.std.specs.List.{flat_map}
 use Rattle.std.proofs.lemmas.List.{drop_more, get_or-set_same, set-get_or}
 use Rattle.std.proofs.Math.ListN.{drop_of_length-le}
-use Rattle.iscsi_history.specs.declared.effect.Effect.{Effect}
-use Rattle.iscsi_history.specs.declared.effect.Effect.TheVariants.{Deliver, Immediate, Wait, Void, Empty, Enter, Enable, Leave, Send, CloseConn, CloseSession, Ignore}
+use Rattle.iscsi_rules.specs.declared.effect.Effect.{Effect}
+use Rattle.iscsi_rules.specs.declared.effect.Effect.TheVariants.{Deliver, Immediate, Wait, Void, Empty, Enter, Enable, Leave, Send, CloseConn, CloseSession, Ignore}
 use Rattle.iscsi_arrivals.specs.Counts.{Counts, new_counts}
 use Rattle.iscsi_outbox_steps.specs.State.{State as OutboxState, link_at, place_of}
 use Rattle.iscsi_outbox_steps.specs.Steps.{as_list, counted_from}

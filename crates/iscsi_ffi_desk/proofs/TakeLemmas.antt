@@ -4,9 +4,9 @@ use Rattle.iscsi_wire.specs.declared.reply.Reply.{Reply}
 use Rattle.iscsi_wire.specs.declared.request.Request.{Request}
 use Rattle.iscsi_tasks.specs.declared.task.Attr.{Attr}
 use Rattle.std.specs.List.{flat_map}
-use Rattle.iscsi_history.specs.declared.effect.Effect.{Effect}
-use Rattle.iscsi_history.specs.declared.effect.Effect.TheVariants.{Deliver, Enable, Enter, Leave, Send}
-use Rattle.iscsi_history.specs.declared.effect.Numbers.{Numbers}
+use Rattle.iscsi_rules.specs.declared.effect.Effect.{Effect}
+use Rattle.iscsi_rules.specs.declared.effect.Effect.TheVariants.{Deliver, Enable, Enter, Leave, Send}
+use Rattle.iscsi_rules.specs.declared.effect.Numbers.{Numbers}
 use Rattle.iscsi_outbox_rules.specs.rules.Items.{ticket_enabled}
 use Rattle.iscsi_outbox_steps.specs.State.{Limits, State as OutboxState, place_of}
 use Rattle.iscsi_outbox_steps.specs.Steps.{as_list, taken}

@@ -6,10 +6,10 @@ use Rattle.std.proofs.lemmas.List.{drop_more}
 use Rattle.iscsi_wire.specs.declared.reply.Reply.{Reply}
 use Rattle.iscsi_wire.specs.declared.request.Request.{Request}
 use Rattle.iscsi_wire.specs.Fields.{function}
-use Rattle.iscsi_history.specs.declared.effect.Effect.{Effect}
-use Rattle.iscsi_history.specs.declared.effect.Effect.TheVariants.{Deliver, Immediate, Wait, Void, Empty, Enter, Enable, Leave, Send, CloseConn, CloseSession, Ignore}
-use Rattle.iscsi_history.specs.promises.Order.{in_parts, is_request, onto_first}
-use Rattle.iscsi_history.specs.rules.Execution.{unit_named}
+use Rattle.iscsi_rules.specs.declared.effect.Effect.{Effect}
+use Rattle.iscsi_rules.specs.declared.effect.Effect.TheVariants.{Deliver, Immediate, Wait, Void, Empty, Enter, Enable, Leave, Send, CloseConn, CloseSession, Ignore}
+use Rattle.iscsi_rules.specs.promises.Order.{in_parts, is_request, onto_first}
+use Rattle.iscsi_rules.specs.rules.Execution.{unit_named}
 use Rattle.iscsi_outbox_rules.specs.rules.Items.{executing, reply_sent}
 use Rattle.iscsi_outbox.specs.Walks.{before_parts}
 use Rattle.iscsi_outbox.proofs.WalkLemmas.{range_more}

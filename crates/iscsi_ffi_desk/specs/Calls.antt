@@ -1,6 +1,6 @@
 -- What the calls of a desk make of it, by the steps of its side. For private contracts, and those of the side.
 use Rattle.std.specs.Prelude.{ℕ, ◌&&◌, nat_le, Bool, false, List, [], ◌∷◌, length, Option, Some, None, option_map, slice_set, if◌then◌else◌}
-use Rattle.iscsi_history.specs.declared.effect.Effect.{Effect}
+use Rattle.iscsi_rules.specs.declared.effect.Effect.{Effect}
 use Rattle.iscsi_outbox_rules.specs.declared.own_pdu.OwnPdu.{OwnPdu}
 use Rattle.iscsi_outbox_rules.specs.rules.Items.{reply_sent}
 use Rattle.iscsi_arrivals.specs.Counts.{is_open_by}

@@ -2,12 +2,12 @@
 
 ghost use Rattle.std.specs.Prelude.{◌≡◌, ◌&&◌};
 ghost use Rattle.std.specs.List.{list_any};
-ghost use Rattle.iscsi_history.specs.promises.Order.{is_request};
+ghost use Rattle.iscsi_rules.specs.promises.Order.{is_request};
 ghost use Rattle.iscsi_outbox_rules.specs.rules.Items.{executing};
 ghost use Rattle.iscsi_ffi_rules.specs.rules.Happening.{is_reset};
 ghost use Rattle.iscsi_ffi_desk.specs.Calls.{is_completing};
 
-use iscsi_history::Effect;
+use iscsi_rules::Effect;
 use iscsi_wire::{Reply, Request};
 
 /// The opcode of a Task Management Function Request (RFC 7143 section 11.5).

@@ -5,13 +5,13 @@ use Rattle.std.proofs.lemmas.List.{get_or-set_other, get_or-set_same}
 use Rattle.std.proofs.lemmas.List.Sums.{sum_by-append}
 use Rattle.iscsi_wire.specs.Fields.{cmd_sn}
 use Rattle.iscsi_wire.specs.Serial.{wire}
-use Rattle.iscsi_history.specs.rules.Execution.{exp_of}
-use Rattle.iscsi_history.specs.rules.Settings.{Setting}
-use Rattle.iscsi_history.specs.rules.Trace.{Admits, Arrival, ClosesConn, ClosesSession, Delivers, Empties, Enters, Executes, Ignores, Leaves, Mark, Sends, Trace, Voids, Waits, held, is_delivered, is_emptied, is_received, number_received, shown, waiting}
-use Rattle.iscsi_history.proofs.BoolLemmas.{and_parts}
-use Rattle.iscsi_history.proofs.CountLemmas.{one, count-cons}
-use Rattle.iscsi_history.proofs.ElementLemmas.{In, append-in_first, append-in_second, in-append}
-use Rattle.iscsi_history.proofs.HeldLemmas.{held-admits, held-here, held-number}
+use Rattle.iscsi_rules.specs.rules.Execution.{exp_of}
+use Rattle.iscsi_rules.specs.rules.Settings.{Setting}
+use Rattle.iscsi_rules.specs.rules.Trace.{Admits, Arrival, ClosesConn, ClosesSession, Delivers, Empties, Enters, Executes, Ignores, Leaves, Mark, Sends, Trace, Voids, Waits, held, is_delivered, is_emptied, is_received, number_received, shown, waiting}
+use Rattle.iscsi_rules.proofs.BoolLemmas.{and_parts}
+use Rattle.iscsi_rules.proofs.CountLemmas.{one, count-cons}
+use Rattle.iscsi_rules.proofs.ElementLemmas.{In, append-in_first, append-in_second, in-append}
+use Rattle.iscsi_rules.proofs.HeldLemmas.{held-admits, held-here, held-number}
 use Rattle.iscsi_outbox_law.specs.Pairs.{EachOf}
 use Rattle.iscsi_requests.proofs.NumberLemmas.{is_whole, never_meet}
 use Rattle.iscsi_requests.specs.Cookies as cookies

@@ -4,16 +4,16 @@ use Rattle.std.proofs.lemmas.Bool.{cases_lt, eqb-true, false≢true}
 use Rattle.std.proofs.lemmas.List.{append-nil}
 use Rattle.iscsi_wire.specs.Fields.{connection_of}
 use Rattle.iscsi_wire.specs.declared.reply.Reply.{Reply}
-use Rattle.iscsi_history.specs.declared.effect.Effect.{Effect}
-use Rattle.iscsi_history.specs.declared.effect.Effect.TheVariants.{Ignore}
-use Rattle.iscsi_history.specs.declared.effect.Why.{Why}
-use Rattle.iscsi_history.specs.rules.Management.{MOST_WAITING, waiting_on}
-use Rattle.iscsi_history.specs.rules.Run.{effects_of}
-use Rattle.iscsi_history.specs.rules.Settings.{are_distinct, is_known}
-use Rattle.iscsi_history.specs.rules.Trace.{Admits, Arrival, Executes, Ignores, Mark, Sends, Waits, held, is_received, shown, waiting}
-use Rattle.iscsi_history.proofs.CountLemmas.{one}
-use Rattle.iscsi_history.proofs.Forms.{AtArrival, Deeds, IsDone, marks_done}
-use Rattle.iscsi_history.proofs.NewlyLemmas.{Untouched, newly-untouched}
+use Rattle.iscsi_rules.specs.declared.effect.Effect.{Effect}
+use Rattle.iscsi_rules.specs.declared.effect.Effect.TheVariants.{Ignore}
+use Rattle.iscsi_rules.specs.declared.effect.Why.{Why}
+use Rattle.iscsi_rules.specs.rules.Management.{MOST_WAITING, waiting_on}
+use Rattle.iscsi_rules.specs.rules.Run.{effects_of}
+use Rattle.iscsi_rules.specs.rules.Settings.{are_distinct, is_known}
+use Rattle.iscsi_rules.specs.rules.Trace.{Admits, Arrival, Executes, Ignores, Mark, Sends, Waits, held, is_received, shown, waiting}
+use Rattle.iscsi_rules.proofs.CountLemmas.{one}
+use Rattle.iscsi_rules.proofs.Forms.{AtArrival, Deeds, IsDone, marks_done}
+use Rattle.iscsi_rules.proofs.NewlyLemmas.{Untouched, newly-untouched}
 use Rattle.iscsi_outbox_rules.specs.rules.Boxes.{Box}
 use Rattle.iscsi_outbox_rules.specs.rules.Items.{after_item, reply_sent}
 use Rattle.iscsi_outbox_rules.specs.rules.Words.{is_running}
@@ -56,7 +56,7 @@ use Rattle.iscsi_ffi_law.proofs.Unswept.{is_some_effect, put_state}
 use Rattle.iscsi_ffi_law.proofs.Framing.{touched_in}
 use Rattle.iscsi_requests.specs.Conns.{of_conn}
 use Rattle.std.specs.List.{flat_map}
-use Rattle.iscsi_history.proofs.ElementLemmas.{In}
+use Rattle.iscsi_rules.proofs.ElementLemmas.{In}
 use Rattle.iscsi_ffi_law.proofs.Walking.{ends_with_it, walk_at}
 
 -- the request that arrives isn't held yet, and doesn't wait

@@ -1,28 +1,28 @@
 -- A request arrives that has a place: both go on alike.
 use Rattle.std.proofs.Common.{◌≡◌, ℕ, ◌<◌, not, cond, Bool, true, false, List, [], ◌∷◌, ◌++◌, length, filter, Option, Some, None, refl, ap, sym, subst, ◌∙◌, arith, length-set, ◌≤◌, ◌==◌}
 use Rattle.iscsi_outbox_rules.specs.promises.Room.{places}
-use Rattle.iscsi_history.specs.rules.Settings.{is_known}
+use Rattle.iscsi_rules.specs.rules.Settings.{is_known}
 use Rattle.iscsi_ffi_rules.specs.rules.Run.{cids}
 use Rattle.std.proofs.lemmas.List.{length-map}
 use Rattle.iscsi_requests.specs.Numbers.{HeldNumbers, size_for, index_of}
 use Rattle.iscsi_ffi_law.proofs.KeptCounts.{held_or_waiting, kept_few}
-use Rattle.iscsi_history.proofs.NumberingLemmas.{to_list}
-use Rattle.iscsi_history.proofs.TouchLemmas.{enters_form}
+use Rattle.iscsi_rules.proofs.NumberingLemmas.{to_list}
+use Rattle.iscsi_rules.proofs.TouchLemmas.{enters_form}
 use Rattle.std.specs.List.{list_all}
 use Rattle.std.proofs.lemmas.Bool.{and_from, eq-eqb, false≢true}
 use Rattle.iscsi_wire.specs.Fields.{connection_of, header_of, is_immediate, request_of, cmd_sn}
 use Rattle.iscsi_wire.specs.declared.reply.Reply.TheVariants.{Reject}
 use Rattle.iscsi_wire.specs.declared.request.Request.{Request}
-use Rattle.iscsi_history.specs.declared.effect.Why.{Why}
-use Rattle.iscsi_history.specs.declared.event.Event.{Event}
-use Rattle.iscsi_history.specs.declared.event.Event.TheVariants.{Arrive}
-use Rattle.iscsi_history.specs.rules.Execution.{rejected}
-use Rattle.iscsi_history.specs.rules.Management.{MOST_WAITING, waiting_on}
-use Rattle.iscsi_history.specs.rules.Run.{effects_of, effects_of_item}
-use Rattle.iscsi_history.specs.rules.Trace.{Admits, Arrival, Command, Executes, Ignores, Mark, Trace, Waits, entered, is_received, waiting}
-use Rattle.iscsi_history.proofs.Forms.{AfterWaiting, AtArrival, AtTurn, Deeds, IsDone, Start, marks_done, start_mark, Executed}
-use Rattle.iscsi_history.proofs.ElementLemmas.{filter-in}
-use Rattle.iscsi_history.proofs.NewlyLemmas.{newly-untouched}
+use Rattle.iscsi_rules.specs.declared.effect.Why.{Why}
+use Rattle.iscsi_rules.specs.declared.event.Event.{Event}
+use Rattle.iscsi_rules.specs.declared.event.Event.TheVariants.{Arrive}
+use Rattle.iscsi_rules.specs.rules.Execution.{rejected}
+use Rattle.iscsi_rules.specs.rules.Management.{MOST_WAITING, waiting_on}
+use Rattle.iscsi_rules.specs.rules.Run.{effects_of, effects_of_item}
+use Rattle.iscsi_rules.specs.rules.Trace.{Admits, Arrival, Command, Executes, Ignores, Mark, Trace, Waits, entered, is_received, waiting}
+use Rattle.iscsi_rules.proofs.Forms.{AfterWaiting, AtArrival, AtTurn, Deeds, IsDone, Start, marks_done, start_mark, Executed}
+use Rattle.iscsi_rules.proofs.ElementLemmas.{filter-in}
+use Rattle.iscsi_rules.proofs.NewlyLemmas.{newly-untouched}
 use Rattle.iscsi_outbox_rules.specs.rules.Run.{after_call}
 use Rattle.iscsi_outbox_rules.proofs.ClosedParts.{EachOn}
 use Rattle.iscsi_outbox_law.specs.Sound.{IsSound}

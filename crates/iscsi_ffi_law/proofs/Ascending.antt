@@ -1,8 +1,8 @@
 -- Lists of numbers that go up: those that have each number as often are the same.
 use Rattle.std.proofs.Common.{◌≡◌, ℕ, ◌+◌, ◌<◌, ◌≤◌, ◌==◌, cond, nat_lt, Bool, true, false, List, [], ◌∷◌, count_by, filter, refl, ap, ◌∙◌, arith}
 use Rattle.std.proofs.lemmas.Bool.{eqb-true, eq-eqb, ltb-false, ltb-true}
-use Rattle.iscsi_history.specs.rules.Trace.{Command}
-use Rattle.iscsi_history.proofs.CountLemmas.{one, count-cons}
+use Rattle.iscsi_rules.specs.rules.Trace.{Command}
+use Rattle.iscsi_rules.proofs.CountLemmas.{one, count-cons}
 use Rattle.iscsi_outbox_law.specs.Pairs.{EachOf, InOrder}
 use Rattle.iscsi_outbox_law.proofs.PairLemmas.{each-filter, each-map, each-weaken}
 use Rattle.iscsi_ffi_steps.specs.State.{inserted}

@@ -6,10 +6,10 @@ use Rattle.std.proofs.lemmas.Bool.{cases_lt, false≢true}
 use Rattle.std.proofs.lemmas.List.{append-nil}
 use Rattle.iscsi_wire.specs.declared.reply.Reply.{Reply}
 use Rattle.iscsi_wire.specs.Fields.{cmd_sn}
-use Rattle.iscsi_history.specs.rules.Trace.{Arrival, Command as RulesCommand, Mark, Trace, admits_at, delivers_number, empties_number, first_of, held, is_delivered, is_emptied, shown, waiting}
-use Rattle.iscsi_history.proofs.CountLemmas.{one}
-use Rattle.iscsi_history.proofs.Forms.{AtArrival, AtTurn, Start}
-use Rattle.iscsi_history.proofs.HeldLemmas.{held-delivered}
+use Rattle.iscsi_rules.specs.rules.Trace.{Arrival, Command as RulesCommand, Mark, Trace, admits_at, delivers_number, empties_number, first_of, held, is_delivered, is_emptied, shown, waiting}
+use Rattle.iscsi_rules.proofs.CountLemmas.{one}
+use Rattle.iscsi_rules.proofs.Forms.{AtArrival, AtTurn, Start}
+use Rattle.iscsi_rules.proofs.HeldLemmas.{held-delivered}
 use Rattle.iscsi_outbox_rules.specs.rules.Queues.{takes_more}
 use Rattle.iscsi_outbox_law.specs.Commands.{link_in}
 use Rattle.iscsi_outbox_law.specs.Pairs.{EachOf}

@@ -1,6 +1,6 @@
 -- A call that changes the outbox, and what waits or isn't written.
 use Rattle.std.proofs.Common.{◌≡◌, ℕ, ◌+◌, ◌<◌, ◌≤◌, List, length, filter, Option, ap, sym, subst, ◌∙◌}
-use Rattle.iscsi_history.specs.rules.Trace.{entered}
+use Rattle.iscsi_rules.specs.rules.Trace.{entered}
 use Rattle.iscsi_outbox_rules.specs.rules.Boxes.{Box, Link}
 use Rattle.iscsi_outbox_law.specs.Commands.{link_in}
 use Rattle.iscsi_outbox_law.specs.Pairs.{EachOf, PairsOf}

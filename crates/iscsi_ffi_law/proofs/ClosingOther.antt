@@ -3,9 +3,9 @@ use Rattle.std.proofs.Common.{◌≡◌, ℕ, ◌+◌, ◌<◌, ◌==◌, ◌&&�
 use Rattle.std.specs.List.{list_any}
 use Rattle.std.proofs.lemmas.Bool.{cases_eq, cond_both, eqb-true, false≢true, not-true}
 use Rattle.std.proofs.lemmas.List.{append-nil, get_or-set_other, get_or-set_same, length-map}
-use Rattle.iscsi_history.proofs.BoolLemmas.{and_parts}
-use Rattle.iscsi_history.proofs.CountLemmas.{count-filter}
-use Rattle.iscsi_history.proofs.ElementLemmas.{in-filter}
+use Rattle.iscsi_rules.proofs.BoolLemmas.{and_parts}
+use Rattle.iscsi_rules.proofs.CountLemmas.{count-filter}
+use Rattle.iscsi_rules.proofs.ElementLemmas.{in-filter}
 use Rattle.iscsi_outbox_rules.specs.rules.Boxes.{Answer, Box, Link}
 use Rattle.iscsi_outbox_rules.specs.rules.Items.{close_one}
 use Rattle.iscsi_outbox_rules.specs.rules.Queues.{at_link, drop_on, takes_more}

@@ -3,10 +3,10 @@ use Rattle.std.proofs.Common.{◌≡◌, ℕ, ◌==◌, ◌||◌, not, cond, tru
 use Rattle.std.proofs.lemmas.Bool.{false≢true}
 use Rattle.std.proofs.lemmas.List.{append-nil}
 use Rattle.iscsi_wire.specs.Fields.{connection_of}
-use Rattle.iscsi_history.specs.rules.Trace.{Arrival, ClosesConn, Trace, admits_at, first_of, held, is_delivered, is_emptied, shown, waiting}
-use Rattle.iscsi_history.proofs.ApartLemmas.{eq_sym}
-use Rattle.iscsi_history.proofs.BoolLemmas.{not_true}
-use Rattle.iscsi_history.proofs.ElementLemmas.{In, in-filter}
+use Rattle.iscsi_rules.specs.rules.Trace.{Arrival, ClosesConn, Trace, admits_at, first_of, held, is_delivered, is_emptied, shown, waiting}
+use Rattle.iscsi_rules.proofs.ApartLemmas.{eq_sym}
+use Rattle.iscsi_rules.proofs.BoolLemmas.{not_true}
+use Rattle.iscsi_rules.proofs.ElementLemmas.{In, in-filter}
 use Rattle.iscsi_outbox_rules.specs.rules.Words.{contains}
 use Rattle.iscsi_outbox_law.specs.Pairs.{EachOf}
 use Rattle.iscsi_ffi_rules.specs.rules.Needs.{admitted_by}

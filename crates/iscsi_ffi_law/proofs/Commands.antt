@@ -2,10 +2,10 @@
 use Rattle.std.proofs.Common.{◌≡◌, ℕ, ◌==◌, ◌&&◌, ◌||◌, ⊎_elim, not, nat_lt, Bool, true, false, List, [], ◌∷◌, count_by, filter, Option, is_some, refl, ap, sym, ◌∙◌}
 use Rattle.std.specs.List.{list_any}
 use Rattle.std.proofs.lemmas.Bool.{false≢true, eqb-true, eq-eqb, and_parts, and_from, not-true}
-use Rattle.iscsi_history.specs.rules.Trace.{Command as RulesCommand, Trace, are_apart, entered, has, is_among, leaves_ticket}
-use Rattle.iscsi_history.proofs.BoolLemmas.{and_comm, and_false}
-use Rattle.iscsi_history.proofs.ElementLemmas.{In}
-use Rattle.iscsi_history.proofs.ListLemmas.{any_filter, any_same}
+use Rattle.iscsi_rules.specs.rules.Trace.{Command as RulesCommand, Trace, are_apart, entered, has, is_among, leaves_ticket}
+use Rattle.iscsi_rules.proofs.BoolLemmas.{and_comm, and_false}
+use Rattle.iscsi_rules.proofs.ElementLemmas.{In}
+use Rattle.iscsi_rules.proofs.ListLemmas.{any_filter, any_same}
 use Rattle.iscsi_outbox_rules.specs.rules.Words.{is_running}
 use Rattle.iscsi_outbox_law.proofs.PairLemmas.{pairs-any}
 use Rattle.iscsi_outbox_steps.specs.Steps.{is_running_ticket}

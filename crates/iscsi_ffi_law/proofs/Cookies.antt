@@ -1,12 +1,12 @@
 -- The requests in their places, as one of them is used less, or goes.
 use Rattle.std.proofs.Common.{◌≡◌, ℕ, ◌+◌, ◌≤◌, ◌==◌, ◌&&◌, not, cond, Bool, true, false, List, [], ◌∷◌, map, count_by, filter, find, Option, Some, None, option_map, refl, ap, sym, ◌∙◌, arith, ne_eqb, ◌++◌}
 use Rattle.std.proofs.lemmas.Bool.{and_from, cond_both, eq-eqb, eqb-false, eqb-true, false≢true, not-true}
-use Rattle.iscsi_history.proofs.CountLemmas.{one, count-split, count-filter, count-weaker, count-cons}
-use Rattle.iscsi_history.proofs.BoolLemmas.{and_first}
-use Rattle.iscsi_history.proofs.ElementLemmas.{In, in-filter}
+use Rattle.iscsi_rules.proofs.CountLemmas.{one, count-split, count-filter, count-weaker, count-cons}
+use Rattle.iscsi_rules.proofs.BoolLemmas.{and_first}
+use Rattle.iscsi_rules.proofs.ElementLemmas.{In, in-filter}
 use Rattle.iscsi_slots.specs.Slots.{times}
 use Rattle.iscsi_slots.proofs.SlotLemmas.{times_append}
-use Rattle.iscsi_history.proofs.ListLemmas.{count_by-map, fewer_counted}
+use Rattle.iscsi_rules.proofs.ListLemmas.{count_by-map, fewer_counted}
 use Rattle.iscsi_outbox_law.proofs.PairLemmas.{each-filter, each-map, each-append}
 use Rattle.iscsi_requests.specs.Cookies.{Cookies, Request, cookie_at, has_place, is_at, removed, uses_at, with_uses, entered, next_place}
 use Rattle.iscsi_ffi_law.specs.Parts.{AreCounted}

@@ -1,10 +1,10 @@
 -- What the steps make of the end of a command, up to those that are withheld then.
 use Rattle.std.proofs.Common.{◌≡◌, ℕ, zero, suc, ◌+◌, ◌≤◌, cond, List, [], ◌∷◌, length, map, Option, None, refl, ap, ◌∙◌, lt-ltb}
-use Rattle.iscsi_history.specs.declared.event.Event.TheVariants.{Done}
-use Rattle.iscsi_history.specs.rules.Execution.{completion}
-use Rattle.iscsi_history.specs.rules.Run.{after_event, entry_of}
-use Rattle.iscsi_history.specs.rules.Trace.{Command as RulesCommand, after_items}
-use Rattle.iscsi_history.proofs.ElementLemmas.{In}
+use Rattle.iscsi_rules.specs.declared.event.Event.TheVariants.{Done}
+use Rattle.iscsi_rules.specs.rules.Execution.{completion}
+use Rattle.iscsi_rules.specs.rules.Run.{after_event, entry_of}
+use Rattle.iscsi_rules.specs.rules.Trace.{Command as RulesCommand, after_items}
+use Rattle.iscsi_rules.proofs.ElementLemmas.{In}
 use Rattle.iscsi_ffi_commands.specs.declared.command.Stage.TheVariants.{Over}
 use Rattle.iscsi_ffi_rules.specs.declared.action.Action.{Action}
 use Rattle.iscsi_ffi_rules.specs.rules.Calls.{Interface}

@@ -3,11 +3,11 @@ use Rattle.std.proofs.Common.{◌≡◌, ℕ, ◌+◌, ◌%◌, ◌^◌, ◌≤�
 use Rattle.std.specs.List.{flat_map}
 use Rattle.std.proofs.lemmas.Bool.{cond_both, eq-eqb}
 use Rattle.iscsi_wire.specs.Fields.{connection_of}
-use Rattle.iscsi_history.specs.declared.event.Event.TheVariants.{Done}
-use Rattle.iscsi_history.specs.rules.Execution.{completion}
-use Rattle.iscsi_history.specs.rules.Run.{after_event, entry_of, numbers_of}
-use Rattle.iscsi_history.specs.rules.Trace.{Command as RulesCommand, after_items}
-use Rattle.iscsi_history.proofs.ElementLemmas.{In}
+use Rattle.iscsi_rules.specs.declared.event.Event.TheVariants.{Done}
+use Rattle.iscsi_rules.specs.rules.Execution.{completion}
+use Rattle.iscsi_rules.specs.rules.Run.{after_event, entry_of, numbers_of}
+use Rattle.iscsi_rules.specs.rules.Trace.{Command as RulesCommand, after_items}
+use Rattle.iscsi_rules.proofs.ElementLemmas.{In}
 use Rattle.iscsi_outbox_rules.specs.rules.Items.{ticket_enabled}
 use Rattle.iscsi_outbox_steps.specs.Steps.{as_list, is_running_ticket, taken}
 use Rattle.iscsi_requests.specs.Cookies.{Cookies, has_place, uses_at}

@@ -1,11 +1,11 @@
 -- A command that goes on ends: it completes, or stops where another session's reset takes it out.
 use Rattle.std.proofs.Common.{◌≡◌, ℕ, ◌+◌, ◌*◌, ◌≤◌, ◌==◌, ◌&&◌, not, cond, Bool, true, false, List, [], length, count_by, filter, Option, Some, None, refl, ap, sym, subst, ◌∙◌, arith}
 use Rattle.std.proofs.lemmas.Bool.{and_from, eqb-true, false≢true}
-use Rattle.iscsi_history.specs.declared.event.Event.TheVariants.{Done}
-use Rattle.iscsi_history.specs.rules.Agenda.{command_of}
-use Rattle.iscsi_history.specs.rules.Trace.{Command as RulesCommand, Trace, live, was_free}
-use Rattle.iscsi_history.proofs.BoolLemmas.{and_parts}
-use Rattle.iscsi_history.proofs.ElementLemmas.{first-in, in-filter}
+use Rattle.iscsi_rules.specs.declared.event.Event.TheVariants.{Done}
+use Rattle.iscsi_rules.specs.rules.Agenda.{command_of}
+use Rattle.iscsi_rules.specs.rules.Trace.{Command as RulesCommand, Trace, live, was_free}
+use Rattle.iscsi_rules.proofs.BoolLemmas.{and_parts}
+use Rattle.iscsi_rules.proofs.ElementLemmas.{first-in, in-filter}
 use Rattle.iscsi_outbox_rules.specs.promises.Room.{places}
 use Rattle.iscsi_outbox_rules.specs.rules.Words.{contains}
 use Rattle.iscsi_ffi_commands.specs.declared.command.Command.{Command}

@@ -3,12 +3,12 @@ use Rattle.std.proofs.Common.{◌≡◌, ℕ, zero, suc, ◌+◌, ◌<◌, ◌�
 use Rattle.std.specs.List.{flat_map, range_with_len}
 use Rattle.std.proofs.lemmas.Bool.{cases_eq, cases_lt, eq-eqb, false≢true, or_right}
 use Rattle.std.proofs.lemmas.List.Sums.{sum_by-append}
-use Rattle.iscsi_history.specs.rules.Run.{newly_enabled}
-use Rattle.iscsi_history.specs.rules.Settings.{Setting}
-use Rattle.iscsi_history.specs.rules.Trace.{Command, Mark, Trace, enabled_in, entered, has, leaves_ticket, live, was_free}
-use Rattle.iscsi_history.proofs.BoolLemmas.{and_false, and_parts}
-use Rattle.iscsi_history.proofs.CountLemmas.{one, count-cons, count-filter, count-weaker}
-use Rattle.iscsi_history.proofs.ElementLemmas.{In, filter-in, flat_map-in, in-filter, range-in}
+use Rattle.iscsi_rules.specs.rules.Run.{newly_enabled}
+use Rattle.iscsi_rules.specs.rules.Settings.{Setting}
+use Rattle.iscsi_rules.specs.rules.Trace.{Command, Mark, Trace, enabled_in, entered, has, leaves_ticket, live, was_free}
+use Rattle.iscsi_rules.proofs.BoolLemmas.{and_false, and_parts}
+use Rattle.iscsi_rules.proofs.CountLemmas.{one, count-cons, count-filter, count-weaker}
+use Rattle.iscsi_rules.proofs.ElementLemmas.{In, filter-in, flat_map-in, in-filter, range-in}
 use Rattle.iscsi_outbox_law.specs.Pairs.{EachOf}
 use Rattle.iscsi_ffi_law.proofs.DoneShape.{done_item, done_trace, entered_same, free_still, left_too, news}
 use Rattle.iscsi_ffi_law.proofs.Kept.{count_members, count_nothing}

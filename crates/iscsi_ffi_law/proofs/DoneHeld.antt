@@ -3,10 +3,10 @@
 use Rattle.std.proofs.Common.{◌≡◌, ℕ, ◌+◌, ◌<◌, ◌==◌, ◌&&◌, ◌||◌, not, Bool, true, false, List, count_by, filter, refl, ap, sym, subst, ◌∙◌, arith, ne_eqb}
 use Rattle.std.proofs.lemmas.Bool.{eqb-true, eq-eqb, false≢true, not-true}
 use Rattle.std.proofs.lemmas.List.Folds.{list_any-append}
-use Rattle.iscsi_history.specs.rules.Trace.{Command, entered, has, leaves_ticket, live, was_free}
-use Rattle.iscsi_history.proofs.CountLemmas.{one, count-filter}
-use Rattle.iscsi_history.proofs.ElementLemmas.{In, filter-in, in-filter}
-use Rattle.iscsi_history.proofs.ListLemmas.{count_by-map, list_any-map}
+use Rattle.iscsi_rules.specs.rules.Trace.{Command, entered, has, leaves_ticket, live, was_free}
+use Rattle.iscsi_rules.proofs.CountLemmas.{one, count-filter}
+use Rattle.iscsi_rules.proofs.ElementLemmas.{In, filter-in, in-filter}
+use Rattle.iscsi_rules.proofs.ListLemmas.{count_by-map, list_any-map}
 use Rattle.iscsi_outbox_law.specs.Pairs.{InOrder}
 use Rattle.iscsi_outbox_rules.specs.rules.Words.{contains}
 use Rattle.iscsi_ffi_rules.specs.rules.Calls.{Interface}

@@ -2,12 +2,12 @@
 use Rattle.std.proofs.Common.{◌≡◌, ℕ, ◌+◌, ◌*◌, ◌<◌, ◌≤◌, ◌==◌, ◌&&◌, not, true, List, [], ◌∷◌, ◌++◌, length, map, count_by, filter, Option, None, refl, ap, sym, subst, ◌∙◌, arith, length-append, length-set}
 use Rattle.std.proofs.lemmas.Bool.{eq-eqb, not-true, or_left}
 use Rattle.std.proofs.lemmas.List.{length-map}
-use Rattle.iscsi_history.specs.declared.event.Event.TheVariants.{Done}
-use Rattle.iscsi_history.specs.rules.Settings.{are_distinct}
-use Rattle.iscsi_history.specs.rules.Trace.{Command as RulesCommand, entered, first_of, has, leaves_ticket, live, waiting, was_free}
-use Rattle.iscsi_history.proofs.BoolLemmas.{or_none}
-use Rattle.iscsi_history.proofs.CountLemmas.{count-lost}
-use Rattle.iscsi_history.proofs.ListLemmas.{filter-shorter}
+use Rattle.iscsi_rules.specs.declared.event.Event.TheVariants.{Done}
+use Rattle.iscsi_rules.specs.rules.Settings.{are_distinct}
+use Rattle.iscsi_rules.specs.rules.Trace.{Command as RulesCommand, entered, first_of, has, leaves_ticket, live, waiting, was_free}
+use Rattle.iscsi_rules.proofs.BoolLemmas.{or_none}
+use Rattle.iscsi_rules.proofs.CountLemmas.{count-lost}
+use Rattle.iscsi_rules.proofs.ListLemmas.{filter-shorter}
 use Rattle.iscsi_outbox_rules.specs.promises.Room.{places}
 use Rattle.iscsi_outbox_rules.specs.rules.Words.{contains}
 use Rattle.iscsi_outbox_law.specs.Commands.{link_in}

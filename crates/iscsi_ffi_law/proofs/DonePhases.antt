@@ -2,7 +2,7 @@
 use Rattle.std.proofs.Common.{◌≡◌, ℕ, ◌==◌, ◌&&◌, cond, Bool, List, map, refl, ap, ◌∙◌}
 use Rattle.std.specs.List.{list_any}
 use Rattle.std.proofs.lemmas.Bool.{cond_both}
-use Rattle.iscsi_history.proofs.ListLemmas.{any_same, list_any-map}
+use Rattle.iscsi_rules.proofs.ListLemmas.{any_same, list_any-map}
 use Rattle.iscsi_outbox_rules.specs.rules.Boxes.{Completed, Dormant, Fresh, Gone, Phase, Running, Started, Task}
 use Rattle.iscsi_outbox_rules.specs.rules.Items.{phase_completed, phase_enabled, phase_told}
 use Rattle.iscsi_outbox_rules.specs.rules.Words.{contains, is_running_phase}

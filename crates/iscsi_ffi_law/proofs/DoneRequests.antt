@@ -3,10 +3,10 @@ use Rattle.std.proofs.Common.{◌≡◌, ℕ, zero, suc, ◌+◌, ◌<◌, ◌�
 use Rattle.std.specs.List.{list_any}
 use Rattle.std.proofs.lemmas.Bool.{and_from, cases_eq, cases_lt, eqb-true, eq-eqb, or_parts}
 use Rattle.std.proofs.lemmas.List.Sums.{sum_by-append}
-use Rattle.iscsi_history.specs.rules.Trace.{Command as RulesCommand, are_apart, entered, has, leaves_ticket}
-use Rattle.iscsi_history.proofs.BoolLemmas.{and_first}
-use Rattle.iscsi_history.proofs.CountLemmas.{one, count-cons, count-weaker}
-use Rattle.iscsi_history.proofs.ElementLemmas.{In}
+use Rattle.iscsi_rules.specs.rules.Trace.{Command as RulesCommand, are_apart, entered, has, leaves_ticket}
+use Rattle.iscsi_rules.proofs.BoolLemmas.{and_first}
+use Rattle.iscsi_rules.proofs.CountLemmas.{one, count-cons, count-weaker}
+use Rattle.iscsi_rules.proofs.ElementLemmas.{In}
 use Rattle.iscsi_outbox_rules.specs.promises.Scope.{nth}
 use Rattle.iscsi_outbox_rules.specs.rules.Boxes.{Handed, Link, Outgoing}
 use Rattle.iscsi_outbox_rules.specs.rules.Run.{new_link}

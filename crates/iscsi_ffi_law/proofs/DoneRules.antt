@@ -5,14 +5,14 @@ use Rattle.std.proofs.lemmas.Bool.{and_from, eqb-true, eq-eqb, false≢true, not
 use Rattle.std.proofs.lemmas.List.{append-nil}
 use Rattle.std.proofs.lemmas.List.Folds.{list_any-append}
 use Rattle.iscsi_wire.specs.Fields.{connection_of}
-use Rattle.iscsi_history.specs.declared.effect.Effect.{Effect}
-use Rattle.iscsi_history.specs.declared.effect.Effect.TheVariants.{Leave, Send}
-use Rattle.iscsi_history.specs.declared.event.Event.TheVariants.{Done}
-use Rattle.iscsi_history.specs.rules.Execution.{completion}
-use Rattle.iscsi_history.specs.rules.Run.{effects_of, numbers_of, stat_sn_of}
-use Rattle.iscsi_history.specs.rules.Trace.{Command as RulesCommand, Trace, after_items, are_apart, entered, first_of, has, leaves_ticket, live, was_free}
-use Rattle.iscsi_history.proofs.ElementLemmas.{In, filter-in, in-filter}
-use Rattle.iscsi_history.proofs.ListLemmas.{list_any-map}
+use Rattle.iscsi_rules.specs.declared.effect.Effect.{Effect}
+use Rattle.iscsi_rules.specs.declared.effect.Effect.TheVariants.{Leave, Send}
+use Rattle.iscsi_rules.specs.declared.event.Event.TheVariants.{Done}
+use Rattle.iscsi_rules.specs.rules.Execution.{completion}
+use Rattle.iscsi_rules.specs.rules.Run.{effects_of, numbers_of, stat_sn_of}
+use Rattle.iscsi_rules.specs.rules.Trace.{Command as RulesCommand, Trace, after_items, are_apart, entered, first_of, has, leaves_ticket, live, was_free}
+use Rattle.iscsi_rules.proofs.ElementLemmas.{In, filter-in, in-filter}
+use Rattle.iscsi_rules.proofs.ListLemmas.{list_any-map}
 use Rattle.iscsi_outbox_rules.specs.rules.Boxes.{Box}
 use Rattle.iscsi_outbox_rules.specs.rules.Items.{after_event, ticket_enabled}
 use Rattle.iscsi_outbox_rules.specs.rules.Words.{contains}

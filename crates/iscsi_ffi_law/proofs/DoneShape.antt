@@ -6,20 +6,20 @@ use Rattle.std.proofs.lemmas.List.{append-nil}
 use Rattle.iscsi_wire.specs.declared.reply.Reply.{Reply}
 use Rattle.iscsi_wire.specs.declared.reply.Reply.TheVariants.{Scsi}
 use Rattle.iscsi_wire.specs.Fields.{connection_of, itt}
-use Rattle.iscsi_history.specs.declared.effect.Effect.{Effect}
-use Rattle.iscsi_history.specs.declared.effect.Effect.TheVariants.{Enable, Leave, Send}
-use Rattle.iscsi_history.specs.declared.entry.Entry.{Entry}
-use Rattle.iscsi_history.specs.declared.event.Event.TheVariants.{Done}
-use Rattle.iscsi_history.specs.rules.Agenda.{command_of}
-use Rattle.iscsi_history.specs.rules.Execution.{completion, sense_of_status}
-use Rattle.iscsi_history.specs.rules.Run.{effects_of, entry_of, newly_enabled, numbers_of, stat_sn_of}
-use Rattle.iscsi_history.specs.rules.Settings.{Setting}
-use Rattle.iscsi_history.specs.rules.Trace.{Arrival, Command, Leaves, Mark, Sends, Trace, admits_at, after_items, enabled_in, entered, first_of, has, held, is_delivered, is_emptied, leaves_ticket, live, shown, was_free, is_free_at}
-use Rattle.iscsi_history.specs.promises.Order.{in_parts, onto_first}
-use Rattle.iscsi_history.proofs.BoolLemmas.{or_false}
-use Rattle.iscsi_history.proofs.CountLemmas.{one, count-cons}
-use Rattle.iscsi_history.proofs.ElementLemmas.{In, in-append, in-filter}
-use Rattle.iscsi_history.proofs.ListLemmas.{filter-shorter}
+use Rattle.iscsi_rules.specs.declared.effect.Effect.{Effect}
+use Rattle.iscsi_rules.specs.declared.effect.Effect.TheVariants.{Enable, Leave, Send}
+use Rattle.iscsi_rules.specs.declared.entry.Entry.{Entry}
+use Rattle.iscsi_rules.specs.declared.event.Event.TheVariants.{Done}
+use Rattle.iscsi_rules.specs.rules.Agenda.{command_of}
+use Rattle.iscsi_rules.specs.rules.Execution.{completion, sense_of_status}
+use Rattle.iscsi_rules.specs.rules.Run.{effects_of, entry_of, newly_enabled, numbers_of, stat_sn_of}
+use Rattle.iscsi_rules.specs.rules.Settings.{Setting}
+use Rattle.iscsi_rules.specs.rules.Trace.{Arrival, Command, Leaves, Mark, Sends, Trace, admits_at, after_items, enabled_in, entered, first_of, has, held, is_delivered, is_emptied, leaves_ticket, live, shown, was_free, is_free_at}
+use Rattle.iscsi_rules.specs.promises.Order.{in_parts, onto_first}
+use Rattle.iscsi_rules.proofs.BoolLemmas.{or_false}
+use Rattle.iscsi_rules.proofs.CountLemmas.{one, count-cons}
+use Rattle.iscsi_rules.proofs.ElementLemmas.{In, in-append, in-filter}
+use Rattle.iscsi_rules.proofs.ListLemmas.{filter-shorter}
 use Rattle.iscsi_outbox_rules.specs.rules.Items.{ticket_enabled}
 use Rattle.iscsi_ffi_rules.specs.rules.Needs.{admitted_by, is_held, is_of_event, is_waiting}
 

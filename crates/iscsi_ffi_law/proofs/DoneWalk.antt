@@ -2,8 +2,8 @@
 use Rattle.std.proofs.Common.{◌≡◌, ℕ, ◌+◌, ◌%◌, ◌^◌, ◌<◌, ◌==◌, ◌&&◌, not, cond, Bool, true, false, List, [], ◌∷◌, ◌++◌, length, map, filter_map, Option, Some, None, refl, ap, sym, ◌∙◌, arith}
 use Rattle.std.specs.List.{flat_map, position}
 use Rattle.iscsi_wire.specs.Fields.{connection_of}
-use Rattle.iscsi_history.specs.rules.Run.{numbers_of}
-use Rattle.iscsi_history.specs.rules.Trace.{Command as RulesCommand}
+use Rattle.iscsi_rules.specs.rules.Run.{numbers_of}
+use Rattle.iscsi_rules.specs.rules.Trace.{Command as RulesCommand}
 use Rattle.iscsi_arrivals.specs.Standing.{StandsFor}
 use Rattle.iscsi_outbox_rules.specs.rules.Items.{ticket_enabled}
 use Rattle.iscsi_outbox_law.specs.Commands.{is_under_way, link_in}

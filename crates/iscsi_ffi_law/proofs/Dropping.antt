@@ -1,7 +1,7 @@
 -- What waits on a connection, and isn't written there, is dropped: the uses end one after the other.
 use Rattle.std.proofs.Common.{◌≡◌, ℕ, zero, suc, ◌+◌, ◌<◌, ◌==◌, cond, Bool, true, false, List, [], ◌∷◌, ◌++◌, length, map, count_by, set, Option, Some, None, refl, ap, sym, ◌∙◌, arith}
 use Rattle.std.proofs.lemmas.List.{set-get_or, get_or-set_same}
-use Rattle.iscsi_history.proofs.CountLemmas.{count-cons}
+use Rattle.iscsi_rules.proofs.CountLemmas.{count-cons}
 use Rattle.iscsi_requests.specs.Conns.{behind_oldest, of_conn, oldest}
 use Rattle.iscsi_requests.specs.Cookies.{has_place}
 use Rattle.iscsi_requests.specs.Replies.{WaitingReplies, first_request as first_reply, popped as reply_popped, request_of}

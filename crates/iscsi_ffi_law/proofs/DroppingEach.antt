@@ -2,8 +2,8 @@
 use Rattle.std.proofs.Common.{◌≡◌, ℕ, suc, ◌+◌, ◌<◌, ◌==◌, not, cond, Bool, true, false, filter, List, [], ◌∷◌, ◌++◌, length, get_or, Option, Some, None, refl, ap, sym, subst, ◌∙◌, arith, append_assoc}
 use Rattle.std.proofs.lemmas.List.{append-nil}
 use Rattle.iscsi_arrivals.specs.Counts.{Counts}
-use Rattle.iscsi_history.specs.rules.Settings.{are_distinct}
-use Rattle.iscsi_history.specs.rules.Trace.{Arrival, ClosesConn, Trace, waiting_through}
+use Rattle.iscsi_rules.specs.rules.Settings.{are_distinct}
+use Rattle.iscsi_rules.specs.rules.Trace.{Arrival, ClosesConn, Trace, waiting_through}
 use Rattle.iscsi_outbox_rules.specs.rules.Words.{contains}
 use Rattle.iscsi_outbox_law.specs.Pairs.{EachOf, PairsOf}
 use Rattle.iscsi_outbox_law.proofs.PairLemmas.{each-filter, each-weaken}

@@ -3,10 +3,10 @@ use Rattle.std.proofs.Common.{◌≡◌, ℕ, zero, suc, ◌+◌, ◌<◌, ◌�
 use Rattle.std.proofs.lemmas.Bool.{cases_lt, eqb-true, false≢true}
 use Rattle.std.proofs.lemmas.List.{append-nil, get_or-set_same, set-get_or}
 use Rattle.iscsi_wire.specs.Fields.{cmd_sn, connection_of}
-use Rattle.iscsi_history.specs.rules.Trace.{Arrival, Executes, Mark, Trace, held, shown, waiting, ClosesConn}
-use Rattle.iscsi_history.proofs.CountLemmas.{one}
-use Rattle.iscsi_history.proofs.ElementLemmas.{In, in-filter}
-use Rattle.iscsi_history.proofs.ListLemmas.{fewer_counted}
+use Rattle.iscsi_rules.specs.rules.Trace.{Arrival, Executes, Mark, Trace, held, shown, waiting, ClosesConn}
+use Rattle.iscsi_rules.proofs.CountLemmas.{one}
+use Rattle.iscsi_rules.proofs.ElementLemmas.{In, in-filter}
+use Rattle.iscsi_rules.proofs.ListLemmas.{fewer_counted}
 use Rattle.iscsi_outbox_law.specs.Pairs.{PairsOf}
 use Rattle.iscsi_outbox_law.proofs.PairLemmas.{each-weaken}
 use Rattle.iscsi_requests.specs.Conns.{behind_oldest, of_conn, oldest}

@@ -3,9 +3,9 @@ use Rattle.std.proofs.Common.{◌≡◌, ℕ, ◌+◌, ◌<◌, ◌≤◌, ◌==
 use Rattle.std.specs.List.{list_any}
 use Rattle.std.proofs.lemmas.Bool.{false≢true, eq-eqb, ltb-true, ltb-false, or_right}
 use Rattle.std.proofs.lemmas.List.Elements.{filter-append}
-use Rattle.iscsi_history.specs.rules.Trace.{Command as RulesCommand, entered, has, leaves_ticket}
-use Rattle.iscsi_history.proofs.ElementLemmas.{In, append-in_first, append-in_second}
-use Rattle.iscsi_history.proofs.ListLemmas.{filter-map, filter-swap, fewer_counted, any_filter}
+use Rattle.iscsi_rules.specs.rules.Trace.{Command as RulesCommand, entered, has, leaves_ticket}
+use Rattle.iscsi_rules.proofs.ElementLemmas.{In, append-in_first, append-in_second}
+use Rattle.iscsi_rules.proofs.ListLemmas.{filter-map, filter-swap, fewer_counted, any_filter}
 use Rattle.iscsi_outbox_rules.specs.promises.Scope.{nth}
 use Rattle.iscsi_outbox_rules.specs.rules.Boxes.{Answer, Link, Outgoing}
 use Rattle.iscsi_outbox_rules.specs.rules.Run.{new_link}

@@ -19,7 +19,7 @@ use Rattle.iscsi_ffi_law.specs.Stands.{Stands}
 use Rattle.iscsi_ffi_law.proofs.Finish.{IsAtEnd, stands_ended, tells_alike}
 use Rattle.iscsi_ffi_law.proofs.Moved.{IsMoved, commands_known, requests_moved, with_box, with_outbox}
 use Rattle.iscsi_ffi_law.proofs.Releasing.{Released, ending, released_if}
-use Rattle.iscsi_history.specs.rules.Settings.{are_distinct}
+use Rattle.iscsi_rules.specs.rules.Settings.{are_distinct}
 use Rattle.iscsi_outbox_law.specs.Sound.{IsSound}
 use Rattle.iscsi_outbox_law.specs.Room.{AreFew}
 use Rattle.iscsi_ffi_law.proofs.Releases.{all_released, endings, releases}

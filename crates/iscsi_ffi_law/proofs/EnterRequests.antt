@@ -5,10 +5,10 @@ use Rattle.std.proofs.lemmas.Bool.{and_from, eq-eqb, eqb-true, false≢true, not
 use Rattle.std.proofs.lemmas.List.Elements.{filter-append}
 use Rattle.std.proofs.lemmas.List.Folds.{list_any-append}
 use Rattle.std.proofs.lemmas.List.Sums.{sum_by-append}
-use Rattle.iscsi_history.specs.rules.Trace.{Command as RulesCommand, Mark, Trace, are_apart, enters, entered, has, is_among, is_free_at, leaves_ticket, was_free}
-use Rattle.iscsi_history.proofs.CountLemmas.{one, count-cons}
-use Rattle.iscsi_history.proofs.BoolLemmas.{and_parts, or_none}
-use Rattle.iscsi_history.proofs.ElementLemmas.{in-filter}
+use Rattle.iscsi_rules.specs.rules.Trace.{Command as RulesCommand, Mark, Trace, are_apart, enters, entered, has, is_among, is_free_at, leaves_ticket, was_free}
+use Rattle.iscsi_rules.proofs.CountLemmas.{one, count-cons}
+use Rattle.iscsi_rules.proofs.BoolLemmas.{and_parts, or_none}
+use Rattle.iscsi_rules.proofs.ElementLemmas.{in-filter}
 use Rattle.iscsi_outbox_rules.specs.promises.Scope.{nth}
 use Rattle.iscsi_outbox_rules.specs.rules.Boxes.{Answer, Handed, Link, Outgoing}
 use Rattle.iscsi_outbox_rules.specs.rules.Run.{new_link}

@@ -5,16 +5,16 @@ use Rattle.std.specs.List.{flat_map, list_all, list_any}
 use Rattle.std.proofs.lemmas.Bool.{eqb-true, false≢true, not-true}
 use Rattle.std.proofs.lemmas.List.{length-map}
 use Rattle.iscsi_wire.specs.Serial.{lift}
-use Rattle.iscsi_history.specs.declared.effect.Effect.{Effect}
-use Rattle.iscsi_history.specs.declared.effect.Numbers.{Numbers}
-use Rattle.iscsi_history.specs.declared.event.Event.{Event}
-use Rattle.iscsi_history.specs.promises.Order.{in_parts}
-use Rattle.iscsi_history.specs.rules.Agenda.{items_of}
-use Rattle.iscsi_history.specs.rules.Run.{effects_of, numbers_of}
-use Rattle.iscsi_history.specs.rules.Trace.{Command as RulesCommand, Mark, Trace, after_items, entered, has, leaves_ticket, live, was_free}
-use Rattle.iscsi_history.proofs.CountLemmas.{count-weaker}
-use Rattle.iscsi_history.proofs.ElementLemmas.{In, in-filter}
-use Rattle.iscsi_history.proofs.ListLemmas.{filter-shorter}
+use Rattle.iscsi_rules.specs.declared.effect.Effect.{Effect}
+use Rattle.iscsi_rules.specs.declared.effect.Numbers.{Numbers}
+use Rattle.iscsi_rules.specs.declared.event.Event.{Event}
+use Rattle.iscsi_rules.specs.promises.Order.{in_parts}
+use Rattle.iscsi_rules.specs.rules.Agenda.{items_of}
+use Rattle.iscsi_rules.specs.rules.Run.{effects_of, numbers_of}
+use Rattle.iscsi_rules.specs.rules.Trace.{Command as RulesCommand, Mark, Trace, after_items, entered, has, leaves_ticket, live, was_free}
+use Rattle.iscsi_rules.proofs.CountLemmas.{count-weaker}
+use Rattle.iscsi_rules.proofs.ElementLemmas.{In, in-filter}
+use Rattle.iscsi_rules.proofs.ListLemmas.{filter-shorter}
 use Rattle.iscsi_arrivals.specs.Standing.{StandsFor}
 use Rattle.iscsi_outbox_rules.specs.promises.Room.{places}
 use Rattle.iscsi_outbox_rules.specs.rules.Boxes.{Box, Task}

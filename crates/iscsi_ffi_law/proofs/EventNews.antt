@@ -4,13 +4,13 @@ use Rattle.std.specs.List.{list_any}
 use Rattle.std.proofs.lemmas.Bool.{eq-eqb, eqb-true, false≢true}
 use Rattle.std.proofs.lemmas.List.{append-nil, append_assoc}
 use Rattle.std.proofs.lemmas.List.Sums.{sum_by-append}
-use Rattle.iscsi_history.specs.rules.Run.{newly_enabled}
-use Rattle.iscsi_history.specs.rules.Settings.{Setting}
-use Rattle.iscsi_history.specs.rules.Trace.{Command, Mark, Trace, after_items, are_apart, entered, enters, has, is_among, is_free_at, leaves_ticket, live, was_free}
-use Rattle.iscsi_history.proofs.BoolLemmas.{and_parts, or_none}
-use Rattle.iscsi_history.proofs.CountLemmas.{one, count-cons, count-filter, count-weaker}
-use Rattle.iscsi_history.proofs.ElementLemmas.{In, append-in_second, in-append}
-use Rattle.iscsi_history.proofs.NewlyLemmas.{never_free}
+use Rattle.iscsi_rules.specs.rules.Run.{newly_enabled}
+use Rattle.iscsi_rules.specs.rules.Settings.{Setting}
+use Rattle.iscsi_rules.specs.rules.Trace.{Command, Mark, Trace, after_items, are_apart, entered, enters, has, is_among, is_free_at, leaves_ticket, live, was_free}
+use Rattle.iscsi_rules.proofs.BoolLemmas.{and_parts, or_none}
+use Rattle.iscsi_rules.proofs.CountLemmas.{one, count-cons, count-filter, count-weaker}
+use Rattle.iscsi_rules.proofs.ElementLemmas.{In, append-in_second, in-append}
+use Rattle.iscsi_rules.proofs.NewlyLemmas.{never_free}
 use Rattle.iscsi_outbox_rules.specs.rules.Words.{contains}
 use Rattle.iscsi_outbox_law.specs.Pairs.{EachOf}
 use Rattle.iscsi_ffi_law.proofs.DoneCounts.{newly_counted}

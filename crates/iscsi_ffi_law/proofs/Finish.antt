@@ -4,10 +4,10 @@ use Rattle.std.specs.List.{list_any}
 use Rattle.std.proofs.lemmas.List.{length-map}
 use Rattle.std.proofs.lemmas.List.Elements.{filter_agree}
 use Rattle.std.proofs.lemmas.List.Sums.{sum_by-append}
-use Rattle.iscsi_history.proofs.BoolLemmas.{and_parts}
-use Rattle.iscsi_history.proofs.ListLemmas.{count_by-map, filter-shorter}
-use Rattle.iscsi_history.specs.rules.Settings.{are_distinct}
-use Rattle.iscsi_history.specs.rules.Trace.{waiting}
+use Rattle.iscsi_rules.proofs.BoolLemmas.{and_parts}
+use Rattle.iscsi_rules.proofs.ListLemmas.{count_by-map, filter-shorter}
+use Rattle.iscsi_rules.specs.rules.Settings.{are_distinct}
+use Rattle.iscsi_rules.specs.rules.Trace.{waiting}
 use Rattle.iscsi_outbox_rules.specs.rules.Words.{contains, is_running}
 use Rattle.iscsi_outbox_rules.specs.rules.Boxes.{Answer, Link}
 use Rattle.iscsi_outbox_rules.specs.rules.Handing as box

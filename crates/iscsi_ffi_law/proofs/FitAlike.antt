@@ -1,12 +1,12 @@
 -- The calls of a list go alike, by what holds of both sides.
 use Rattle.std.proofs.Common.{zero, suc, ◌++◌, length, ◌≡◌, ℕ, ◌+◌, ◌&&◌, inl, inr, Bool, true, false, List, [], ◌∷◌, Option, Some, None, filter, not, refl}
-use Rattle.iscsi_history.specs.rules.Settings.{is_known}
-use Rattle.iscsi_history.specs.rules.Trace.{Command, entered, has, is_closed, leaves_ticket, was_free}
+use Rattle.iscsi_rules.specs.rules.Settings.{is_known}
+use Rattle.iscsi_rules.specs.rules.Trace.{Command, entered, has, is_closed, leaves_ticket, was_free}
 use Rattle.iscsi_outbox_rules.specs.rules.Calls as outbox
 use Rattle.iscsi_outbox_rules.specs.rules.Words.{contains}
 use Rattle.iscsi_ffi_rules.specs.declared.refusal.Refusal.{Refusal}
-use Rattle.iscsi_history.specs.declared.event.Event.TheVariants.{Arrive, Done}
-use Rattle.iscsi_history.specs.rules.Trace.{live}
+use Rattle.iscsi_rules.specs.declared.event.Event.TheVariants.{Arrive, Done}
+use Rattle.iscsi_rules.specs.rules.Trace.{live}
 use Rattle.iscsi_ffi_rules.specs.rules.Happening.{happening}
 use Rattle.iscsi_ffi_rules.specs.rules.Calls.{Arrives, Call, Cleared, Clears, Completes, Hears, Interface, Joins, Loses, Nexts, Puts, Stops, Writes}
 use Rattle.iscsi_ffi_rules.specs.rules.Run.{after_call, heard_in, is_going, is_lost, refusal_of}
@@ -34,8 +34,8 @@ use Rattle.iscsi_ffi_law.proofs.FitLoss.{loss_holds}
 use Rattle.iscsi_ffi_law.proofs.Members.{each_in, in_pairs}
 use Rattle.iscsi_ffi_law.proofs.Opened.{stands_begun}
 use Rattle.iscsi_ffi_law.specs.Parts.{IsCommand, IsLiveNamed, is_named}
-use Rattle.iscsi_history.proofs.BoolLemmas.{not_true}
-use Rattle.iscsi_history.proofs.ElementLemmas.{In, filter-in, in-filter}
+use Rattle.iscsi_rules.proofs.BoolLemmas.{not_true}
+use Rattle.iscsi_rules.proofs.ElementLemmas.{In, filter-in, in-filter}
 
 -- who asked for what doesn't matter as commands complete
 done_asked : (i : Interface) (m : ℕ) (s : Side) (asked : List Asked) (acts acts' : List Action) → AreDoneFit i m (record { side = s; actions = acts }) → AreDoneFit i m (record { side = record s { asked = asked }; actions = acts' })

@@ -3,26 +3,26 @@ use Rattle.std.proofs.Common.{◌≡◌, ℕ, zero, suc, ◌+◌, ◌-◌, ◌==
 use Rattle.iscsi_wire.specs.declared.reply.Reply.{Reply}
 use Rattle.iscsi_wire.specs.declared.reply.Reply.TheVariants.{Reject, Task}
 use Rattle.iscsi_wire.specs.Fields.{connection_of, header_of, is_immediate, itt, opcode, request_of}
-use Rattle.iscsi_history.specs.declared.effect.Why.{Why}
-use Rattle.iscsi_history.specs.declared.effect.Why.TheVariants.{Closed, Data, Duplicate, Outside, Stale}
-use Rattle.iscsi_history.specs.declared.event.Event.{Event}
-use Rattle.iscsi_history.specs.declared.event.Event.TheVariants.{Arrive, Done}
-use Rattle.iscsi_history.specs.declared.kind.Kind.{Kind}
-use Rattle.iscsi_history.specs.declared.kind.Kind.TheVariants.{Executes as ExecutesKind, PassedOver, Unknown}
-use Rattle.iscsi_history.specs.rules.Agenda.{arrival, arrival_as, arrival_of, arrival_open, command_of, items_of, kind_of, numbered, with_turns}
-use Rattle.iscsi_history.specs.rules.Execution.{completion, exp_of, ignored, max_of, reply_on}
-use Rattle.iscsi_history.specs.rules.Items.{agenda, at_number, execution, function_item, functions, functions_at, immediate_item, is_waiting, item_of, turn_at, waiting_item}
-use Rattle.iscsi_history.specs.rules.Management.{MOST_WAITING, may_wait, refusal_of_function, waiting_on}
-use Rattle.iscsi_history.specs.rules.Settings.{Setting}
-use Rattle.iscsi_history.specs.rules.Trace.{Admits, Arrival, ClosesConn, ClosesSession, Command, Delivers, Empties, Enters, Executes, Ignores, Leaves, Mark, Sends, Trace, Voids, Waits, after_items, entered, enters, held, is_closed, is_received, live, shown, waiting, waiting_through, was_free}
-use Rattle.iscsi_history.proofs.ElementLemmas.{first-in, in-filter}
-use Rattle.iscsi_history.proofs.FormItems.{Does, does_after, does_function, does_reply}
-use Rattle.iscsi_history.proofs.Forms.{AfterWaiting, AtArrival, AtTurn, Completed, Each, EntersAs, Executed, Form, HasForm, Ignored, IsFormed, Postponed, Received, Rejected, Start, Starts, marks_done, marks_of_form, start_mark}
-use Rattle.iscsi_history.proofs.HeldLemmas.{admitted_of_held, held-number}
-use Rattle.iscsi_history.proofs.NumberingLemmas.{to_list, unseen}
-use Rattle.iscsi_history.proofs.ReplyForms.{replies_seen}
-use Rattle.iscsi_history.proofs.ReplyTurns.{admitted_there}
-use Rattle.iscsi_history.proofs.TouchLemmas.{entering_in, enters_form}
+use Rattle.iscsi_rules.specs.declared.effect.Why.{Why}
+use Rattle.iscsi_rules.specs.declared.effect.Why.TheVariants.{Closed, Data, Duplicate, Outside, Stale}
+use Rattle.iscsi_rules.specs.declared.event.Event.{Event}
+use Rattle.iscsi_rules.specs.declared.event.Event.TheVariants.{Arrive, Done}
+use Rattle.iscsi_rules.specs.declared.kind.Kind.{Kind}
+use Rattle.iscsi_rules.specs.declared.kind.Kind.TheVariants.{Executes as ExecutesKind, PassedOver, Unknown}
+use Rattle.iscsi_rules.specs.rules.Agenda.{arrival, arrival_as, arrival_of, arrival_open, command_of, items_of, kind_of, numbered, with_turns}
+use Rattle.iscsi_rules.specs.rules.Execution.{completion, exp_of, ignored, max_of, reply_on}
+use Rattle.iscsi_rules.specs.rules.Items.{agenda, at_number, execution, function_item, functions, functions_at, immediate_item, is_waiting, item_of, turn_at, waiting_item}
+use Rattle.iscsi_rules.specs.rules.Management.{MOST_WAITING, may_wait, refusal_of_function, waiting_on}
+use Rattle.iscsi_rules.specs.rules.Settings.{Setting}
+use Rattle.iscsi_rules.specs.rules.Trace.{Admits, Arrival, ClosesConn, ClosesSession, Command, Delivers, Empties, Enters, Executes, Ignores, Leaves, Mark, Sends, Trace, Voids, Waits, after_items, entered, enters, held, is_closed, is_received, live, shown, waiting, waiting_through, was_free}
+use Rattle.iscsi_rules.proofs.ElementLemmas.{first-in, in-filter}
+use Rattle.iscsi_rules.proofs.FormItems.{Does, does_after, does_function, does_reply}
+use Rattle.iscsi_rules.proofs.Forms.{AfterWaiting, AtArrival, AtTurn, Completed, Each, EntersAs, Executed, Form, HasForm, Ignored, IsFormed, Postponed, Received, Rejected, Start, Starts, marks_done, marks_of_form, start_mark}
+use Rattle.iscsi_rules.proofs.HeldLemmas.{admitted_of_held, held-number}
+use Rattle.iscsi_rules.proofs.NumberingLemmas.{to_list, unseen}
+use Rattle.iscsi_rules.proofs.ReplyForms.{replies_seen}
+use Rattle.iscsi_rules.proofs.ReplyTurns.{admitted_there}
+use Rattle.iscsi_rules.proofs.TouchLemmas.{entering_in, enters_form}
 use Rattle.iscsi_outbox_law.specs.Pairs.{EachOf}
 use Rattle.iscsi_outbox_law.proofs.PairLemmas.{each-append, each-filter, each-weaken}
 use Rattle.iscsi_ffi_rules.specs.rules.Needs.{admitted_by}

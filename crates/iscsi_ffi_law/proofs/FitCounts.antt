@@ -2,19 +2,19 @@
 use Rattle.std.proofs.Common.{◌≡◌, ℕ, suc, ◌+◌, ◌≤◌, ◌==◌, ◌&&◌, ◌||◌, not, nat_lt, Bool, true, false, List, [], ◌∷◌, ◌++◌, map, filter, filter_map, count_by, length, refl, ap, sym, subst, ◌∙◌, arith, length-append}
 use Rattle.std.specs.List.{flat_map}
 use Rattle.std.proofs.lemmas.List.Elements.{filter_map-append}
-use Rattle.iscsi_history.specs.declared.effect.Effect.{Effect}
-use Rattle.iscsi_history.specs.declared.effect.Effect.TheVariants.{Enable}
-use Rattle.iscsi_history.specs.declared.event.Event.{Event}
-use Rattle.iscsi_history.specs.rules.Agenda.{arrival, items_of}
-use Rattle.iscsi_history.specs.rules.Run.{effects_of, effects_of_item, effects_of_mark, entry_of, newly_enabled}
-use Rattle.iscsi_history.specs.rules.Settings.{Setting}
-use Rattle.iscsi_history.specs.rules.Trace.{Admits, Arrival, ClosesConn, ClosesSession, Command, Delivers, Empties, Enters, Executes, Ignores, Leaves, Mark, Sends, Trace, Voids, Waits, after_items, enabled_in, is_free_at, live, waiting, was_free}
-use Rattle.iscsi_history.proofs.CountLemmas.{count-cons, count-filter, count-split, count-weaker}
-use Rattle.iscsi_history.proofs.Forms.{AfterWaiting, AtArrival, AtTurn, Form, HasForm, IsFormed, Start, marks_done, marks_of_form, start_mark}
-use Rattle.iscsi_history.proofs.ListLemmas.{count_by-push, fewer_counted}
-use Rattle.iscsi_history.proofs.NumberingLemmas.{to_list}
-use Rattle.iscsi_history.proofs.ReplyForms.{live_form}
-use Rattle.iscsi_history.proofs.TouchLemmas.{entering_in, enters_form}
+use Rattle.iscsi_rules.specs.declared.effect.Effect.{Effect}
+use Rattle.iscsi_rules.specs.declared.effect.Effect.TheVariants.{Enable}
+use Rattle.iscsi_rules.specs.declared.event.Event.{Event}
+use Rattle.iscsi_rules.specs.rules.Agenda.{arrival, items_of}
+use Rattle.iscsi_rules.specs.rules.Run.{effects_of, effects_of_item, effects_of_mark, entry_of, newly_enabled}
+use Rattle.iscsi_rules.specs.rules.Settings.{Setting}
+use Rattle.iscsi_rules.specs.rules.Trace.{Admits, Arrival, ClosesConn, ClosesSession, Command, Delivers, Empties, Enters, Executes, Ignores, Leaves, Mark, Sends, Trace, Voids, Waits, after_items, enabled_in, is_free_at, live, waiting, was_free}
+use Rattle.iscsi_rules.proofs.CountLemmas.{count-cons, count-filter, count-split, count-weaker}
+use Rattle.iscsi_rules.proofs.Forms.{AfterWaiting, AtArrival, AtTurn, Form, HasForm, IsFormed, Start, marks_done, marks_of_form, start_mark}
+use Rattle.iscsi_rules.proofs.ListLemmas.{count_by-push, fewer_counted}
+use Rattle.iscsi_rules.proofs.NumberingLemmas.{to_list}
+use Rattle.iscsi_rules.proofs.ReplyForms.{live_form}
+use Rattle.iscsi_rules.proofs.TouchLemmas.{entering_in, enters_form}
 use Rattle.iscsi_outbox_rules.specs.rules.Items.{ticket_enabled}
 use Rattle.iscsi_outbox_rules.proofs.ClosedParts.{EachOn}
 use Rattle.iscsi_outbox_rules.proofs.RoomEnters.{Entering, Formed, entering, enters_in, event_enters, pending}

@@ -2,17 +2,17 @@
 use Rattle.std.proofs.Common.{◌≡◌, ℕ, ◌+◌, ◌^◌, ◌≤◌, ◌<◌, cond, nat_lt, Bool, true, false, List, [], ◌∷◌, filter_map, length, None, refl, ap, subst, arith, inl}
 use Rattle.std.proofs.lemmas.Bool.{and_parts, ltb-true}
 use Rattle.iscsi_wire.specs.Fields.{request_of}
-use Rattle.iscsi_history.specs.declared.effect.Effect.{Effect}
-use Rattle.iscsi_history.specs.declared.event.Event.{Event}
-use Rattle.iscsi_history.specs.declared.event.Event.TheVariants.{Arrive}
-use Rattle.iscsi_history.specs.promises.Order.{in_parts}
-use Rattle.iscsi_history.specs.rules.Agenda.{arrival_of, items_of}
-use Rattle.iscsi_history.specs.rules.Run.{effects_of}
-use Rattle.iscsi_history.specs.rules.Execution.{exp_of}
-use Rattle.iscsi_history.specs.rules.Trace.{Arrival, Command, is_closed, live, waiting, was_free}
-use Rattle.iscsi_history.proofs.CloseRuns.{event_sound}
-use Rattle.iscsi_history.proofs.ElementLemmas.{In}
-use Rattle.iscsi_history.proofs.FormRuns.{event_going as event_forms}
+use Rattle.iscsi_rules.specs.declared.effect.Effect.{Effect}
+use Rattle.iscsi_rules.specs.declared.event.Event.{Event}
+use Rattle.iscsi_rules.specs.declared.event.Event.TheVariants.{Arrive}
+use Rattle.iscsi_rules.specs.promises.Order.{in_parts}
+use Rattle.iscsi_rules.specs.rules.Agenda.{arrival_of, items_of}
+use Rattle.iscsi_rules.specs.rules.Run.{effects_of}
+use Rattle.iscsi_rules.specs.rules.Execution.{exp_of}
+use Rattle.iscsi_rules.specs.rules.Trace.{Arrival, Command, is_closed, live, waiting, was_free}
+use Rattle.iscsi_rules.proofs.CloseRuns.{event_sound}
+use Rattle.iscsi_rules.proofs.ElementLemmas.{In}
+use Rattle.iscsi_rules.proofs.FormRuns.{event_going as event_forms}
 use Rattle.iscsi_outbox_rules.specs.rules.Boxes.{Box}
 use Rattle.iscsi_outbox_rules.specs.rules.Calls as outbox
 use Rattle.iscsi_outbox_rules.specs.promises.Room.{places}

@@ -3,14 +3,14 @@ use Rattle.std.proofs.Common.{◌≡◌, ℕ, ◌^◌, ◌≤◌, ◌==◌, ◌&
 use Rattle.std.specs.List.{list_any}
 use Rattle.std.proofs.lemmas.Bool.{and_parts, eqb-true, false≢true, leb-true}
 use Rattle.iscsi_wire.specs.Fields.{connection_of}
-use Rattle.iscsi_history.specs.rules.Agenda.{command_of}
-use Rattle.iscsi_history.specs.rules.Settings.{Setting, are_distinct, are_sizes_valid, is_known, is_within}
-use Rattle.iscsi_history.specs.rules.Trace.{Command, Trace, entered, has, is_closed, leaves_ticket, live, was_free}
-use Rattle.iscsi_history.proofs.BoolLemmas.{and_both, not_true}
-use Rattle.iscsi_history.proofs.CloseLemmas.{Clear}
-use Rattle.iscsi_history.proofs.CloseRuns.{clear_of}
-use Rattle.iscsi_history.proofs.ElementLemmas.{In, first-in, in-filter}
-use Rattle.iscsi_history.proofs.ListLemmas.{list_any-map}
+use Rattle.iscsi_rules.specs.rules.Agenda.{command_of}
+use Rattle.iscsi_rules.specs.rules.Settings.{Setting, are_distinct, are_sizes_valid, is_known, is_within}
+use Rattle.iscsi_rules.specs.rules.Trace.{Command, Trace, entered, has, is_closed, leaves_ticket, live, was_free}
+use Rattle.iscsi_rules.proofs.BoolLemmas.{and_both, not_true}
+use Rattle.iscsi_rules.proofs.CloseLemmas.{Clear}
+use Rattle.iscsi_rules.proofs.CloseRuns.{clear_of}
+use Rattle.iscsi_rules.proofs.ElementLemmas.{In, first-in, in-filter}
+use Rattle.iscsi_rules.proofs.ListLemmas.{list_any-map}
 use Rattle.iscsi_outbox_rules.specs.rules.Boxes.{Link, Task}
 use Rattle.iscsi_outbox_rules.specs.rules.Queues.{takes_more}
 use Rattle.iscsi_outbox_rules.specs.rules.Words.{contains, is_live_phase}

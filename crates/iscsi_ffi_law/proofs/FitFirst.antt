@@ -4,17 +4,17 @@ use Rattle.std.proofs.lemmas.Bool.{eqb-true}
 use Rattle.iscsi_wire.specs.declared.reply.Reply.{Reply}
 use Rattle.iscsi_wire.specs.declared.reply.Reply.TheVariants.{Reject, Task}
 use Rattle.iscsi_wire.specs.Fields.{connection_of, header_of, is_immediate, itt, opcode}
-use Rattle.iscsi_history.specs.declared.effect.Why.TheVariants.{Closed, Duplicate, Outside}
-use Rattle.iscsi_history.specs.declared.kind.Kind.{Kind}
-use Rattle.iscsi_history.specs.declared.kind.Kind.TheVariants.{Executes as ExecutesKind, PassedOver, Unknown}
-use Rattle.iscsi_history.specs.rules.Agenda.{arrival, arrival_as, arrival_open, kind_of, numbered, with_turns}
-use Rattle.iscsi_history.specs.rules.Execution.{exp_of, ignored, max_of, reply_on}
-use Rattle.iscsi_history.specs.rules.Items.{agenda, at_number, execution, function_item, functions, functions_at, immediate_item, item_of, turn_at, waiting_item}
-use Rattle.iscsi_history.specs.rules.Management.{MOST_WAITING, may_wait, refusal_of_function, waiting_on}
-use Rattle.iscsi_history.specs.rules.Settings.{Setting}
-use Rattle.iscsi_history.specs.rules.Trace.{Admits, Arrival, Executes, Mark, Trace, Waits, after_items, first_of, held, is_closed, is_received, waiting}
-use Rattle.iscsi_history.proofs.ListLemmas.{filter-shorter, filter-swap}
-use Rattle.iscsi_history.proofs.WaitingItems.{first_function, waiting_after_function, waits_itself, without_event}
+use Rattle.iscsi_rules.specs.declared.effect.Why.TheVariants.{Closed, Duplicate, Outside}
+use Rattle.iscsi_rules.specs.declared.kind.Kind.{Kind}
+use Rattle.iscsi_rules.specs.declared.kind.Kind.TheVariants.{Executes as ExecutesKind, PassedOver, Unknown}
+use Rattle.iscsi_rules.specs.rules.Agenda.{arrival, arrival_as, arrival_open, kind_of, numbered, with_turns}
+use Rattle.iscsi_rules.specs.rules.Execution.{exp_of, ignored, max_of, reply_on}
+use Rattle.iscsi_rules.specs.rules.Items.{agenda, at_number, execution, function_item, functions, functions_at, immediate_item, item_of, turn_at, waiting_item}
+use Rattle.iscsi_rules.specs.rules.Management.{MOST_WAITING, may_wait, refusal_of_function, waiting_on}
+use Rattle.iscsi_rules.specs.rules.Settings.{Setting}
+use Rattle.iscsi_rules.specs.rules.Trace.{Admits, Arrival, Executes, Mark, Trace, Waits, after_items, first_of, held, is_closed, is_received, waiting}
+use Rattle.iscsi_rules.proofs.ListLemmas.{filter-shorter, filter-swap}
+use Rattle.iscsi_rules.proofs.WaitingItems.{first_function, waiting_after_function, waits_itself, without_event}
 use Rattle.iscsi_outbox_rules.proofs.ClosedParts.{EachOn}
 
 on-append : (P : Trace → List Mark → Type 0) (t : Trace) (xs ys : List (List Mark)) → EachOn P t xs → EachOn P (after_items xs t) ys → EachOn P t (xs ++ ys)

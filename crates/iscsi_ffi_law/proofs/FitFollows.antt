@@ -3,18 +3,18 @@ use Rattle.std.proofs.Common.{◌≡◌, ℕ, zero, suc, ◌++◌, ◌+◌, ◌<
 use Rattle.std.specs.List.{list_any, range_with_len}
 use Rattle.std.proofs.lemmas.Bool.{cond_both, false≢true}
 use Rattle.iscsi_wire.specs.Serial.{lift}
-use Rattle.iscsi_history.specs.declared.effect.Effect.{Effect}
-use Rattle.iscsi_history.specs.declared.entry.Entry.{Entry}
-use Rattle.iscsi_history.specs.declared.event.Event.{Event}
-use Rattle.iscsi_history.specs.promises.Order.{in_parts}
-use Rattle.iscsi_history.specs.rules.Agenda.{belongs, items_of}
-use Rattle.iscsi_history.specs.rules.Run.{after_event, effects_of_item, entry_of}
-use Rattle.iscsi_history.specs.rules.Trace.{Command, Mark, Trace, after_items, entered, has, is_closed, leaves_ticket, live}
-use Rattle.iscsi_history.proofs.CloseRuns.{Sounds, clear_of, event_sound}
-use Rattle.iscsi_history.proofs.FormRuns.{event_going}
-use Rattle.iscsi_history.proofs.Forms.{HasForm, HaveForms}
-use Rattle.iscsi_history.proofs.LifeLemmas.{tickets_count}
-use Rattle.iscsi_history.proofs.ListLemmas.{any_filter, any_same, list_any-map}
+use Rattle.iscsi_rules.specs.declared.effect.Effect.{Effect}
+use Rattle.iscsi_rules.specs.declared.entry.Entry.{Entry}
+use Rattle.iscsi_rules.specs.declared.event.Event.{Event}
+use Rattle.iscsi_rules.specs.promises.Order.{in_parts}
+use Rattle.iscsi_rules.specs.rules.Agenda.{belongs, items_of}
+use Rattle.iscsi_rules.specs.rules.Run.{after_event, effects_of_item, entry_of}
+use Rattle.iscsi_rules.specs.rules.Trace.{Command, Mark, Trace, after_items, entered, has, is_closed, leaves_ticket, live}
+use Rattle.iscsi_rules.proofs.CloseRuns.{Sounds, clear_of, event_sound}
+use Rattle.iscsi_rules.proofs.FormRuns.{event_going}
+use Rattle.iscsi_rules.proofs.Forms.{HasForm, HaveForms}
+use Rattle.iscsi_rules.proofs.LifeLemmas.{tickets_count}
+use Rattle.iscsi_rules.proofs.ListLemmas.{any_filter, any_same, list_any-map}
 use Rattle.iscsi_outbox_rules.specs.rules.Boxes.{Box, Handed, Link, Task}
 use Rattle.iscsi_outbox_rules.specs.rules.Calls.{Call, Clears, Hears, Joins, Loses, Nexts, Opening, Puts, Stops, Takes, Writes}
 use Rattle.iscsi_outbox_rules.specs.rules.Items.{after_item, after_items as after_box_items, phase_told}

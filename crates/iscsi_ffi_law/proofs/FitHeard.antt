@@ -6,10 +6,10 @@ use Rattle.std.proofs.lemmas.Bool.{cond_both, eqb-true}
 use Rattle.std.proofs.lemmas.Bool.Decides.{nat_tests}
 use Rattle.std.proofs.lemmas.List.Sums.{sum_by-append, sum_by-cons}
 use Rattle.iscsi_wire.specs.Fields.{request_of}
-use Rattle.iscsi_history.specs.declared.event.Event.TheVariants.{Arrive}
-use Rattle.iscsi_history.specs.rules.Settings.{are_distinct, is_known}
-use Rattle.iscsi_history.proofs.BoolLemmas.{and_both, and_parts, not_true, or_first, or_none, or_second}
-use Rattle.iscsi_history.proofs.CountLemmas.{count-cons, count-weaker, one}
+use Rattle.iscsi_rules.specs.declared.event.Event.TheVariants.{Arrive}
+use Rattle.iscsi_rules.specs.rules.Settings.{are_distinct, is_known}
+use Rattle.iscsi_rules.proofs.BoolLemmas.{and_both, and_parts, not_true, or_first, or_none, or_second}
+use Rattle.iscsi_rules.proofs.CountLemmas.{count-cons, count-weaker, one}
 use Rattle.iscsi_outbox_rules.specs.rules.Boxes.{Answer, Box, Handed, Link, Outgoing, Task}
 use Rattle.iscsi_outbox_rules.specs.rules.Calls.{Hears, Loses, Opening}
 use Rattle.iscsi_outbox_rules.specs.rules.Due.{is_due, settle, settle_from}

@@ -4,12 +4,12 @@ use Rattle.std.specs.List.{range_with_len}
 use Rattle.std.proofs.lemmas.Bool.{cases_lt, eqb-true, false≢true, lt-ltb}
 use Rattle.std.proofs.lemmas.List.FromFn.{length-range_with_len}
 use Rattle.std.proofs.lemmas.List.{length-map}
-use Rattle.iscsi_history.specs.rules.Execution.{exp_of}
-use Rattle.iscsi_history.specs.rules.Trace.{Arrival, Trace, held, shown}
-use Rattle.iscsi_history.proofs.BoolLemmas.{and_both, and_parts}
-use Rattle.iscsi_history.proofs.CountLemmas.{count-cons, one}
-use Rattle.iscsi_history.proofs.ElementLemmas.{In, range-in}
-use Rattle.iscsi_history.proofs.HeldLemmas.{held-number}
+use Rattle.iscsi_rules.specs.rules.Execution.{exp_of}
+use Rattle.iscsi_rules.specs.rules.Trace.{Arrival, Trace, held, shown}
+use Rattle.iscsi_rules.proofs.BoolLemmas.{and_both, and_parts}
+use Rattle.iscsi_rules.proofs.CountLemmas.{count-cons, one}
+use Rattle.iscsi_rules.proofs.ElementLemmas.{In, range-in}
+use Rattle.iscsi_rules.proofs.HeldLemmas.{held-number}
 use Rattle.iscsi_slots.specs.Slots.{times}
 use Rattle.iscsi_requests.specs.Cookies.{Request, is_at, uses_at}
 use Rattle.iscsi_ffi_rules.specs.rules.Calls.{Interface}

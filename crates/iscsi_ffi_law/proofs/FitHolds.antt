@@ -4,16 +4,16 @@ use Rattle.std.specs.List.{flat_map}
 use Rattle.std.proofs.lemmas.Bool.{and_parts, false≢true}
 use Rattle.iscsi_wire.specs.declared.reply.Reply.{Reply}
 use Rattle.iscsi_wire.specs.Fields.{request_of}
-use Rattle.iscsi_history.specs.declared.event.Event.{Event}
-use Rattle.iscsi_history.specs.declared.event.Event.TheVariants.{Arrive, Done}
-use Rattle.iscsi_history.specs.promises.Replies.{reply_sent}
-use Rattle.iscsi_history.specs.rules.Agenda.{belongs, items_of}
-use Rattle.iscsi_history.specs.rules.Run.{entry_of}
-use Rattle.iscsi_history.specs.rules.Settings.{Setting, are_distinct, is_known}
-use Rattle.iscsi_history.specs.rules.Trace.{Arrival, Command, Mark, Trace, entered, first_of, has, is_closed, leaves_ticket}
-use Rattle.iscsi_history.proofs.BoolLemmas.{and_both, or_first}
-use Rattle.iscsi_history.proofs.ElementLemmas.{In, in-filter}
-use Rattle.iscsi_history.proofs.Forms.{HaveForms, AfterWaiting, AtArrival, AtTurn, Completed, Executed, Form, Ignored, IsFormed, Postponed, Received, Rejected, marks_of_form}
+use Rattle.iscsi_rules.specs.declared.event.Event.{Event}
+use Rattle.iscsi_rules.specs.declared.event.Event.TheVariants.{Arrive, Done}
+use Rattle.iscsi_rules.specs.promises.Replies.{reply_sent}
+use Rattle.iscsi_rules.specs.rules.Agenda.{belongs, items_of}
+use Rattle.iscsi_rules.specs.rules.Run.{entry_of}
+use Rattle.iscsi_rules.specs.rules.Settings.{Setting, are_distinct, is_known}
+use Rattle.iscsi_rules.specs.rules.Trace.{Arrival, Command, Mark, Trace, entered, first_of, has, is_closed, leaves_ticket}
+use Rattle.iscsi_rules.proofs.BoolLemmas.{and_both, or_first}
+use Rattle.iscsi_rules.proofs.ElementLemmas.{In, in-filter}
+use Rattle.iscsi_rules.proofs.Forms.{HaveForms, AfterWaiting, AtArrival, AtTurn, Completed, Executed, Form, Ignored, IsFormed, Postponed, Received, Rejected, marks_of_form}
 use Rattle.iscsi_outbox_rules.specs.promises.Room.{Happens, after_step, is_other, is_parting, is_read_with_room}
 use Rattle.iscsi_outbox_rules.specs.rules.Boxes.{Link}
 use Rattle.iscsi_outbox_rules.specs.rules.Calls as outbox
@@ -33,9 +33,9 @@ use Rattle.iscsi_ffi_law.proofs.FitPlaces.{ArePlaced, placed_call, placed_event,
 use Rattle.iscsi_ffi_law.proofs.FitRefusals.{link_there, taken_in}
 use Rattle.iscsi_ffi_law.proofs.FitSides.{IsGood, good_begun, good_event, good_more, good_other, none_taken}
 use Rattle.std.specs.List.{cons_option}
-use Rattle.iscsi_history.proofs.FormRuns.{event_going as event_forms}
-use Rattle.iscsi_history.specs.rules.Trace.{after_items, live, live_in}
-use Rattle.iscsi_history.specs.rules.Run.{after_event}
+use Rattle.iscsi_rules.proofs.FormRuns.{event_going as event_forms}
+use Rattle.iscsi_rules.specs.rules.Trace.{after_items, live, live_in}
+use Rattle.iscsi_rules.specs.rules.Run.{after_event}
 use Rattle.iscsi_outbox_rules.specs.rules.Items.{ticket_enabled}
 use Rattle.iscsi_ffi_rules.specs.rules.Clearing.{is_marked, is_withheld}
 use Rattle.iscsi_ffi_rules.specs.rules.Happening.{live_with, starting, stepped}
@@ -44,7 +44,7 @@ use Rattle.iscsi_ffi_law.proofs.FitOnce.{AreTickets, entered_after, ticket_low}
 use Rattle.iscsi_ffi_law.proofs.FitReceived.{IsWired, wired, wired_bytes}
 use Rattle.iscsi_ffi_law.proofs.FitTurns.{IsTurned, event_turned, none_turned}
 use Rattle.iscsi_ffi_law.proofs.FitWalks.{IsSimple, SideWalk}
-use Rattle.iscsi_history.specs.rules.Execution.{exp_of}
+use Rattle.iscsi_rules.specs.rules.Execution.{exp_of}
 use Rattle.iscsi_ffi_law.specs.Sides.{AreBytes, asking}
 use Rattle.iscsi_ffi_law.proofs.Members.{each_in, in_each, find_in}
 

@@ -5,21 +5,21 @@ use Rattle.std.proofs.lemmas.Bool.{false≢true}
 use Rattle.std.proofs.lemmas.List.Folds.{list_any-append}
 use Rattle.iscsi_wire.specs.declared.reply.Reply.{Reply}
 use Rattle.iscsi_wire.specs.Fields.{connection_of}
-use Rattle.iscsi_history.specs.declared.effect.Effect.{Effect}
-use Rattle.iscsi_history.specs.declared.effect.Effect.TheVariants.{Enable}
-use Rattle.iscsi_history.specs.rules.Run.{effects_of, effects_of_item, effects_of_mark, newly_enabled}
-use Rattle.iscsi_history.specs.rules.Logout.{is_open}
-use Rattle.iscsi_history.specs.rules.Settings.{Setting, is_known}
-use Rattle.iscsi_history.specs.rules.Trace.{Admits, Arrival, ClosesConn, ClosesSession, Command, Delivers, Empties, Enters, Executes, Ignores, Leaves, Mark, Sends, Trace, Voids, Waits, after_items, entered, enters, first_of, has, is_among, is_closed, leaves_ticket, waiting}
-use Rattle.iscsi_history.proofs.BoolLemmas.{and_parts, not_true, or_first, or_none, or_second}
-use Rattle.iscsi_history.proofs.CloseLemmas.{Sound, is_at}
-use Rattle.iscsi_history.proofs.CloseRuns.{Sounds, clear_of}
-use Rattle.iscsi_history.proofs.ElementLemmas.{in-filter}
-use Rattle.iscsi_history.proofs.Forms.{AfterWaiting, AtArrival, AtTurn, Completed, Each, Executed, Form, HasForm, HaveForms, Ignored, IsFormed, Postponed, Received, Rejected, Start, marks_done, marks_of_form, start_mark}
-use Rattle.iscsi_history.proofs.LifeLemmas.{beyond_entered}
-use Rattle.iscsi_history.proofs.ListLemmas.{fewer_counted, list_any-map}
-use Rattle.iscsi_history.proofs.NumberingLemmas.{to_list}
-use Rattle.iscsi_history.proofs.TouchLemmas.{EntersNext, entering_in, entering_next, enters_form, leaves_form, leaving_few, leaving_in}
+use Rattle.iscsi_rules.specs.declared.effect.Effect.{Effect}
+use Rattle.iscsi_rules.specs.declared.effect.Effect.TheVariants.{Enable}
+use Rattle.iscsi_rules.specs.rules.Run.{effects_of, effects_of_item, effects_of_mark, newly_enabled}
+use Rattle.iscsi_rules.specs.rules.Logout.{is_open}
+use Rattle.iscsi_rules.specs.rules.Settings.{Setting, is_known}
+use Rattle.iscsi_rules.specs.rules.Trace.{Admits, Arrival, ClosesConn, ClosesSession, Command, Delivers, Empties, Enters, Executes, Ignores, Leaves, Mark, Sends, Trace, Voids, Waits, after_items, entered, enters, first_of, has, is_among, is_closed, leaves_ticket, waiting}
+use Rattle.iscsi_rules.proofs.BoolLemmas.{and_parts, not_true, or_first, or_none, or_second}
+use Rattle.iscsi_rules.proofs.CloseLemmas.{Sound, is_at}
+use Rattle.iscsi_rules.proofs.CloseRuns.{Sounds, clear_of}
+use Rattle.iscsi_rules.proofs.ElementLemmas.{in-filter}
+use Rattle.iscsi_rules.proofs.Forms.{AfterWaiting, AtArrival, AtTurn, Completed, Each, Executed, Form, HasForm, HaveForms, Ignored, IsFormed, Postponed, Received, Rejected, Start, marks_done, marks_of_form, start_mark}
+use Rattle.iscsi_rules.proofs.LifeLemmas.{beyond_entered}
+use Rattle.iscsi_rules.proofs.ListLemmas.{fewer_counted, list_any-map}
+use Rattle.iscsi_rules.proofs.NumberingLemmas.{to_list}
+use Rattle.iscsi_rules.proofs.TouchLemmas.{EntersNext, entering_in, entering_next, enters_form, leaves_form, leaving_few, leaving_in}
 use Rattle.iscsi_outbox_rules.specs.rules.Boxes.{Box, Link, Task}
 use Rattle.iscsi_outbox_rules.specs.rules.Items.{after_item, reply_sent}
 use Rattle.iscsi_outbox_rules.specs.rules.Queues.{takes_more}

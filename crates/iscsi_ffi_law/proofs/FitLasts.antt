@@ -1,9 +1,9 @@
 -- What holds of a side behind so many calls, with what is known of its replies and of the phases of its commands.
 use Rattle.std.proofs.Common.{◌≡◌, ℕ, ◌+◌, true, false, List, None, refl}
-use Rattle.iscsi_history.specs.declared.event.Event.{Event}
-use Rattle.iscsi_history.specs.declared.event.Event.TheVariants.{Arrive, Done}
-use Rattle.iscsi_history.specs.rules.Settings.{are_distinct, is_known}
-use Rattle.iscsi_history.specs.rules.Trace.{is_closed}
+use Rattle.iscsi_rules.specs.declared.event.Event.{Event}
+use Rattle.iscsi_rules.specs.declared.event.Event.TheVariants.{Arrive, Done}
+use Rattle.iscsi_rules.specs.rules.Settings.{are_distinct, is_known}
+use Rattle.iscsi_rules.specs.rules.Trace.{is_closed}
 use Rattle.iscsi_outbox_rules.specs.rules.Calls as outbox
 use Rattle.iscsi_outbox_law.proofs.SoundCalls.{TakesNone}
 use Rattle.iscsi_ffi_rules.specs.rules.Calls.{Interface}

@@ -1,24 +1,24 @@
 -- What is known of a command that leaves by a request: its own request is neither held nor waits, has no reply, and it runs on where it was told.
 use Rattle.std.proofs.Common.{◌≡◌, ℕ, ◌+◌, ◌<◌, ◌≤◌, ◌==◌, ◌&&◌, ◌||◌, not, ⊎_elim, cond, Bool, true, false, List, [], ◌∷◌, ◌++◌, length, count_by, filter_map, find, is_some, Option, Some, None, refl, ap, sym, subst, ◌∙◌, arith, eq-eqb, lt-ltb, nat_lt, ne_eqb, filter}
 use Rattle.iscsi_ffi_law.proofs.Opens.{leaving_seen}
-use Rattle.iscsi_history.proofs.ListLemmas.{list_any-map}
+use Rattle.iscsi_rules.proofs.ListLemmas.{list_any-map}
 use Rattle.std.specs.List.{list_any}
 use Rattle.std.proofs.lemmas.Bool.{eqb-true, false≢true}
 use Rattle.iscsi_wire.specs.declared.request.Request.{Request}
-use Rattle.iscsi_history.specs.declared.effect.Effect.{Effect}
-use Rattle.iscsi_history.specs.promises.Replies.{answered_in, replies_to, reply_sent}
-use Rattle.iscsi_history.specs.rules.Run.{effects_of_item}
-use Rattle.iscsi_history.specs.rules.Settings.{Setting}
-use Rattle.iscsi_history.specs.rules.Trace.{Admits, Arrival, ClosesConn, ClosesSession, Command, Delivers, Empties, Enters, Executes, Ignores, Leaves, Mark, Sends, Trace, Voids, Waits, admitted, after_items, entered, enters, has, held, is_among, is_delivered, is_emptied, leaves_ticket, live, shown, waiting, was_free}
-use Rattle.iscsi_history.proofs.BoolLemmas.{and_parts, not_true, or_false, or_none}
-use Rattle.iscsi_history.proofs.ElementLemmas.{In, filter-in, in-append, in-filter}
-use Rattle.iscsi_history.proofs.Forms.{AfterWaiting, AtArrival, AtTurn, Deeds, Each, Executed, HasForm, HaveForms, IsDone, Start, Starts, marks_done, start_mark, Ignored, Postponed, Received}
-use Rattle.iscsi_history.proofs.LifeLemmas.{beyond_entered}
-use Rattle.iscsi_history.proofs.NumberingLemmas.{to_list}
-use Rattle.iscsi_history.proofs.ReplyForms.{comes_of, is_of}
-use Rattle.iscsi_history.proofs.ReplyRuns.{is_below, one_most, standing, standing_item, standing_once}
-use Rattle.iscsi_history.proofs.ReplyTurns.{admits_request, awaited, begins_of, is_owed, owed}
-use Rattle.iscsi_history.proofs.TouchLemmas.{EntersNext, entering_in, entering_next, enters_form, leaves_form}
+use Rattle.iscsi_rules.specs.declared.effect.Effect.{Effect}
+use Rattle.iscsi_rules.specs.promises.Replies.{answered_in, replies_to, reply_sent}
+use Rattle.iscsi_rules.specs.rules.Run.{effects_of_item}
+use Rattle.iscsi_rules.specs.rules.Settings.{Setting}
+use Rattle.iscsi_rules.specs.rules.Trace.{Admits, Arrival, ClosesConn, ClosesSession, Command, Delivers, Empties, Enters, Executes, Ignores, Leaves, Mark, Sends, Trace, Voids, Waits, admitted, after_items, entered, enters, has, held, is_among, is_delivered, is_emptied, leaves_ticket, live, shown, waiting, was_free}
+use Rattle.iscsi_rules.proofs.BoolLemmas.{and_parts, not_true, or_false, or_none}
+use Rattle.iscsi_rules.proofs.ElementLemmas.{In, filter-in, in-append, in-filter}
+use Rattle.iscsi_rules.proofs.Forms.{AfterWaiting, AtArrival, AtTurn, Deeds, Each, Executed, HasForm, HaveForms, IsDone, Start, Starts, marks_done, start_mark, Ignored, Postponed, Received}
+use Rattle.iscsi_rules.proofs.LifeLemmas.{beyond_entered}
+use Rattle.iscsi_rules.proofs.NumberingLemmas.{to_list}
+use Rattle.iscsi_rules.proofs.ReplyForms.{comes_of, is_of}
+use Rattle.iscsi_rules.proofs.ReplyRuns.{is_below, one_most, standing, standing_item, standing_once}
+use Rattle.iscsi_rules.proofs.ReplyTurns.{admits_request, awaited, begins_of, is_owed, owed}
+use Rattle.iscsi_rules.proofs.TouchLemmas.{EntersNext, entering_in, entering_next, enters_form, leaves_form}
 use Rattle.iscsi_outbox_rules.specs.rules.Boxes.{Box, Completed as CompletedPhase, Dormant, Fresh, Gone, Phase, Running, Started, Task}
 use Rattle.iscsi_outbox_rules.specs.rules.Items.{after_item, executing, phase_enabled, phase_taken_out, ticket_enabled, tickets_left}
 use Rattle.iscsi_outbox_rules.specs.rules.Words.{contains, is_live_phase, is_running, is_running_phase}

@@ -2,15 +2,15 @@
 use Rattle.std.proofs.Common.{◌≡◌, ℕ, ◌+◌, ◌==◌, ⊎_elim, nat_lt, true, false, List, [], ◌∷◌, length, count_by, filter_map, refl, ap, sym, subst, ◌∙◌, arith, eq-eqb}
 use Rattle.iscsi_wire.specs.Fields.{cmd_sn, connection_of}
 use Rattle.iscsi_wire.specs.Serial.{wire}
-use Rattle.iscsi_history.specs.promises.Replies.{replies_to}
-use Rattle.iscsi_history.specs.rules.Logout.{is_open}
-use Rattle.iscsi_history.specs.rules.Settings.{is_known}
-use Rattle.iscsi_history.specs.rules.Trace.{Arrival, Command, Mark, Trace, entered, is_closed, live, waiting, was_free}
-use Rattle.iscsi_history.proofs.CloseRuns.{clear_of}
-use Rattle.iscsi_history.proofs.ElementLemmas.{In}
-use Rattle.iscsi_history.proofs.ReplyForms.{comes_of, is_of}
-use Rattle.iscsi_history.proofs.ReplyRuns.{becoming, becoming_once, one_most, standing, standing_once}
-use Rattle.iscsi_history.proofs.ReplyTurns.{awaited, owed}
+use Rattle.iscsi_rules.specs.promises.Replies.{replies_to}
+use Rattle.iscsi_rules.specs.rules.Logout.{is_open}
+use Rattle.iscsi_rules.specs.rules.Settings.{is_known}
+use Rattle.iscsi_rules.specs.rules.Trace.{Arrival, Command, Mark, Trace, entered, is_closed, live, waiting, was_free}
+use Rattle.iscsi_rules.proofs.CloseRuns.{clear_of}
+use Rattle.iscsi_rules.proofs.ElementLemmas.{In}
+use Rattle.iscsi_rules.proofs.ReplyForms.{comes_of, is_of}
+use Rattle.iscsi_rules.proofs.ReplyRuns.{becoming, becoming_once, one_most, standing, standing_once}
+use Rattle.iscsi_rules.proofs.ReplyTurns.{awaited, owed}
 use Rattle.iscsi_outbox_rules.specs.rules.Calls as outbox
 use Rattle.iscsi_outbox_rules.specs.rules.Run.{after_call}
 use Rattle.iscsi_outbox_rules.specs.rules.Words.{contains}

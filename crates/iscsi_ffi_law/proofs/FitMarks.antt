@@ -3,16 +3,16 @@ use Rattle.std.proofs.Common.{Bool, ◌≤◌, filter, count_by, arith, ◌≡�
 use Rattle.std.specs.List.{cons_option}
 use Rattle.std.proofs.lemmas.Bool.{cond_both}
 use Rattle.iscsi_wire.specs.Fields.{connection_of, is_immediate}
-use Rattle.iscsi_history.specs.rules.Settings.{Setting}
-use Rattle.iscsi_history.specs.rules.Trace.{Admits, Arrival, ClosesConn, ClosesSession, Delivers, Empties, Enters, Executes, Ignores, Leaves, Mark, Sends, Trace, Voids, Waits, admits_at, first_of, held, shown, waiting, waiting_by, waiting_through}
-use Rattle.iscsi_history.specs.rules.Management.{may_wait}
-use Rattle.iscsi_history.proofs.FormItems.{Does}
-use Rattle.iscsi_history.proofs.Forms.{AfterWaiting, AtArrival, AtTurn, Deeds, Start, if_some, marks_done, start_mark}
-use Rattle.iscsi_history.proofs.HeldLemmas.{admitted_of_held, held_before}
-use Rattle.iscsi_history.proofs.ListLemmas.{fewer_counted}
+use Rattle.iscsi_rules.specs.rules.Settings.{Setting}
+use Rattle.iscsi_rules.specs.rules.Trace.{Admits, Arrival, ClosesConn, ClosesSession, Delivers, Empties, Enters, Executes, Ignores, Leaves, Mark, Sends, Trace, Voids, Waits, admits_at, first_of, held, shown, waiting, waiting_by, waiting_through}
+use Rattle.iscsi_rules.specs.rules.Management.{may_wait}
+use Rattle.iscsi_rules.proofs.FormItems.{Does}
+use Rattle.iscsi_rules.proofs.Forms.{AfterWaiting, AtArrival, AtTurn, Deeds, Start, if_some, marks_done, start_mark}
+use Rattle.iscsi_rules.proofs.HeldLemmas.{admitted_of_held, held_before}
+use Rattle.iscsi_rules.proofs.ListLemmas.{fewer_counted}
 use Rattle.iscsi_outbox_rules.proofs.RoomSteps.{shrinks_done}
-use Rattle.iscsi_history.proofs.NumberingLemmas.{unseen}
-use Rattle.iscsi_history.proofs.ReplyForms.{replies_seen}
+use Rattle.iscsi_rules.proofs.NumberingLemmas.{unseen}
+use Rattle.iscsi_rules.proofs.ReplyForms.{replies_seen}
 use Rattle.iscsi_outbox_law.specs.Pairs.{EachOf}
 use Rattle.iscsi_ffi_law.proofs.FitArrivals.{through, waits_by}
 use Rattle.iscsi_outbox_law.proofs.PairLemmas.{each-append, each-filter}

@@ -2,15 +2,15 @@
 use Rattle.std.proofs.Common.{◌≡◌, ℕ, ◌+◌, ◌<◌, ◌≤◌, ◌==◌, ◌||◌, cond, Bool, true, false, List, [], ◌∷◌, filter_map, length, count_by, Option, Some, None, refl, ap, sym, ◌∙◌, ⊎_elim, arith, eq-eqb, ne_eqb, length-append}
 use Rattle.std.proofs.lemmas.Bool.{cases_lt, cond_both, eqb-true, false≢true}
 use Rattle.std.proofs.lemmas.List.Sums.{sum_by-append}
-use Rattle.iscsi_history.specs.rules.Settings.{Setting}
-use Rattle.iscsi_history.specs.rules.Trace.{Command, Mark, Trace, after_items, contains, entered, enters}
-use Rattle.iscsi_history.proofs.CountLemmas.{count-cons, one}
-use Rattle.iscsi_history.proofs.ElementLemmas.{In}
-use Rattle.iscsi_history.proofs.Forms.{Completed, Each, EntersAs, Executed, Form, HasForm, HaveForms, Ignored, IsFormed, Postponed, Received, Rejected, is_arrival}
-use Rattle.iscsi_history.proofs.LifeLemmas.{beyond_entered}
-use Rattle.iscsi_history.proofs.NumberingLemmas.{to_list}
-use Rattle.iscsi_history.proofs.ReplyTurns.{awaited, awaited_form, begins_of, executes_of}
-use Rattle.iscsi_history.proofs.TouchLemmas.{entering_in, enters_form}
+use Rattle.iscsi_rules.specs.rules.Settings.{Setting}
+use Rattle.iscsi_rules.specs.rules.Trace.{Command, Mark, Trace, after_items, contains, entered, enters}
+use Rattle.iscsi_rules.proofs.CountLemmas.{count-cons, one}
+use Rattle.iscsi_rules.proofs.ElementLemmas.{In}
+use Rattle.iscsi_rules.proofs.Forms.{Completed, Each, EntersAs, Executed, Form, HasForm, HaveForms, Ignored, IsFormed, Postponed, Received, Rejected, is_arrival}
+use Rattle.iscsi_rules.proofs.LifeLemmas.{beyond_entered}
+use Rattle.iscsi_rules.proofs.NumberingLemmas.{to_list}
+use Rattle.iscsi_rules.proofs.ReplyTurns.{awaited, awaited_form, begins_of, executes_of}
+use Rattle.iscsi_rules.proofs.TouchLemmas.{entering_in, enters_form}
 use Rattle.iscsi_outbox_law.specs.Pairs.{EachOf}
 use Rattle.iscsi_ffi_law.proofs.Members.{in_any}
 

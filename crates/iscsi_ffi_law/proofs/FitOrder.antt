@@ -4,19 +4,19 @@ use Rattle.std.specs.List.{list_any}
 use Rattle.std.proofs.lemmas.List.{append-nil}
 use Rattle.std.proofs.lemmas.Bool.{and_parts, eqb-true, false≢true, ltb-false, ltb-true}
 use Rattle.iscsi_wire.specs.Fields.{cmd_sn, connection_of, request_of}
-use Rattle.iscsi_history.specs.declared.event.Event.{Event}
-use Rattle.iscsi_history.specs.declared.event.Event.TheVariants.{Arrive, Done}
-use Rattle.iscsi_history.specs.rules.Agenda.{arrival, arrival_of, command_of}
-use Rattle.iscsi_history.specs.rules.Execution.{completion, exp_of, max_of}
-use Rattle.iscsi_history.specs.rules.Items.{agenda, functions}
-use Rattle.iscsi_history.specs.rules.Run.{after_event}
-use Rattle.iscsi_history.specs.rules.Settings.{Setting}
-use Rattle.iscsi_history.specs.rules.Trace.{Admits, Arrival, Command, Executes, Mark, Trace, Waits, after_items, first_of, received, waiting}
-use Rattle.iscsi_history.proofs.AbortRuns.{exp_items}
-use Rattle.iscsi_history.proofs.ElementLemmas.{In, in-filter}
-use Rattle.iscsi_history.proofs.FlowItems.{same_exp}
-use Rattle.iscsi_history.proofs.Forms.{AtArrival, marks_done}
-use Rattle.iscsi_history.proofs.Missing.{expected_low}
+use Rattle.iscsi_rules.specs.declared.event.Event.{Event}
+use Rattle.iscsi_rules.specs.declared.event.Event.TheVariants.{Arrive, Done}
+use Rattle.iscsi_rules.specs.rules.Agenda.{arrival, arrival_of, command_of}
+use Rattle.iscsi_rules.specs.rules.Execution.{completion, exp_of, max_of}
+use Rattle.iscsi_rules.specs.rules.Items.{agenda, functions}
+use Rattle.iscsi_rules.specs.rules.Run.{after_event}
+use Rattle.iscsi_rules.specs.rules.Settings.{Setting}
+use Rattle.iscsi_rules.specs.rules.Trace.{Admits, Arrival, Command, Executes, Mark, Trace, Waits, after_items, first_of, received, waiting}
+use Rattle.iscsi_rules.proofs.AbortRuns.{exp_items}
+use Rattle.iscsi_rules.proofs.ElementLemmas.{In, in-filter}
+use Rattle.iscsi_rules.proofs.FlowItems.{same_exp}
+use Rattle.iscsi_rules.proofs.Forms.{AtArrival, marks_done}
+use Rattle.iscsi_rules.proofs.Missing.{expected_low}
 use Rattle.iscsi_outbox_rules.proofs.ClosedParts.{EachOn}
 use Rattle.iscsi_outbox_law.specs.Pairs.{EachOf}
 use Rattle.iscsi_outbox_law.proofs.PairLemmas.{each-append, each-weaken}

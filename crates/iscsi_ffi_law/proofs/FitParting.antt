@@ -3,20 +3,20 @@ use Rattle.std.proofs.Common.{◌≡◌, ℕ, ◌+◌, ◌*◌, ◌-◌, ◌/◌
 use Rattle.std.specs.List.{list_any}
 use Rattle.std.proofs.lemmas.List.Folds.{list_any-append}
 use Rattle.iscsi_wire.specs.Fields.{cid, request_of}
-use Rattle.iscsi_history.specs.declared.event.Event.TheVariants.{Arrive}
-use Rattle.iscsi_history.specs.declared.deed.Answer.TheVariants.{LogOut}
-use Rattle.iscsi_history.specs.declared.deed.Deed.{Deed}
-use Rattle.iscsi_history.specs.declared.deed.Deed.TheVariants.{Reply as Replies, CloseConn}
-use Rattle.iscsi_history.specs.rules.Deeds.{deed_marks, marks_after}
-use Rattle.iscsi_history.specs.rules.Agenda.{arrival_of, arrival_open, items_of, with_turns}
-use Rattle.iscsi_history.specs.rules.Execution.{exp_of, ignored}
-use Rattle.iscsi_history.specs.declared.effect.Why.TheVariants.{Closed}
-use Rattle.iscsi_history.specs.rules.Items.{agenda, execution}
-use Rattle.iscsi_history.specs.rules.Logout.{close_conn, is_last_open, is_open, parting as parted, taken_out}
-use Rattle.iscsi_history.specs.rules.Run.{after_event}
-use Rattle.iscsi_history.specs.rules.Settings.{Setting, is_known}
-use Rattle.iscsi_history.specs.rules.Trace.{Arrival, ClosesConn, ClosesSession, Executes, Mark, Trace, after_items, closes_conn, closes_session, has, is_closed, is_ended}
-use Rattle.iscsi_history.proofs.BoolLemmas.{and_both, or_first, or_second}
+use Rattle.iscsi_rules.specs.declared.event.Event.TheVariants.{Arrive}
+use Rattle.iscsi_rules.specs.declared.deed.Answer.TheVariants.{LogOut}
+use Rattle.iscsi_rules.specs.declared.deed.Deed.{Deed}
+use Rattle.iscsi_rules.specs.declared.deed.Deed.TheVariants.{Reply as Replies, CloseConn}
+use Rattle.iscsi_rules.specs.rules.Deeds.{deed_marks, marks_after}
+use Rattle.iscsi_rules.specs.rules.Agenda.{arrival_of, arrival_open, items_of, with_turns}
+use Rattle.iscsi_rules.specs.rules.Execution.{exp_of, ignored}
+use Rattle.iscsi_rules.specs.declared.effect.Why.TheVariants.{Closed}
+use Rattle.iscsi_rules.specs.rules.Items.{agenda, execution}
+use Rattle.iscsi_rules.specs.rules.Logout.{close_conn, is_last_open, is_open, parting as parted, taken_out}
+use Rattle.iscsi_rules.specs.rules.Run.{after_event}
+use Rattle.iscsi_rules.specs.rules.Settings.{Setting, is_known}
+use Rattle.iscsi_rules.specs.rules.Trace.{Arrival, ClosesConn, ClosesSession, Executes, Mark, Trace, after_items, closes_conn, closes_session, has, is_closed, is_ended}
+use Rattle.iscsi_rules.proofs.BoolLemmas.{and_both, or_first, or_second}
 use Rattle.iscsi_ffi_rules.specs.rules.Run.{parting}
 
 -- ---- what is closed stays closed

@@ -5,21 +5,21 @@ use Rattle.std.proofs.lemmas.Bool.{cond_both, eq-eqb, eqb-true, false≢true}
 use Rattle.std.proofs.lemmas.List.{append-nil}
 use Rattle.std.proofs.lemmas.List.Folds.{list_any-append}
 use Rattle.iscsi_wire.specs.declared.request.Request.{Request}
-use Rattle.iscsi_history.specs.declared.effect.Effect.{Effect}
-use Rattle.iscsi_history.specs.declared.effect.Effect.TheVariants.{Enable}
-use Rattle.iscsi_history.specs.declared.event.Event.{Event}
-use Rattle.iscsi_history.specs.rules.Run.{effects_of_item, effects_of_mark, entry_of, newly_enabled}
-use Rattle.iscsi_history.specs.rules.Run as history
-use Rattle.iscsi_history.specs.rules.Settings.{Setting}
-use Rattle.iscsi_history.specs.rules.Trace.{Admits, ClosesConn, ClosesSession, Command, Delivers, Empties, Enters, Executes, Ignores, Leaves, Mark, Sends, Trace, Voids, Waits, are_apart, entered, enters, has, is_among, leaves_ticket, live, was_free}
-use Rattle.iscsi_history.proofs.ApartLemmas.{apart-push}
-use Rattle.iscsi_history.proofs.BoolLemmas.{and_parts, not_true, or_false, or_none}
-use Rattle.iscsi_history.proofs.ElementLemmas.{In, filter-in, in-append, in-filter}
-use Rattle.iscsi_history.proofs.Forms.{AfterWaiting, AtArrival, AtTurn, Completed, Each, Executed, Form, HasForm, HaveForms, Ignored, Postponed, Received, Rejected, marks_of_form}
-use Rattle.iscsi_history.proofs.ListLemmas.{any_same, list_any-map}
-use Rattle.iscsi_history.proofs.NewlyLemmas.{is_new, never_free, newly_among, was_or_new}
-use Rattle.iscsi_history.proofs.NumberingLemmas.{to_list}
-use Rattle.iscsi_history.proofs.TouchLemmas.{EntersNext, entering_in, entering_next, enters_form}
+use Rattle.iscsi_rules.specs.declared.effect.Effect.{Effect}
+use Rattle.iscsi_rules.specs.declared.effect.Effect.TheVariants.{Enable}
+use Rattle.iscsi_rules.specs.declared.event.Event.{Event}
+use Rattle.iscsi_rules.specs.rules.Run.{effects_of_item, effects_of_mark, entry_of, newly_enabled}
+use Rattle.iscsi_rules.specs.rules.Run as history
+use Rattle.iscsi_rules.specs.rules.Settings.{Setting}
+use Rattle.iscsi_rules.specs.rules.Trace.{Admits, ClosesConn, ClosesSession, Command, Delivers, Empties, Enters, Executes, Ignores, Leaves, Mark, Sends, Trace, Voids, Waits, are_apart, entered, enters, has, is_among, leaves_ticket, live, was_free}
+use Rattle.iscsi_rules.proofs.ApartLemmas.{apart-push}
+use Rattle.iscsi_rules.proofs.BoolLemmas.{and_parts, not_true, or_false, or_none}
+use Rattle.iscsi_rules.proofs.ElementLemmas.{In, filter-in, in-append, in-filter}
+use Rattle.iscsi_rules.proofs.Forms.{AfterWaiting, AtArrival, AtTurn, Completed, Each, Executed, Form, HasForm, HaveForms, Ignored, Postponed, Received, Rejected, marks_of_form}
+use Rattle.iscsi_rules.proofs.ListLemmas.{any_same, list_any-map}
+use Rattle.iscsi_rules.proofs.NewlyLemmas.{is_new, never_free, newly_among, was_or_new}
+use Rattle.iscsi_rules.proofs.NumberingLemmas.{to_list}
+use Rattle.iscsi_rules.proofs.TouchLemmas.{EntersNext, entering_in, entering_next, enters_form}
 use Rattle.iscsi_outbox_rules.specs.rules.Boxes.{Box, Completed as CompletedPhase, Dormant, Fresh, Gone, Phase, Running, Started, Task}
 use Rattle.iscsi_outbox_rules.specs.rules.Calls.{Call, Opening, Takes}
 use Rattle.iscsi_outbox_rules.specs.rules.Items.{after_item, executing, phase_completed, phase_enabled, phase_taken_out, phase_told, task_entered, ticket_enabled, tickets_left}

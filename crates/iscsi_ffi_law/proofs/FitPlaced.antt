@@ -4,7 +4,7 @@ use Rattle.std.proofs.lemmas.Bool.{and_parts, cases_lt, cond_both, eqb-true, fal
 use Rattle.std.proofs.lemmas.List.{length-map}
 use Rattle.std.proofs.lemmas.List.Sums.{sum_by-append}
 use Rattle.std.specs.List.{list_any}
-use Rattle.iscsi_history.proofs.CountLemmas.{count-cons, count-filter, count-weaker, one}
+use Rattle.iscsi_rules.proofs.CountLemmas.{count-cons, count-filter, count-weaker, one}
 use Rattle.iscsi_lists.proofs.WithoutLemmas.{length_without, times_without, times_without_other}
 use Rattle.iscsi_lists.proofs.PlaceLemmas.{counted_long}
 use Rattle.iscsi_lists.specs.Lists.{counted, end_of, last_of, without}

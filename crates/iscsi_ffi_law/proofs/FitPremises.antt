@@ -3,20 +3,20 @@ use Rattle.std.proofs.Common.{cond, eq-eqb, ◌≡◌, ℕ, zero, suc, ◌+◌, 
 use Rattle.std.proofs.lemmas.Bool.{and_parts, ltb-true}
 use Rattle.std.proofs.lemmas.List.{length-map}
 use Rattle.iscsi_wire.specs.Fields.{connection_of}
-use Rattle.iscsi_history.specs.declared.effect.Effect.{Effect}
-use Rattle.iscsi_history.specs.declared.event.Event.{Event}
-use Rattle.iscsi_history.specs.declared.event.Event.TheVariants.{Arrive, Done}
-use Rattle.iscsi_history.specs.promises.Order.{in_parts}
-use Rattle.iscsi_history.specs.rules.Agenda.{command_of}
-use Rattle.iscsi_history.specs.rules.Run.{entry_of}
-use Rattle.iscsi_history.specs.rules.Settings.{are_distinct, is_known}
+use Rattle.iscsi_rules.specs.declared.effect.Effect.{Effect}
+use Rattle.iscsi_rules.specs.declared.event.Event.{Event}
+use Rattle.iscsi_rules.specs.declared.event.Event.TheVariants.{Arrive, Done}
+use Rattle.iscsi_rules.specs.promises.Order.{in_parts}
+use Rattle.iscsi_rules.specs.rules.Agenda.{command_of}
+use Rattle.iscsi_rules.specs.rules.Run.{entry_of}
+use Rattle.iscsi_rules.specs.rules.Settings.{are_distinct, is_known}
 use Rattle.std.specs.List.{cons_option}
 use Rattle.iscsi_wire.specs.Fields.{cmd_sn, request_of}
-use Rattle.iscsi_history.specs.rules.Execution.{exp_of, rejected}
-use Rattle.iscsi_history.specs.rules.Settings.{Setting}
-use Rattle.iscsi_history.specs.rules.Trace.{Admits, Arrival, Command, Executes, Ignores, Mark, Trace, Waits, after_items, first_of, is_closed, is_received, live}
-use Rattle.iscsi_history.proofs.CloseRuns.{Sounds, event_sound}
-use Rattle.iscsi_history.proofs.Forms.{marks_done}
+use Rattle.iscsi_rules.specs.rules.Execution.{exp_of, rejected}
+use Rattle.iscsi_rules.specs.rules.Settings.{Setting}
+use Rattle.iscsi_rules.specs.rules.Trace.{Admits, Arrival, Command, Executes, Ignores, Mark, Trace, Waits, after_items, first_of, is_closed, is_received, live}
+use Rattle.iscsi_rules.proofs.CloseRuns.{Sounds, event_sound}
+use Rattle.iscsi_rules.proofs.Forms.{marks_done}
 use Rattle.iscsi_outbox_rules.specs.promises.Room.{Both, FitItems, Happens, Other, after_step, is_read_with_room, places}
 use Rattle.iscsi_outbox_rules.specs.rules.Boxes.{Box, Link}
 use Rattle.iscsi_outbox_rules.specs.rules.Calls as outbox
@@ -43,8 +43,8 @@ use Rattle.iscsi_ffi_law.proofs.FitNumbers.{all_sends, item_spent, spent}
 use Rattle.iscsi_ffi_law.proofs.FitPlaces.{placed_call}
 use Rattle.iscsi_ffi_law.proofs.FitReceived.{distinct_forms, receivable, wired, wired_bytes}
 use Rattle.iscsi_ffi_law.proofs.FitRefusals.{taken_in}
-use Rattle.iscsi_history.specs.rules.Management.{MOST_WAITING, waiting_on}
-use Rattle.iscsi_history.specs.rules.Trace.{waiting}
+use Rattle.iscsi_rules.specs.rules.Management.{MOST_WAITING, waiting_on}
+use Rattle.iscsi_rules.specs.rules.Trace.{waiting}
 use Rattle.iscsi_ffi_law.proofs.Members.{in_each}
 use Rattle.iscsi_ffi_law.proofs.Turns.{Becomes, IsExecuted, IsIgnored, IsPostponed, IsReceived, IsRejected, becomes}
 use Rattle.iscsi_ffi_law.proofs.FitPrompt.{prompt_arrival}

@@ -3,18 +3,18 @@ use Rattle.std.proofs.Common.{◌≡◌, ℕ, zero, suc, ◌+◌, ◌-◌, ◌<�
 use Rattle.std.specs.List.{cons_option}
 use Rattle.std.proofs.lemmas.Bool.{eqb-true, false≢true}
 use Rattle.iscsi_wire.specs.Fields.{connection_of, is_immediate}
-use Rattle.iscsi_history.specs.declared.effect.Why.TheVariants.{Closed, Duplicate, Outside}
-use Rattle.iscsi_history.specs.declared.kind.Kind.{Kind}
-use Rattle.iscsi_history.specs.declared.kind.Kind.TheVariants.{Executes as ExecutesKind, PassedOver, Unknown}
-use Rattle.iscsi_history.specs.rules.Agenda.{arrival, arrival_as, arrival_open, kind_of, numbered, with_turns}
-use Rattle.iscsi_history.specs.rules.Execution.{exp_of, ignored, max_of}
-use Rattle.iscsi_history.specs.rules.Items.{agenda, functions, immediate_item, item_of, turn_at}
-use Rattle.iscsi_history.specs.rules.Settings.{Setting}
-use Rattle.iscsi_history.specs.rules.Trace.{Admits, Arrival, Mark, Trace, admits_at, after_items, held, is_closed, is_delivered, is_emptied, is_received, waiting}
-use Rattle.iscsi_history.proofs.AbortRuns.{exp_item}
-use Rattle.iscsi_history.proofs.BoolLemmas.{or_none}
-use Rattle.iscsi_history.proofs.HeldLemmas.{held-here, received-admits}
-use Rattle.iscsi_history.proofs.Missing.{expected_below, expected_gone, expected_low}
+use Rattle.iscsi_rules.specs.declared.effect.Why.TheVariants.{Closed, Duplicate, Outside}
+use Rattle.iscsi_rules.specs.declared.kind.Kind.{Kind}
+use Rattle.iscsi_rules.specs.declared.kind.Kind.TheVariants.{Executes as ExecutesKind, PassedOver, Unknown}
+use Rattle.iscsi_rules.specs.rules.Agenda.{arrival, arrival_as, arrival_open, kind_of, numbered, with_turns}
+use Rattle.iscsi_rules.specs.rules.Execution.{exp_of, ignored, max_of}
+use Rattle.iscsi_rules.specs.rules.Items.{agenda, functions, immediate_item, item_of, turn_at}
+use Rattle.iscsi_rules.specs.rules.Settings.{Setting}
+use Rattle.iscsi_rules.specs.rules.Trace.{Admits, Arrival, Mark, Trace, admits_at, after_items, held, is_closed, is_delivered, is_emptied, is_received, waiting}
+use Rattle.iscsi_rules.proofs.AbortRuns.{exp_item}
+use Rattle.iscsi_rules.proofs.BoolLemmas.{or_none}
+use Rattle.iscsi_rules.proofs.HeldLemmas.{held-here, received-admits}
+use Rattle.iscsi_rules.proofs.Missing.{expected_below, expected_gone, expected_low}
 use Rattle.iscsi_outbox_law.specs.Pairs.{EachOf}
 use Rattle.iscsi_ffi_law.specs.Arrived.{starts_late}
 use Rattle.iscsi_ffi_law.proofs.FitTurns.{IsTurned, first_immediate}

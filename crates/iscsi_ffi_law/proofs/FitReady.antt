@@ -1,7 +1,7 @@
 -- Before each item of an event by which a request arrives that is taken, there is a place for the reply that goes out by it.
 use Rattle.std.proofs.Common.{◌≡◌, ℕ, ◌+◌, ◌≤◌, ◌<◌, List, [], ◌∷◌, filter_map, Some, ap, arith}
 use Rattle.iscsi_wire.specs.declared.reply.Reply.{Reply}
-use Rattle.iscsi_history.specs.rules.Trace.{Mark, first_of}
+use Rattle.iscsi_rules.specs.rules.Trace.{Mark, first_of}
 use Rattle.iscsi_outbox_rules.specs.promises.Room.{places}
 use Rattle.iscsi_outbox_rules.specs.rules.Items.{reply_sent}
 use Rattle.iscsi_outbox_rules.specs.rules.Words.{replies_waiting}

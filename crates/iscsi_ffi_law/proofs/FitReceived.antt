@@ -4,27 +4,27 @@ use Rattle.std.proofs.lemmas.Bool.{cases_lt, eqb-true, false≢true, leb-true}
 use Rattle.std.proofs.lemmas.List.Sums.{sum_by-append}
 use Rattle.iscsi_wire.specs.Fields.{big_endian_from, cmd_sn, connection_of, request_of}
 use Rattle.iscsi_wire.specs.Serial.{lift, number_of_first, wire}
-use Rattle.iscsi_history.specs.rules.Execution.{exp_of}
-use Rattle.iscsi_history.specs.rules.Settings.{Setting}
-use Rattle.iscsi_history.specs.rules.Trace.{Arrival, Mark, Sends, Trace, held, is_delivered, is_emptied, is_received, shown}
-use Rattle.iscsi_history.proofs.BoolLemmas.{or_first}
-use Rattle.iscsi_history.proofs.CloseRuns.{Sounds, clear_of}
-use Rattle.iscsi_history.proofs.CountLemmas.{count-cons, one}
-use Rattle.iscsi_history.proofs.FateLemmas.{Delivered, Emptied, Fate, Held, Unreceived, Voided, fate}
-use Rattle.iscsi_history.proofs.Forms.{AfterWaiting, AtArrival, AtTurn, Completed, Executed, Form, HasForm, HaveForms, Ignored, IsFormed, Postponed, Received, Rejected, Start, marks_done, marks_of_form, start_mark}
-use Rattle.iscsi_history.proofs.HeldLemmas.{admitted_of_held, held-number, held_received, received-admits}
-use Rattle.iscsi_history.proofs.ListLemmas.{fewer_counted}
-use Rattle.iscsi_history.proofs.ReplyTurns.{begins_of}
-use Rattle.iscsi_history.specs.rules.Trace.{waiting}
+use Rattle.iscsi_rules.specs.rules.Execution.{exp_of}
+use Rattle.iscsi_rules.specs.rules.Settings.{Setting}
+use Rattle.iscsi_rules.specs.rules.Trace.{Arrival, Mark, Sends, Trace, held, is_delivered, is_emptied, is_received, shown}
+use Rattle.iscsi_rules.proofs.BoolLemmas.{or_first}
+use Rattle.iscsi_rules.proofs.CloseRuns.{Sounds, clear_of}
+use Rattle.iscsi_rules.proofs.CountLemmas.{count-cons, one}
+use Rattle.iscsi_rules.proofs.FateLemmas.{Delivered, Emptied, Fate, Held, Unreceived, Voided, fate}
+use Rattle.iscsi_rules.proofs.Forms.{AfterWaiting, AtArrival, AtTurn, Completed, Executed, Form, HasForm, HaveForms, Ignored, IsFormed, Postponed, Received, Rejected, Start, marks_done, marks_of_form, start_mark}
+use Rattle.iscsi_rules.proofs.HeldLemmas.{admitted_of_held, held-number, held_received, received-admits}
+use Rattle.iscsi_rules.proofs.ListLemmas.{fewer_counted}
+use Rattle.iscsi_rules.proofs.ReplyTurns.{begins_of}
+use Rattle.iscsi_rules.specs.rules.Trace.{waiting}
 use Rattle.iscsi_outbox_rules.proofs.RoomSteps.{shrinks_done}
 use Rattle.iscsi_ffi_law.proofs.FitOnce.{one_most}
-use Rattle.iscsi_history.proofs.Missing.{expected_below}
-use Rattle.iscsi_history.proofs.NumberLemmas.{wire-lift}
-use Rattle.iscsi_history.proofs.NumberingLemmas.{unseen}
-use Rattle.iscsi_history.proofs.ReplyForms.{replies_seen}
-use Rattle.iscsi_history.proofs.ReplyTurns.{admitted_there}
-use Rattle.iscsi_history.proofs.ElementLemmas.{first-in}
-use Rattle.iscsi_history.proofs.TraceLemmas.{received-item}
+use Rattle.iscsi_rules.proofs.Missing.{expected_below}
+use Rattle.iscsi_rules.proofs.NumberLemmas.{wire-lift}
+use Rattle.iscsi_rules.proofs.NumberingLemmas.{unseen}
+use Rattle.iscsi_rules.proofs.ReplyForms.{replies_seen}
+use Rattle.iscsi_rules.proofs.ReplyTurns.{admitted_there}
+use Rattle.iscsi_rules.proofs.ElementLemmas.{first-in}
+use Rattle.iscsi_rules.proofs.TraceLemmas.{received-item}
 use Rattle.iscsi_requests.specs.Numbers.{IsInWindow, SIZES, distance, size_for}
 use Rattle.iscsi_ffi_rules.specs.rules.Needs.{admitted_by}
 use Rattle.iscsi_ffi_law.specs.Arrived.{AreDistinct, IsReceivable}

@@ -7,20 +7,20 @@ use Rattle.std.proofs.lemmas.List.{append-nil, append_assoc}
 use Rattle.std.proofs.lemmas.List.Folds.{list_any-append}
 use Rattle.iscsi_wire.specs.declared.reply.Reply.{Reply}
 use Rattle.iscsi_wire.specs.Fields.{request_of}
-use Rattle.iscsi_history.specs.declared.event.Event.{Event}
-use Rattle.iscsi_history.specs.declared.event.Event.TheVariants.{Arrive, Done}
-use Rattle.iscsi_history.specs.promises.Replies.{answered_in, is_answer_to, replies_to, reply_sent}
-use Rattle.iscsi_history.specs.rules.Agenda.{arrival_of, command_of, items_of}
-use Rattle.iscsi_history.specs.rules.Execution.{completion, rejected}
-use Rattle.iscsi_history.specs.declared.effect.Why.TheVariants.{Stale}
-use Rattle.iscsi_history.specs.rules.Run.{after_event}
-use Rattle.iscsi_history.specs.rules.Settings.{Setting}
-use Rattle.iscsi_history.specs.rules.Trace.{Admits, Arrival, Command, Executes, Ignores, Mark, Waits, Trace, after_items, live, was_free}
-use Rattle.iscsi_history.proofs.CountLemmas.{one}
-use Rattle.iscsi_history.proofs.ElementLemmas.{first-in, in-filter}
-use Rattle.iscsi_history.proofs.Forms.{AfterWaiting, AtArrival, AtTurn, Completed, Executed, Form, HasForm, HaveForms, Ignored, Postponed, Received, Rejected, Start, Starts, is_arrival, marks_done, marks_of_form, start_mark}
-use Rattle.iscsi_history.proofs.ReplyRuns.{standing, standing_item, standing_once}
-use Rattle.iscsi_history.proofs.ReplyTurns.{begins_of}
+use Rattle.iscsi_rules.specs.declared.event.Event.{Event}
+use Rattle.iscsi_rules.specs.declared.event.Event.TheVariants.{Arrive, Done}
+use Rattle.iscsi_rules.specs.promises.Replies.{answered_in, is_answer_to, replies_to, reply_sent}
+use Rattle.iscsi_rules.specs.rules.Agenda.{arrival_of, command_of, items_of}
+use Rattle.iscsi_rules.specs.rules.Execution.{completion, rejected}
+use Rattle.iscsi_rules.specs.declared.effect.Why.TheVariants.{Stale}
+use Rattle.iscsi_rules.specs.rules.Run.{after_event}
+use Rattle.iscsi_rules.specs.rules.Settings.{Setting}
+use Rattle.iscsi_rules.specs.rules.Trace.{Admits, Arrival, Command, Executes, Ignores, Mark, Waits, Trace, after_items, live, was_free}
+use Rattle.iscsi_rules.proofs.CountLemmas.{one}
+use Rattle.iscsi_rules.proofs.ElementLemmas.{first-in, in-filter}
+use Rattle.iscsi_rules.proofs.Forms.{AfterWaiting, AtArrival, AtTurn, Completed, Executed, Form, HasForm, HaveForms, Ignored, Postponed, Received, Rejected, Start, Starts, is_arrival, marks_done, marks_of_form, start_mark}
+use Rattle.iscsi_rules.proofs.ReplyRuns.{standing, standing_item, standing_once}
+use Rattle.iscsi_rules.proofs.ReplyTurns.{begins_of}
 use Rattle.iscsi_outbox_rules.specs.rules.Words.{contains}
 use Rattle.iscsi_ffi_rules.specs.rules.Happening.{answers_in}
 use Rattle.iscsi_ffi_law.proofs.Turns.{AreDue, Becomes, IsDue, IsDueBy, IsExecuted, IsIgnored, IsPostponed, IsReceived, IsRejected, becomes}

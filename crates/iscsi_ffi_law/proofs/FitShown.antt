@@ -2,16 +2,16 @@
 use Rattle.std.proofs.Common.{◌≡◌, ℕ, ◌+◌, ◌-◌, ◌*◌, ◌^◌, ◌≤◌, ◌<◌, ◌==◌, ◌||◌, inl, inr, ⊎_elim, Bool, true, false, List, [], ◌∷◌, filter_map, refl, ap, sym, subst, ◌∙◌, arith}
 use Rattle.std.proofs.lemmas.Bool.{cases_lt, eqb-true, false≢true}
 use Rattle.iscsi_wire.specs.Serial.{lift, number_of_first, wire}
-use Rattle.iscsi_history.specs.declared.event.Event.{Event}
-use Rattle.iscsi_history.specs.rules.Execution.{exp_of, max_of}
-use Rattle.iscsi_history.specs.rules.Run.{after_event, entry_of}
-use Rattle.iscsi_history.specs.rules.Settings.{Setting, are_distinct}
-use Rattle.iscsi_history.specs.rules.Trace.{Mark, Trace, contains, is_received, number_received}
-use Rattle.iscsi_history.proofs.AbortRuns.{exp_item}
-use Rattle.iscsi_history.proofs.BoolLemmas.{and_parts}
-use Rattle.iscsi_history.proofs.Missing.{expected_below, expected_low}
-use Rattle.iscsi_history.proofs.ReceivedItems.{AtMostOne}
-use Rattle.iscsi_history.proofs.TraceLemmas.{received-item}
+use Rattle.iscsi_rules.specs.declared.event.Event.{Event}
+use Rattle.iscsi_rules.specs.rules.Execution.{exp_of, max_of}
+use Rattle.iscsi_rules.specs.rules.Run.{after_event, entry_of}
+use Rattle.iscsi_rules.specs.rules.Settings.{Setting, are_distinct}
+use Rattle.iscsi_rules.specs.rules.Trace.{Mark, Trace, contains, is_received, number_received}
+use Rattle.iscsi_rules.proofs.AbortRuns.{exp_item}
+use Rattle.iscsi_rules.proofs.BoolLemmas.{and_parts}
+use Rattle.iscsi_rules.proofs.Missing.{expected_below, expected_low}
+use Rattle.iscsi_rules.proofs.ReceivedItems.{AtMostOne}
+use Rattle.iscsi_rules.proofs.TraceLemmas.{received-item}
 use Rattle.iscsi_outbox_rules.specs.promises.Room.{Both, Happens, Other, Step, after_step, after_steps, all_are, begun, is_read_with_room}
 use Rattle.iscsi_outbox_rules.specs.rules.Calls.{Call, Opening}
 use Rattle.iscsi_outbox_rules.proofs.RoomTheorem.{Stands, begun_stands, step_stands}

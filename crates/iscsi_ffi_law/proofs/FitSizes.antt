@@ -3,9 +3,9 @@ use Rattle.std.proofs.Common.{◌≡◌, ℕ, zero, suc, ◌+◌, ◌≤◌, ◌
 use Rattle.std.proofs.lemmas.Bool.{and_parts, cond_both, eqb-true, false≢true, leb-true, ltb-true, cases_lt}
 use Rattle.std.proofs.lemmas.List.Sums.{sum_by-append}
 use Rattle.std.specs.List.{list_any}
-use Rattle.iscsi_history.proofs.BoolLemmas.{not_true}
-use Rattle.iscsi_history.proofs.CountLemmas.{count-cons, one}
-use Rattle.iscsi_history.proofs.ListLemmas.{fewer_counted}
+use Rattle.iscsi_rules.proofs.BoolLemmas.{not_true}
+use Rattle.iscsi_rules.proofs.CountLemmas.{count-cons, one}
+use Rattle.iscsi_rules.proofs.ListLemmas.{fewer_counted}
 use Rattle.iscsi_lists.proofs.WithoutLemmas.{length_without, times_without, times_without_other}
 use Rattle.iscsi_lists.specs.Lists.{without}
 use Rattle.iscsi_slots.specs.Slots.{times}

@@ -16,10 +16,10 @@ use Rattle.iscsi_ffi_steps.specs.State.{State}
 use Rattle.iscsi_ffi_steps.specs.Steps as steps
 use Rattle.iscsi_ffi_steps.specs.Steps.{Answered, Blocked, Goes, Going, NoneGoes, NoneIsLeft, Refused, Side, Stale, after, arrive, arriving, asleep, called, changed, clear, clear_each, clear_one, close_each, close_on, complete, complete_as, done, drop_unwritten, ended, enter_request, gives, gives_no_more, going, hand_out, happening, happens, hold, is_blocked, is_held_first, known, leaves_queue, lose, lose_on, next, next_on, note, note_as, pushed_with_room, put, refusal_of, request_handed, resets_in, says, start, start_each, status_of, stop, stop_as, stop_running, takes, tell_each, tell_on, used_again, walk_from, withholding, write, write_on}
 use Rattle.iscsi_ffi_steps.specs.Walk.{Doing, drop_waiting, in_state, release, release_if, tell, with_stage}
-use Rattle.iscsi_history.specs.declared.entry.Entry.{Entry}
-use Rattle.iscsi_history.specs.declared.event.Event.{Event}
-use Rattle.iscsi_history.specs.declared.event.Event.TheVariants.{Arrive, Done}
-use Rattle.iscsi_history.specs.rules.Run.{entry_of}
+use Rattle.iscsi_rules.specs.declared.entry.Entry.{Entry}
+use Rattle.iscsi_rules.specs.declared.event.Event.{Event}
+use Rattle.iscsi_rules.specs.declared.event.Event.TheVariants.{Arrive, Done}
+use Rattle.iscsi_rules.specs.rules.Run.{entry_of}
 use Rattle.iscsi_outbox_rules.specs.declared.own_pdu.OwnPdu.{OwnPdu}
 use Rattle.iscsi_outbox_rules.specs.declared.own_pdu.OwnPdu.TheVariants.{OfCommand, OfConnection}
 use Rattle.iscsi_outbox_rules.specs.declared.own_pdu.PutRefusal.{PutRefusal}

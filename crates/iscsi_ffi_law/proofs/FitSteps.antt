@@ -13,12 +13,12 @@ use Rattle.iscsi_ffi_rules.specs.rules.Calls.{Interface}
 use Rattle.iscsi_ffi_steps.specs.State.{State, inserted, is_withheld, withhold}
 use Rattle.iscsi_ffi_steps.specs.Steps.{Going, changed, happening, happens, pushed_with_room, resets_in, start, start_each, status_of, takes, walk_from, withholding}
 use Rattle.iscsi_ffi_steps.specs.Walk.{Doing, Walk, conn_of, conns_closed, deliver, drop_each_function, drop_functions, drop_functions_on, drop_noted, drop_replies, drop_waiting, empty, end_item, enter, executes, function_on, immediate, in_state, keeps, leave, leave_as, may_wait, on_effect, on_effects, release, release_if, release_one, send, send_as, sweep, take_out, tell, tell_all, told_to_stop, touched_by, wait, wait_on, walking, with_stage}
-use Rattle.iscsi_history.specs.declared.effect.Effect.{Effect}
-use Rattle.iscsi_history.specs.declared.effect.Effect.TheVariants.{CloseConn, CloseSession, Deliver, Empty, Enable, Enter, Ignore, Immediate, Leave, Send, Void, Wait}
-use Rattle.iscsi_history.specs.declared.entry.Entry.{Entry}
-use Rattle.iscsi_history.specs.declared.event.Event.{Event}
-use Rattle.iscsi_history.specs.declared.event.Event.TheVariants.{Done}
-use Rattle.iscsi_history.specs.rules.Run.{entry_of}
+use Rattle.iscsi_rules.specs.declared.effect.Effect.{Effect}
+use Rattle.iscsi_rules.specs.declared.effect.Effect.TheVariants.{CloseConn, CloseSession, Deliver, Empty, Enable, Enter, Ignore, Immediate, Leave, Send, Void, Wait}
+use Rattle.iscsi_rules.specs.declared.entry.Entry.{Entry}
+use Rattle.iscsi_rules.specs.declared.event.Event.{Event}
+use Rattle.iscsi_rules.specs.declared.event.Event.TheVariants.{Done}
+use Rattle.iscsi_rules.specs.rules.Run.{entry_of}
 use Rattle.iscsi_outbox_rules.specs.rules.Items.{ticket_enabled}
 use Rattle.iscsi_outbox_steps.specs.State.{State as OutboxState, link_at, place_of}
 use Rattle.iscsi_outbox_steps.specs.Steps.{taken}

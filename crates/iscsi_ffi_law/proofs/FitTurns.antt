@@ -6,38 +6,38 @@ use Rattle.std.proofs.lemmas.List.{append-nil}
 use Rattle.iscsi_wire.specs.declared.reply.Reply.{Reply}
 use Rattle.iscsi_wire.specs.declared.reply.Reply.TheVariants.{Scsi, Task, Reject}
 use Rattle.iscsi_wire.specs.Fields.{connection_of, header_of, is_immediate, opcode, itt, request_of}
-use Rattle.iscsi_history.specs.declared.effect.Why.{Why}
-use Rattle.iscsi_history.specs.declared.effect.Why.TheVariants.{Outside, Duplicate, Closed, Data, Stale}
-use Rattle.iscsi_history.specs.declared.event.Event.{Event}
-use Rattle.iscsi_history.specs.declared.event.Event.TheVariants.{Arrive, Done}
-use Rattle.iscsi_history.specs.declared.kind.Kind.{Kind}
-use Rattle.iscsi_history.specs.declared.kind.Kind.TheVariants.{PassedOver, Unknown, Executes as ExecutesKind}
-use Rattle.iscsi_history.specs.rules.Deeds.{marks_after}
-use Rattle.iscsi_history.specs.rules.Settings.{Setting}
-use Rattle.iscsi_history.specs.rules.Trace.{Admits, Arrival, Command, Delivers, Executes, Ignores, Leaves, Mark, Trace, Waits, after_items, held, is_closed, is_received, number_received, received, waiting}
-use Rattle.iscsi_history.specs.rules.Execution.{completion, exp_of, ignored, max_of, rejected, reply_on, sense_of_status}
-use Rattle.iscsi_history.specs.rules.Management.{MOST_WAITING, may_wait, refusal_of_function, waiting_on}
-use Rattle.iscsi_history.specs.rules.Items.{agenda, at_number, execution, function_item, functions, functions_at, immediate_item, is_waiting, item_of, turn_at, waiting_item}
-use Rattle.iscsi_history.specs.rules.Agenda.{arrival, arrival_as, arrival_of, arrival_open, command_of, kind_of, numbered, with_turns}
-use Rattle.iscsi_history.specs.rules.Run.{after_event}
-use Rattle.iscsi_history.proofs.AbortRuns.{exp_item}
-use Rattle.iscsi_history.proofs.BoolLemmas.{or_none}
-use Rattle.iscsi_history.proofs.CountLemmas.{one}
-use Rattle.iscsi_history.proofs.FormItems.{Does}
-use Rattle.iscsi_history.proofs.ListLemmas.{count_by-push}
+use Rattle.iscsi_rules.specs.declared.effect.Why.{Why}
+use Rattle.iscsi_rules.specs.declared.effect.Why.TheVariants.{Outside, Duplicate, Closed, Data, Stale}
+use Rattle.iscsi_rules.specs.declared.event.Event.{Event}
+use Rattle.iscsi_rules.specs.declared.event.Event.TheVariants.{Arrive, Done}
+use Rattle.iscsi_rules.specs.declared.kind.Kind.{Kind}
+use Rattle.iscsi_rules.specs.declared.kind.Kind.TheVariants.{PassedOver, Unknown, Executes as ExecutesKind}
+use Rattle.iscsi_rules.specs.rules.Deeds.{marks_after}
+use Rattle.iscsi_rules.specs.rules.Settings.{Setting}
+use Rattle.iscsi_rules.specs.rules.Trace.{Admits, Arrival, Command, Delivers, Executes, Ignores, Leaves, Mark, Trace, Waits, after_items, held, is_closed, is_received, number_received, received, waiting}
+use Rattle.iscsi_rules.specs.rules.Execution.{completion, exp_of, ignored, max_of, rejected, reply_on, sense_of_status}
+use Rattle.iscsi_rules.specs.rules.Management.{MOST_WAITING, may_wait, refusal_of_function, waiting_on}
+use Rattle.iscsi_rules.specs.rules.Items.{agenda, at_number, execution, function_item, functions, functions_at, immediate_item, is_waiting, item_of, turn_at, waiting_item}
+use Rattle.iscsi_rules.specs.rules.Agenda.{arrival, arrival_as, arrival_of, arrival_open, command_of, kind_of, numbered, with_turns}
+use Rattle.iscsi_rules.specs.rules.Run.{after_event}
+use Rattle.iscsi_rules.proofs.AbortRuns.{exp_item}
+use Rattle.iscsi_rules.proofs.BoolLemmas.{or_none}
+use Rattle.iscsi_rules.proofs.CountLemmas.{one}
+use Rattle.iscsi_rules.proofs.FormItems.{Does}
+use Rattle.iscsi_rules.proofs.ListLemmas.{count_by-push}
 use Rattle.std.proofs.lemmas.Bool.{eqb-true, leb-false}
 use Rattle.std.specs.List.{list_any}
 use Rattle.std.proofs.lemmas.Bool.{false≢true, ltb-true}
-use Rattle.iscsi_history.proofs.ElementLemmas.{filter-in}
-use Rattle.iscsi_history.proofs.WaitingItems.{waiting_after_function}
+use Rattle.iscsi_rules.proofs.ElementLemmas.{filter-in}
+use Rattle.iscsi_rules.proofs.WaitingItems.{waiting_after_function}
 use Rattle.iscsi_outbox_law.proofs.PairLemmas.{each-append, each-weaken}
 use Rattle.iscsi_ffi_law.proofs.Members.{each_in, in_any, in_each}
-use Rattle.iscsi_history.proofs.FlowItems.{same_exp}
-use Rattle.iscsi_history.proofs.FormItems.{does_after, does_function, does_reply}
-use Rattle.iscsi_history.proofs.Forms.{AfterWaiting, AtArrival, AtTurn, begun}
-use Rattle.iscsi_history.proofs.HeldLemmas.{held-admits, held-delivered, held-number}
-use Rattle.iscsi_history.proofs.ReceivedItems.{AtMostOne, function_receives_none, immediate_receives_one, turn_receives_none}
-use Rattle.iscsi_history.proofs.TraceLemmas.{after_items-append}
+use Rattle.iscsi_rules.proofs.FlowItems.{same_exp}
+use Rattle.iscsi_rules.proofs.FormItems.{does_after, does_function, does_reply}
+use Rattle.iscsi_rules.proofs.Forms.{AfterWaiting, AtArrival, AtTurn, begun}
+use Rattle.iscsi_rules.proofs.HeldLemmas.{held-admits, held-delivered, held-number}
+use Rattle.iscsi_rules.proofs.ReceivedItems.{AtMostOne, function_receives_none, immediate_receives_one, turn_receives_none}
+use Rattle.iscsi_rules.proofs.TraceLemmas.{after_items-append}
 use Rattle.iscsi_outbox_law.specs.Pairs.{EachOf}
 use Rattle.iscsi_outbox_law.proofs.PairLemmas.{each-filter}
 use Rattle.iscsi_ffi_law.proofs.FitMarks.{fewer_each, fewer_wait, IsExecuting, IsWaiter, KeptIn, all_waiters, executing, held_numbered, still_unheld}

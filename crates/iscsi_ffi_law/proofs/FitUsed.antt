@@ -2,11 +2,11 @@
 use Rattle.std.proofs.Common.{◌≡◌, ℕ, ◌+◌, ◌<◌, ◌≤◌, ◌==◌, ◌&&◌, ◌||◌, not, cond, Bool, true, false, List, [], ◌∷◌, length, filter, count_by, refl, ap, sym, ◌∙◌, arith, ⊎_elim}
 use Rattle.std.specs.List.{list_any}
 use Rattle.std.proofs.lemmas.Bool.{and_parts, cond_both, eqb-true}
-use Rattle.iscsi_history.proofs.BoolLemmas.{or_first}
-use Rattle.iscsi_history.proofs.CountLemmas.{count-cons, count-weaker, one}
-use Rattle.iscsi_history.proofs.ElementLemmas.{In}
-use Rattle.iscsi_history.proofs.ListLemmas.{count_by-map, fewer_counted}
-use Rattle.iscsi_history.specs.rules.Trace.{Command as RulesCommand, Trace, entered, has, leaves_ticket}
+use Rattle.iscsi_rules.proofs.BoolLemmas.{or_first}
+use Rattle.iscsi_rules.proofs.CountLemmas.{count-cons, count-weaker, one}
+use Rattle.iscsi_rules.proofs.ElementLemmas.{In}
+use Rattle.iscsi_rules.proofs.ListLemmas.{count_by-map, fewer_counted}
+use Rattle.iscsi_rules.specs.rules.Trace.{Command as RulesCommand, Trace, entered, has, leaves_ticket}
 use Rattle.iscsi_outbox_rules.specs.promises.Room.{tasks_kept}
 use Rattle.iscsi_outbox_rules.specs.rules.Boxes.{Box, Task}
 use Rattle.iscsi_outbox_rules.specs.rules.Words.{has_under_way, is_left_phase, is_running, is_running_phase, owes, owing}

@@ -1,11 +1,11 @@
 -- What each part of a call keeps, every call keeps, with one call more.
 use Rattle.std.proofs.Common.{◌≡◌, ℕ, zero, suc, ◌+◌, ◌==◌, ◌&&◌, not, cond, Bool, true, false, List, [], ◌∷◌, ◌++◌, map, filter, length, Option, Some, None, refl, ap, sym, ◌∙◌, ◌≤◌, arith}
 use Rattle.std.proofs.lemmas.Bool.{cond_both, false≢true, and_parts}
-use Rattle.iscsi_history.specs.declared.event.Event.TheVariants.{Arrive, Done}
-use Rattle.iscsi_history.specs.rules.Agenda.{command_of}
-use Rattle.iscsi_history.specs.rules.Settings.{is_known}
-use Rattle.iscsi_history.specs.rules.Trace.{Command, first_of, is_closed, live, was_free}
-use Rattle.iscsi_history.proofs.ElementLemmas.{In, filter-in, first-in, in-filter}
+use Rattle.iscsi_rules.specs.declared.event.Event.TheVariants.{Arrive, Done}
+use Rattle.iscsi_rules.specs.rules.Agenda.{command_of}
+use Rattle.iscsi_rules.specs.rules.Settings.{is_known}
+use Rattle.iscsi_rules.specs.rules.Trace.{Command, first_of, is_closed, live, was_free}
+use Rattle.iscsi_rules.proofs.ElementLemmas.{In, filter-in, first-in, in-filter}
 use Rattle.iscsi_outbox_rules.specs.declared.own_pdu.OwnPdu.{OwnPdu}
 use Rattle.iscsi_outbox_rules.specs.declared.own_pdu.PutRefusal.{PutRefusal}
 use Rattle.iscsi_outbox_rules.specs.rules.Calls as outbox

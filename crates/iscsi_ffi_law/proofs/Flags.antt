@@ -1,14 +1,14 @@
 -- Own PDUs that are of no command: those that the rules need no more are those whose places the steps use no more.
 use Rattle.std.proofs.Common.{◌≡◌, ℕ, ◌+◌, ◌<◌, ◌≤◌, ◌==◌, ◌&&◌, inl, inr, ⊎_elim, not, cond, nat_lt, Bool, true, false, List, [], ◌∷◌, ◌++◌, length, map, count_by, filter, replicate, Option, Some, None, refl, ap, sym, subst, ◌∙◌, arith, lt-ltb, le-ltb}
 use Rattle.std.proofs.lemmas.Bool.{false≢true, eqb-true, eq-eqb, cases_lt}
-use Rattle.iscsi_history.proofs.CountLemmas.{one, count-cons, count-weaker}
-use Rattle.iscsi_history.proofs.BoolLemmas.{and_second}
-use Rattle.iscsi_history.proofs.ElementLemmas.{In, append-in_first, append-in_second, in-append}
+use Rattle.iscsi_rules.proofs.CountLemmas.{one, count-cons, count-weaker}
+use Rattle.iscsi_rules.proofs.BoolLemmas.{and_second}
+use Rattle.iscsi_rules.proofs.ElementLemmas.{In, append-in_first, append-in_second, in-append}
 use Rattle.iscsi_outbox_rules.specs.rules.Boxes.{Handed, Link}
 use Rattle.iscsi_outbox_law.specs.Commands.{link_in}
 use Rattle.iscsi_outbox_law.specs.Pairs.{EachOf, PairsOf}
 use Rattle.iscsi_outbox_law.proofs.PlaceLemmas.{AreApart as LinksApart, conns_of, one_place}
-use Rattle.iscsi_history.specs.rules.Trace.{entered}
+use Rattle.iscsi_rules.specs.rules.Trace.{entered}
 use Rattle.iscsi_requests.specs.Conns.{of_conn}
 use Rattle.iscsi_requests.specs.declared.replies.WaitingReply.{WaitingReply}
 use Rattle.iscsi_ffi_commands.specs.declared.command.Command.{Command}

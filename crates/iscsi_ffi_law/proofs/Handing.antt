@@ -3,9 +3,9 @@ use Rattle.std.proofs.Common.{◌≡◌, ℕ, zero, suc, ◌+◌, ◌<◌, ◌�
 use Rattle.std.proofs.lemmas.Bool.{cond_both, eq-eqb, cases_eq, not-true}
 use Rattle.std.proofs.lemmas.List.{get_or-set_same, get_or-set_other, length-map}
 use Rattle.std.proofs.lemmas.List.Sums.{sum_by-append}
-use Rattle.iscsi_history.specs.rules.Trace.{entered}
-use Rattle.iscsi_history.proofs.BoolLemmas.{and_parts}
-use Rattle.iscsi_history.proofs.CountLemmas.{one, count-cons}
+use Rattle.iscsi_rules.specs.rules.Trace.{entered}
+use Rattle.iscsi_rules.proofs.BoolLemmas.{and_parts}
+use Rattle.iscsi_rules.proofs.CountLemmas.{one, count-cons}
 use Rattle.iscsi_outbox_rules.specs.rules.Boxes.{Box, Handed, Link, Outgoing}
 use Rattle.iscsi_outbox_rules.specs.rules.Handing.{after_given, is_from_queue, taken_from}
 use Rattle.iscsi_outbox_rules.specs.rules.Words.{is_open}

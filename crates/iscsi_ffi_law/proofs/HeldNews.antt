@@ -3,12 +3,12 @@ use Rattle.std.proofs.Common.{◌≡◌, ℕ, ◌==◌, ◌&&◌, ◌||◌, ⊎_
 use Rattle.std.specs.List.{filter_map, list_all, list_any}
 use Rattle.std.proofs.lemmas.Bool.{and_from, eq-eqb, eqb-true, false≢true, not-true}
 use Rattle.std.proofs.lemmas.List.Folds.{list_any-append}
-use Rattle.iscsi_history.specs.rules.Trace.{Command, Mark, Trace, after_items, are_apart, entered, enters, has, leaves_ticket, live, was_free}
-use Rattle.iscsi_history.proofs.BoolLemmas.{and_parts}
-use Rattle.iscsi_history.proofs.CountLemmas.{count-filter}
-use Rattle.iscsi_history.proofs.ElementLemmas.{In, filter-in, in-append, in-filter}
-use Rattle.iscsi_history.proofs.ListLemmas.{count_by-map, list_any-map}
-use Rattle.iscsi_history.proofs.NewlyLemmas.{filter-twice, never_free}
+use Rattle.iscsi_rules.specs.rules.Trace.{Command, Mark, Trace, after_items, are_apart, entered, enters, has, leaves_ticket, live, was_free}
+use Rattle.iscsi_rules.proofs.BoolLemmas.{and_parts}
+use Rattle.iscsi_rules.proofs.CountLemmas.{count-filter}
+use Rattle.iscsi_rules.proofs.ElementLemmas.{In, filter-in, in-append, in-filter}
+use Rattle.iscsi_rules.proofs.ListLemmas.{count_by-map, list_any-map}
+use Rattle.iscsi_rules.proofs.NewlyLemmas.{filter-twice, never_free}
 use Rattle.iscsi_outbox_rules.specs.rules.Words.{contains}
 use Rattle.iscsi_ffi_rules.specs.rules.Calls.{Interface}
 use Rattle.iscsi_ffi_rules.specs.rules.Clearing.{next_withheld}

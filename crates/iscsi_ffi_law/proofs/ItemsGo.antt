@@ -11,19 +11,19 @@ use Rattle.std.proofs.lemmas.Grind.{flat_map-append}
 use Rattle.iscsi_wire.specs.declared.reply.Reply.{Reply}
 use Rattle.iscsi_wire.specs.Fields.{cmd_sn, connection_of}
 use Rattle.iscsi_wire.specs.Serial.{wire}
-use Rattle.iscsi_history.specs.rules.Run.{effects_of, effects_of_item}
-use Rattle.iscsi_history.specs.rules.Settings.{are_distinct, is_known}
-use Rattle.iscsi_history.specs.rules.Trace.{Arrival, ClosesConn, ClosesSession, Command as RulesCommand, Empties, Enters, Leaves, Mark, Sends, Trace, Voids, entered, held, is_closed, live, waiting}
-use Rattle.iscsi_history.proofs.BoolLemmas.{and_parts}
-use Rattle.iscsi_history.proofs.ElementLemmas.{In}
-use Rattle.iscsi_history.proofs.Forms.{AfterWaiting, AtArrival, AtTurn, Deeds, Each, EntersAs, IsDone, Start, if_some, marks_done, start_mark}
+use Rattle.iscsi_rules.specs.rules.Run.{effects_of, effects_of_item}
+use Rattle.iscsi_rules.specs.rules.Settings.{are_distinct, is_known}
+use Rattle.iscsi_rules.specs.rules.Trace.{Arrival, ClosesConn, ClosesSession, Command as RulesCommand, Empties, Enters, Leaves, Mark, Sends, Trace, Voids, entered, held, is_closed, live, waiting}
+use Rattle.iscsi_rules.proofs.BoolLemmas.{and_parts}
+use Rattle.iscsi_rules.proofs.ElementLemmas.{In}
+use Rattle.iscsi_rules.proofs.Forms.{AfterWaiting, AtArrival, AtTurn, Deeds, Each, EntersAs, IsDone, Start, if_some, marks_done, start_mark}
 use Rattle.iscsi_outbox_rules.proofs.ClosedParts.{EachOn, effects_each}
 use Rattle.iscsi_outbox_law.specs.Pairs.{EachOf}
 use Rattle.iscsi_outbox_law.proofs.PairLemmas.{each-filter, each-weaken}
 use Rattle.iscsi_outbox_law.specs.Sound.{IsSound}
 use Rattle.iscsi_outbox_law.proofs.PlaceLemmas.{known_any}
 use Rattle.iscsi_outbox_rules.specs.rules.Words.{contains, replies_waiting}
-use Rattle.iscsi_history.specs.rules.Logout.{is_open}
+use Rattle.iscsi_rules.specs.rules.Logout.{is_open}
 use Rattle.iscsi_ffi_rules.specs.rules.Run.{cids}
 use Rattle.iscsi_outbox_steps.specs.State.{Limits, State as OutboxState}
 use Rattle.iscsi_outbox_steps.specs.Steps.{after_items as steps_after_items}
@@ -35,7 +35,7 @@ use Rattle.iscsi_ffi_rules.specs.rules.Sides.{Side}
 use Rattle.iscsi_ffi_steps.specs.State.{State}
 use Rattle.iscsi_ffi_steps.specs.Walk.{Walk, end_item, on_effects}
 use Rattle.iscsi_requests.specs.Conns.{count_all, of_conn}
-use Rattle.iscsi_history.specs.declared.effect.Effect.{Effect}
+use Rattle.iscsi_rules.specs.declared.effect.Effect.{Effect}
 use Rattle.iscsi_outbox_rules.specs.rules.Items.{reply_sent}
 use Rattle.iscsi_ffi_law.specs.Arrived.{AreStepsFit, IsStepFit, effects_by, emptying, is_late, side_behind, starts_late}
 use Rattle.iscsi_ffi_law.specs.Names.{Name, Note}

@@ -1,9 +1,9 @@
 -- What is kept at the end of a call: the requests, and the own PDUs, whose places are used.
 use Rattle.std.proofs.Common.{◌≡◌, ℕ, suc, ◌<◌, ◌==◌, ◌&&◌, inl, inr, cond, Bool, true, false, List, [], ◌∷◌, length, count_by, filter, get_or, Option, Some, None, is_some, refl, ap, sym, ◌∙◌, arith}
 use Rattle.std.proofs.lemmas.Bool.{false≢true, eqb-true}
-use Rattle.iscsi_history.proofs.CountLemmas.{one, count-cons, count-filter}
-use Rattle.iscsi_history.proofs.ElementLemmas.{In, filter-in, in-filter}
-use Rattle.iscsi_history.proofs.ListLemmas.{fewer_counted}
+use Rattle.iscsi_rules.proofs.CountLemmas.{one, count-cons, count-filter}
+use Rattle.iscsi_rules.proofs.ElementLemmas.{In, filter-in, in-filter}
+use Rattle.iscsi_rules.proofs.ListLemmas.{fewer_counted}
 use Rattle.iscsi_outbox_law.specs.Pairs.{EachOf}
 use Rattle.iscsi_ffi_law.specs.Names.{Name, Note, place_named}
 use Rattle.iscsi_ffi_law.specs.Parts.{AreApart}

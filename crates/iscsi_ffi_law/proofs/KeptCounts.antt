@@ -3,9 +3,9 @@ use Rattle.std.proofs.Common.{◌≡◌, ℕ, suc, ◌+◌, ◌*◌, ◌<◌, �
 use Rattle.iscsi_outbox_law.proofs.PairLemmas.{pairs-length}
 use Rattle.std.proofs.lemmas.Bool.{eqb-true, leb-false, cases_lt}
 use Rattle.iscsi_wire.specs.Fields.{connection_of}
-use Rattle.iscsi_history.specs.rules.Management.{MOST_WAITING}
-use Rattle.iscsi_history.specs.rules.Trace.{Arrival}
-use Rattle.iscsi_history.proofs.CountLemmas.{count-cons, one}
+use Rattle.iscsi_rules.specs.rules.Management.{MOST_WAITING}
+use Rattle.iscsi_rules.specs.rules.Trace.{Arrival}
+use Rattle.iscsi_rules.proofs.CountLemmas.{count-cons, one}
 use Rattle.iscsi_outbox_law.specs.Pairs.{EachOf}
 use Rattle.iscsi_requests.specs.Conns.{of_conn}
 use Rattle.iscsi_requests.specs.Functions.{WaitingFunctions}

@@ -3,13 +3,13 @@ use Rattle.std.proofs.Common.{◌≡◌, ℕ, ◌==◌, ◌||◌, Bool, false, L
 use Rattle.std.specs.List.{cons_option, flat_map, list_any}
 use Rattle.iscsi_wire.specs.declared.reply.Reply.{Reply}
 use Rattle.iscsi_wire.specs.Fields.{connection_of}
-use Rattle.iscsi_history.specs.declared.effect.Effect.{Effect}
-use Rattle.iscsi_history.specs.declared.effect.Effect.TheVariants.{Leave}
-use Rattle.iscsi_history.specs.promises.Replies.{executed_in, reply_sent as mark_reply}
-use Rattle.iscsi_history.specs.rules.Settings.{Setting}
-use Rattle.iscsi_history.specs.rules.Run.{effects_of_item, effects_of_mark, newly_enabled, stat_sn_of}
-use Rattle.iscsi_history.specs.rules.Trace.{Arrival, Command, Leaves, Mark, Sends, Trace, Voids, enters, is_among, leaves_ticket, waiting, waiting_through}
-use Rattle.iscsi_history.proofs.Forms.{AfterWaiting, AtArrival, AtTurn, Start, if_some, start_mark}
+use Rattle.iscsi_rules.specs.declared.effect.Effect.{Effect}
+use Rattle.iscsi_rules.specs.declared.effect.Effect.TheVariants.{Leave}
+use Rattle.iscsi_rules.specs.promises.Replies.{executed_in, reply_sent as mark_reply}
+use Rattle.iscsi_rules.specs.rules.Settings.{Setting}
+use Rattle.iscsi_rules.specs.rules.Run.{effects_of_item, effects_of_mark, newly_enabled, stat_sn_of}
+use Rattle.iscsi_rules.specs.rules.Trace.{Arrival, Command, Leaves, Mark, Sends, Trace, Voids, enters, is_among, leaves_ticket, waiting, waiting_through}
+use Rattle.iscsi_rules.proofs.Forms.{AfterWaiting, AtArrival, AtTurn, Start, if_some, start_mark}
 use Rattle.iscsi_ffi_rules.specs.rules.Happening.{answers_in, leaving}
 use Rattle.iscsi_ffi_law.proofs.DoneShape.{enables}
 use Rattle.iscsi_ffi_law.proofs.Plain.{answers_of, plain_item, send_effects, start_effect, void_effects}

@@ -6,11 +6,11 @@ use Rattle.std.proofs.lemmas.List.{append-nil}
 use Rattle.iscsi_wire.specs.declared.reply.Reply.{Reply}
 use Rattle.iscsi_wire.specs.declared.request.Request.{Request}
 use Rattle.iscsi_wire.specs.Fields.{connection_of}
-use Rattle.iscsi_history.specs.declared.effect.Effect.{Effect}
-use Rattle.iscsi_history.specs.declared.effect.Effect.TheVariants.{Deliver, Immediate, Leave, Void}
-use Rattle.iscsi_history.specs.rules.Trace.{Arrival, Command, first_of}
-use Rattle.iscsi_history.proofs.Forms.{AfterWaiting, AtArrival, AtTurn, Start}
-use Rattle.iscsi_history.proofs.ListLemmas.{list_any-map}
+use Rattle.iscsi_rules.specs.declared.effect.Effect.{Effect}
+use Rattle.iscsi_rules.specs.declared.effect.Effect.TheVariants.{Deliver, Immediate, Leave, Void}
+use Rattle.iscsi_rules.specs.rules.Trace.{Arrival, Command, first_of}
+use Rattle.iscsi_rules.proofs.Forms.{AfterWaiting, AtArrival, AtTurn, Start}
+use Rattle.iscsi_rules.proofs.ListLemmas.{list_any-map}
 use Rattle.iscsi_outbox_rules.specs.rules.Boxes.{Box, Link, Task}
 use Rattle.iscsi_outbox_rules.specs.rules.Calls.{Opening}
 use Rattle.iscsi_outbox_rules.specs.rules.Due.{settle}

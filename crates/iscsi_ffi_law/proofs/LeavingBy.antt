@@ -1,6 +1,6 @@
 -- Commands leave as a request executes, whatever else it does: what holds behind them, before it is answered, or is over.
 use Rattle.std.proofs.Common.{◌≡◌, ℕ, ◌+◌, ◌≤◌, ◌==◌, ◌&&◌, ◌||◌, inl, inr, ⊎_elim, not, cond, Bool, true, false, List, [], ◌∷◌, ◌++◌, length, map, count_by, filter, filter_map, Option, Some, None, nat_lt, refl, ap, sym, subst, ◌∙◌, arith, length-append, is_some, find, option_map}
-use Rattle.iscsi_history.specs.promises.Replies.{executed_in}
+use Rattle.iscsi_rules.specs.promises.Replies.{executed_in}
 use Rattle.iscsi_requests.specs.Numbers.{HeldNumbers}
 use Rattle.iscsi_requests.specs.Functions.{WaitingFunctions}
 use Rattle.iscsi_ffi_law.proofs.TakingOut.{IsOut}
@@ -8,13 +8,13 @@ use Rattle.std.specs.List.{list_any}
 use Rattle.std.proofs.lemmas.Bool.{cases_lt, eq-eqb, eqb-true, false≢true, ltb-false}
 use Rattle.std.proofs.lemmas.List.{length-map}
 use Rattle.iscsi_wire.specs.Fields.{opcode}
-use Rattle.iscsi_history.specs.declared.effect.Effect.{Effect}
-use Rattle.iscsi_history.specs.rules.Settings.{are_distinct}
-use Rattle.iscsi_history.specs.rules.Trace.{Arrival, Command as RulesCommand, Mark, are_apart, entered, has, is_among, leaves_ticket, live, enters}
-use Rattle.iscsi_history.proofs.ApartLemmas.{apart-filter}
-use Rattle.iscsi_history.proofs.BoolLemmas.{and_parts}
-use Rattle.iscsi_history.proofs.CountLemmas.{one, count-cons, count-weaker}
-use Rattle.iscsi_history.proofs.ElementLemmas.{In}
+use Rattle.iscsi_rules.specs.declared.effect.Effect.{Effect}
+use Rattle.iscsi_rules.specs.rules.Settings.{are_distinct}
+use Rattle.iscsi_rules.specs.rules.Trace.{Arrival, Command as RulesCommand, Mark, are_apart, entered, has, is_among, leaves_ticket, live, enters}
+use Rattle.iscsi_rules.proofs.ApartLemmas.{apart-filter}
+use Rattle.iscsi_rules.proofs.BoolLemmas.{and_parts}
+use Rattle.iscsi_rules.proofs.CountLemmas.{one, count-cons, count-weaker}
+use Rattle.iscsi_rules.proofs.ElementLemmas.{In}
 use Rattle.iscsi_outbox_rules.specs.rules.Boxes.{Box}
 use Rattle.iscsi_outbox_rules.specs.rules.Items.{after_item}
 use Rattle.iscsi_outbox_rules.specs.rules.Words.{contains}

@@ -3,10 +3,10 @@ use Rattle.std.proofs.Common.{◌≡◌, ℕ, ◌<◌, ◌==◌, ◌&&◌, ◌||
 use Rattle.std.specs.List.{list_any}
 use Rattle.std.proofs.lemmas.Bool.{false≢true}
 use Rattle.std.proofs.lemmas.List.{length-map}
-use Rattle.iscsi_history.specs.rules.Trace.{Trace, entered}
-use Rattle.iscsi_history.proofs.BoolLemmas.{and_parts}
-use Rattle.iscsi_history.proofs.CountLemmas.{count-filter}
-use Rattle.iscsi_history.proofs.ElementLemmas.{In, filter-in}
+use Rattle.iscsi_rules.specs.rules.Trace.{Trace, entered}
+use Rattle.iscsi_rules.proofs.BoolLemmas.{and_parts}
+use Rattle.iscsi_rules.proofs.CountLemmas.{count-filter}
+use Rattle.iscsi_rules.proofs.ElementLemmas.{In, filter-in}
 use Rattle.iscsi_outbox_rules.specs.declared.own_pdu.OwnPdu.TheVariants.{OfCommand, OfConnection}
 use Rattle.iscsi_outbox_rules.specs.rules.Boxes.{Answer, Link, Notices, Outgoing, Owns, Pdu, Pings, Replies}
 use Rattle.iscsi_outbox_rules.specs.rules.Queues.{without}

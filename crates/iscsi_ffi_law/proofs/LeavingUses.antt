@@ -2,8 +2,8 @@
 use Rattle.std.proofs.Common.{◌≡◌, ℕ, ◌+◌, ◌-◌, ◌<◌, ◌≤◌, ◌==◌, ◌&&◌, not, cond, Bool, true, false, List, [], ◌∷◌, count_by, Option, Some, None, is_some, nat_lt, refl, ap, sym, subst, ◌∙◌, arith, lt-ltb, ne_eqb}
 use Rattle.std.proofs.lemmas.Bool.{and_from, eq-eqb, eqb-true, false≢true}
 use Rattle.std.proofs.lemmas.Bool.Decides.{nat_tests}
-use Rattle.iscsi_history.proofs.BoolLemmas.{and_parts}
-use Rattle.iscsi_history.proofs.CountLemmas.{one}
+use Rattle.iscsi_rules.proofs.BoolLemmas.{and_parts}
+use Rattle.iscsi_rules.proofs.CountLemmas.{one}
 use Rattle.iscsi_requests.specs.Cookies.{Cookies, cookie_at, has_place, last_cookie, removed, used_less, uses_at, with_uses}
 use Rattle.iscsi_ffi_law.specs.Parts.{AreCounted}
 use Rattle.iscsi_ffi_law.proofs.Cookies.{cookie_there, counted_with, counted_without, is_word, used_there, uses_elsewhere, uses_here, uses_others, words_left, words_same}

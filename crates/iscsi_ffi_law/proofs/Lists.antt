@@ -1,6 +1,6 @@
 -- Lists that connections have, and how often something stands in them.
 use Rattle.std.proofs.Common.{◌≡◌, ℕ, zero, suc, ◌+◌, ◌<◌, ◌≤◌, Bool, List, [], ◌∷◌, length, count_by, replicate, set, None, refl, arith}
-use Rattle.iscsi_history.proofs.CountLemmas.{count-cons}
+use Rattle.iscsi_rules.proofs.CountLemmas.{count-cons}
 use Rattle.iscsi_requests.specs.Conns.{of_conn}
 use Rattle.iscsi_ffi_law.specs.Uses.{count_lists, is_place}
 

@@ -4,12 +4,12 @@ use Rattle.std.specs.List.{list_all}
 use Rattle.std.proofs.lemmas.Bool.{eq-eqb}
 use Rattle.iscsi_wire.specs.Fields.{itt}
 use Rattle.iscsi_wire.specs.declared.reply.Reply.TheVariants.{Logout}
-use Rattle.iscsi_history.specs.declared.event.Event.TheVariants.{Arrive}
-use Rattle.iscsi_history.specs.rules.Execution.{exp_of}
-use Rattle.iscsi_history.specs.rules.Settings.{is_known}
-use Rattle.iscsi_history.specs.rules.Trace.{Arrival, Command, Mark, is_closed, waiting}
-use Rattle.iscsi_history.proofs.ElementLemmas.{In}
-use Rattle.iscsi_history.proofs.Forms.{AtArrival}
+use Rattle.iscsi_rules.specs.declared.event.Event.TheVariants.{Arrive}
+use Rattle.iscsi_rules.specs.rules.Execution.{exp_of}
+use Rattle.iscsi_rules.specs.rules.Settings.{is_known}
+use Rattle.iscsi_rules.specs.rules.Trace.{Arrival, Command, Mark, is_closed, waiting}
+use Rattle.iscsi_rules.proofs.ElementLemmas.{In}
+use Rattle.iscsi_rules.proofs.Forms.{AtArrival}
 use Rattle.iscsi_outbox_law.specs.Pairs.{EachOf}
 use Rattle.iscsi_outbox_law.specs.Sound.{IsSound}
 use Rattle.iscsi_ffi_rules.specs.rules.Calls.{Interface}

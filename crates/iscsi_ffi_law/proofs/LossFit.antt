@@ -1,15 +1,15 @@
 -- What the rules' side has as a connection is lost.
 use Rattle.std.proofs.Common.{◌≡◌, ℕ, ◌+◌, cond, Bool, true, false, List, [], ◌∷◌, refl, subst}
 use Rattle.iscsi_wire.specs.Fields.{request_of}
-use Rattle.iscsi_history.specs.declared.effect.Effect.{Effect}
-use Rattle.iscsi_history.specs.declared.event.Event.{Event}
-use Rattle.iscsi_history.specs.declared.event.Event.TheVariants.{Arrive}
-use Rattle.iscsi_history.specs.promises.Order.{in_parts}
-use Rattle.iscsi_history.specs.rules.Agenda.{arrival_of, items_of}
-use Rattle.iscsi_history.specs.rules.Run.{effects_of}
-use Rattle.iscsi_history.specs.rules.Trace.{Arrival, Command, live, was_free}
-use Rattle.iscsi_history.proofs.ElementLemmas.{In}
-use Rattle.iscsi_history.proofs.FormRuns.{event_going as event_forms}
+use Rattle.iscsi_rules.specs.declared.effect.Effect.{Effect}
+use Rattle.iscsi_rules.specs.declared.event.Event.{Event}
+use Rattle.iscsi_rules.specs.declared.event.Event.TheVariants.{Arrive}
+use Rattle.iscsi_rules.specs.promises.Order.{in_parts}
+use Rattle.iscsi_rules.specs.rules.Agenda.{arrival_of, items_of}
+use Rattle.iscsi_rules.specs.rules.Run.{effects_of}
+use Rattle.iscsi_rules.specs.rules.Trace.{Arrival, Command, live, was_free}
+use Rattle.iscsi_rules.proofs.ElementLemmas.{In}
+use Rattle.iscsi_rules.proofs.FormRuns.{event_going as event_forms}
 use Rattle.iscsi_outbox_rules.specs.rules.Calls as outbox
 use Rattle.iscsi_outbox_rules.specs.rules.Words.{contains}
 use Rattle.iscsi_outbox_rules.proofs.ClosedParts.{Parts, effects_each, event_parts}
@@ -31,7 +31,7 @@ use Rattle.iscsi_ffi_law.proofs.QuietBox.{empty_item}
 use Rattle.iscsi_ffi_law.proofs.FitLasts.{Lasts}
 use Rattle.iscsi_ffi_law.proofs.FitFollows.{IsTogether, together_other}
 use Rattle.iscsi_ffi_rules.specs.rules.Happening.{other}
-use Rattle.iscsi_history.specs.rules.Settings.{is_known}
+use Rattle.iscsi_rules.specs.rules.Settings.{is_known}
 use Rattle.iscsi_ffi_law.proofs.Turns.{becomes}
 
 -- what is known of the commands that leave as a connection is lost

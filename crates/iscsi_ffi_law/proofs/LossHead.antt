@@ -1,8 +1,8 @@
 -- The Logout by which the session hears that a connection was lost begins to execute.
 use Rattle.std.proofs.Common.{◌≡◌, ℕ, ◌<◌, ◌==◌, not, List, ◌∷◌, count_by, Option, None, refl, ap, sym, subst, ◌∙◌, arith, ne_eqb}
 use Rattle.std.specs.List.{list_any}
-use Rattle.iscsi_history.specs.rules.Trace.{Arrival, waiting}
-use Rattle.iscsi_history.proofs.Forms.{AtArrival}
+use Rattle.iscsi_rules.specs.rules.Trace.{Arrival, waiting}
+use Rattle.iscsi_rules.proofs.Forms.{AtArrival}
 use Rattle.iscsi_outbox_law.specs.Pairs.{EachOf}
 use Rattle.iscsi_outbox_law.proofs.PairLemmas.{each-weaken}
 use Rattle.iscsi_requests.specs.Numbers.{size_for}

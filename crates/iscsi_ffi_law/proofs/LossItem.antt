@@ -4,18 +4,18 @@ use Rattle.iscsi_wire.specs.Fields.{cmd_sn, connection_of, itt, request_of}
 use Rattle.iscsi_wire.specs.Serial.{number_of_first, wire}
 use Rattle.iscsi_wire.specs.declared.reply.Reply.{Reply}
 use Rattle.iscsi_wire.specs.declared.reply.Reply.TheVariants.{Logout}
-use Rattle.iscsi_history.specs.declared.event.Event.TheVariants.{Arrive}
-use Rattle.iscsi_history.specs.rules.Agenda.{arrival_of, items_of}
-use Rattle.iscsi_history.specs.rules.Execution.{exp_of}
-use Rattle.iscsi_history.specs.rules.Deeds.{deed_marks, marks_after}
-use Rattle.iscsi_history.specs.rules.Items.{agenda, execution, functions}
-use Rattle.iscsi_history.specs.rules.Logout.{all_held, is_last_open, is_open, live_of_units, parting as parted}
-use Rattle.iscsi_history.specs.rules.Settings.{Setting, is_known}
-use Rattle.iscsi_history.specs.rules.Trace.{Arrival, Command, Empties, Executes, Leaves, Mark, Trace, held, is_closed, live, waiting}
-use Rattle.iscsi_history.proofs.BoolLemmas.{and_both}
-use Rattle.iscsi_history.proofs.ElementLemmas.{In}
-use Rattle.iscsi_history.proofs.FormItems.{Does, does_after}
-use Rattle.iscsi_history.proofs.Forms.{AtArrival, Executed, marks_done}
+use Rattle.iscsi_rules.specs.declared.event.Event.TheVariants.{Arrive}
+use Rattle.iscsi_rules.specs.rules.Agenda.{arrival_of, items_of}
+use Rattle.iscsi_rules.specs.rules.Execution.{exp_of}
+use Rattle.iscsi_rules.specs.rules.Deeds.{deed_marks, marks_after}
+use Rattle.iscsi_rules.specs.rules.Items.{agenda, execution, functions}
+use Rattle.iscsi_rules.specs.rules.Logout.{all_held, is_last_open, is_open, live_of_units, parting as parted}
+use Rattle.iscsi_rules.specs.rules.Settings.{Setting, is_known}
+use Rattle.iscsi_rules.specs.rules.Trace.{Arrival, Command, Empties, Executes, Leaves, Mark, Trace, held, is_closed, live, waiting}
+use Rattle.iscsi_rules.proofs.BoolLemmas.{and_both}
+use Rattle.iscsi_rules.proofs.ElementLemmas.{In}
+use Rattle.iscsi_rules.proofs.FormItems.{Does, does_after}
+use Rattle.iscsi_rules.proofs.Forms.{AtArrival, Executed, marks_done}
 use Rattle.iscsi_ffi_rules.specs.rules.Happening.{leaving}
 use Rattle.iscsi_ffi_rules.specs.rules.Run.{parting}
 use Rattle.iscsi_ffi_law.specs.Arrived.{emptying}

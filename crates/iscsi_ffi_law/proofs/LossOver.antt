@@ -1,9 +1,9 @@
 -- The uses that end as a connection is lost are of requests that are neither held nor wait: each was answered, or its command entered.
 use Rattle.std.proofs.Common.{◌≡◌, ℕ, ◌+◌, ◌≤◌, ◌<◌, ◌==◌, ◌&&◌, ◌||◌, ⊎_elim, inl, inr, ◌⊎◌, Bool, true, false, List, [], ◌++◌, length, map, count_by, nat_lt, Option, Some, None, refl, ap, sym, subst, ◌∙◌, arith, lt-ltb, eq-eqb}
 use Rattle.std.proofs.lemmas.Bool.{cases_lt, eqb-true, false≢true}
-use Rattle.iscsi_history.specs.rules.Trace.{Command, Trace, entered}
-use Rattle.iscsi_history.proofs.BoolLemmas.{and_parts}
-use Rattle.iscsi_history.proofs.ElementLemmas.{In, in-append, append-in_second}
+use Rattle.iscsi_rules.specs.rules.Trace.{Command, Trace, entered}
+use Rattle.iscsi_rules.proofs.BoolLemmas.{and_parts}
+use Rattle.iscsi_rules.proofs.ElementLemmas.{In, in-append, append-in_second}
 use Rattle.iscsi_outbox_rules.specs.promises.Scope.{nth}
 use Rattle.iscsi_outbox_rules.specs.rules.Boxes.{Outgoing}
 use Rattle.iscsi_outbox_rules.specs.rules.Words.{contains}

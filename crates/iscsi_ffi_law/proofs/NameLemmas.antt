@@ -1,7 +1,7 @@
 -- The place of a request, and its event.
 use Rattle.std.proofs.Common.{◌≡◌, ℕ, ◌≤◌, ◌==◌, ⊎_elim, List, count_by, find, Option, Some, None, option_map, refl, ap, sym, ◌∙◌, arith, ne_eqb}
 use Rattle.std.proofs.lemmas.Bool.{eqb-true, eq-eqb, cases_eq}
-use Rattle.iscsi_history.proofs.ElementLemmas.{In}
+use Rattle.iscsi_rules.proofs.ElementLemmas.{In}
 use Rattle.iscsi_ffi_law.specs.Names.{Name, Note, is_of_event, place_named}
 use Rattle.iscsi_ffi_law.specs.Parts.{AreApart}
 use Rattle.iscsi_ffi_law.proofs.Members.{find_in, in_find, two_counted}

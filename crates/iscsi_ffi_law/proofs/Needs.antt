@@ -2,7 +2,7 @@
 use Rattle.std.proofs.Common.{◌≡◌, ℕ, ◌<◌, ◌≤◌, ◌==◌, ◌||◌, ◌⊎◌, inl, inr, ⊎_elim, nat_lt, Bool, true, false, List, ◌++◌, length, count_by, Option, Some, None, refl, ap, sym, ◌∙◌, arith, lt-ltb}
 use Rattle.std.specs.List.{list_any}
 use Rattle.std.proofs.lemmas.Bool.{false≢true, eqb-true, eq-eqb, ltb-true, or_cases, or_left, or_right, cases_lt, cases_Bool, le-ltb}
-use Rattle.iscsi_history.proofs.ElementLemmas.{In, append-in_second}
+use Rattle.iscsi_rules.proofs.ElementLemmas.{In, append-in_second}
 use Rattle.iscsi_outbox_rules.specs.rules.Boxes.{Handed, Link}
 use Rattle.iscsi_outbox_rules.specs.rules.Run.{new_link}
 use Rattle.iscsi_outbox_law.specs.Commands.{link_in}

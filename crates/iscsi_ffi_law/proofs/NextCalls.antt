@@ -3,7 +3,7 @@ use Rattle.std.proofs.Common.{◌≡◌, ℕ, ◌^◌, ◌<◌, ◌==◌, ◌&&�
 use Rattle.std.specs.List.{list_any}
 use Rattle.std.proofs.lemmas.Bool.{leb-false, not-true}
 use Rattle.std.proofs.lemmas.List.{get_or-map}
-use Rattle.iscsi_history.proofs.BoolLemmas.{and_parts}
+use Rattle.iscsi_rules.proofs.BoolLemmas.{and_parts}
 use Rattle.iscsi_arrivals.specs.Counts.{is_open_by}
 use Rattle.iscsi_arrivals.specs.Standing.{StandsFor}
 use Rattle.iscsi_outbox_rules.specs.rules.Calls as outbox

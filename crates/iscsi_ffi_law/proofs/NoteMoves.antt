@@ -4,8 +4,8 @@ use Rattle.std.specs.List.{list_any}
 use Rattle.std.proofs.lemmas.List.{append-nil, map-append}
 use Rattle.std.proofs.lemmas.List.Elements.{filter-append}
 use Rattle.std.proofs.lemmas.List.Sums.{sum_by-append}
-use Rattle.iscsi_history.proofs.CountLemmas.{count-cons}
-use Rattle.iscsi_history.proofs.ElementLemmas.{In, append-in_first, append-in_second, in-append}
+use Rattle.iscsi_rules.proofs.CountLemmas.{count-cons}
+use Rattle.iscsi_rules.proofs.ElementLemmas.{In, append-in_first, append-in_second, in-append}
 use Rattle.iscsi_outbox_rules.specs.rules.Boxes.{Handed, Link}
 use Rattle.iscsi_outbox_law.specs.Pairs.{EachOf}
 use Rattle.iscsi_ffi_rules.specs.rules.Needs.{first_noted, is_noted, noted_on, without_first}

@@ -4,9 +4,9 @@ use Rattle.std.proofs.lemmas.Bool.{eqb-true}
 use Rattle.std.proofs.lemmas.List.{append-nil, map-append}
 use Rattle.std.proofs.lemmas.List.Elements.{filter-append}
 use Rattle.std.proofs.lemmas.List.Sums.{sum_by-append}
-use Rattle.iscsi_history.proofs.CountLemmas.{count-filter, count-split}
-use Rattle.iscsi_history.proofs.ElementLemmas.{In, append-in_first, append-in_second, in-append, in-filter}
-use Rattle.iscsi_history.proofs.ListLemmas.{count_by-map}
+use Rattle.iscsi_rules.proofs.CountLemmas.{count-filter, count-split}
+use Rattle.iscsi_rules.proofs.ElementLemmas.{In, append-in_first, append-in_second, in-append, in-filter}
+use Rattle.iscsi_rules.proofs.ListLemmas.{count_by-map}
 use Rattle.iscsi_ffi_rules.specs.rules.Sides.{Noted}
 use Rattle.iscsi_ffi_law.specs.Names.{AreNoted, Note, handed_notes, note_places, noted_of, waiting_notes}
 use Rattle.iscsi_ffi_law.specs.Parts.{AreNotesOn}

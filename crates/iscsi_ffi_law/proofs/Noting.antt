@@ -2,9 +2,9 @@
 use Rattle.std.proofs.Common.{◌≡◌, ℕ, suc, ◌+◌, ◌<◌, ◌≤◌, ◌==◌, ◌&&◌, cond, Bool, true, false, List, [], ◌∷◌, ◌++◌, length, map, count_by, filter, Option, Some, None, refl, ap, sym, subst, ◌∙◌, arith, length-set, ne_eqb}
 use Rattle.std.proofs.lemmas.Bool.{eqb-true, eq-eqb, and_from}
 use Rattle.std.proofs.lemmas.List.{get_or-set_same, get_or-set_other}
-use Rattle.iscsi_history.proofs.BoolLemmas.{and_parts}
-use Rattle.iscsi_history.proofs.CountLemmas.{one, count-cons}
-use Rattle.iscsi_history.proofs.ElementLemmas.{In}
+use Rattle.iscsi_rules.proofs.BoolLemmas.{and_parts}
+use Rattle.iscsi_rules.proofs.CountLemmas.{one, count-cons}
+use Rattle.iscsi_rules.proofs.ElementLemmas.{In}
 use Rattle.iscsi_outbox_rules.specs.rules.Boxes.{Handed, Outgoing}
 use Rattle.iscsi_outbox_rules.specs.rules.Handing.{is_from_queue}
 use Rattle.iscsi_outbox_rules.specs.rules.Words.{is_open}

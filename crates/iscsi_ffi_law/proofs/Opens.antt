@@ -4,7 +4,7 @@ use Rattle.iscsi_ffi_law.proofs.Parting.{close_marks, parted_marks}
 use Rattle.iscsi_ffi_rules.specs.rules.Happening.{leaving}
 use Rattle.iscsi_outbox_law.proofs.PairLemmas.{each-append, each-filter, each-weaken}
 use Rattle.iscsi_outbox_law.specs.Pairs.{EachOf, InOrder}
-use Rattle.iscsi_history.proofs.HeldLemmas.{held-number}
+use Rattle.iscsi_rules.proofs.HeldLemmas.{held-number}
 use Rattle.std.specs.List.{list_all, range_with_len}
 use Rattle.std.proofs.lemmas.Bool.{cond_both}
 use Rattle.std.proofs.lemmas.List.{append-nil}
@@ -13,19 +13,19 @@ use Rattle.iscsi_wire.specs.declared.reply.Reply.{Reply}
 use Rattle.iscsi_wire.specs.declared.reply.Reply.TheVariants.{Task, Logout}
 use Rattle.iscsi_wire.specs.Fields.{cid, connection_of, itt, ref_cmd_sn, rtt}
 use Rattle.iscsi_wire.specs.Serial.{lift, number_of_first}
-use Rattle.iscsi_history.specs.declared.deed.Deed.{Deed}
-use Rattle.iscsi_history.specs.declared.deed.Deed.TheVariants.{Void, Empty, Abort, AbortEarlier, AbortAll, CloseConn, CloseSession}
-use Rattle.iscsi_history.specs.rules.Execution.{exp_of, reply_on}
-use Rattle.iscsi_history.specs.rules.Deeds.{facts_of, if_found, deed_marks, marks_after, function_marks}
-use Rattle.iscsi_history.specs.rules.Logout.{close_conn, end_session, is_last_open, parting, taken_out, all_held, live_of_units}
-use Rattle.iscsi_history.specs.rules.Management.{abort_all, answer, held_command, is_before, live_with_tag}
-use Rattle.iscsi_history.specs.rules.Settings.{Setting, is_known}
-use Rattle.iscsi_history.specs.rules.Trace.{Arrival, ClosesConn, ClosesSession, Command, Empties, Enters, Leaves, Mark, Sends, Trace, Voids, held, held_among, is_closed, is_received, live_in}
-use Rattle.iscsi_history.proofs.AbortMarks.{none_viewed}
-use Rattle.iscsi_history.proofs.Forms.{Deeds, if_some, marks_done}
-use Rattle.iscsi_history.proofs.NumberingLemmas.{passed, unseen}
-use Rattle.iscsi_history.proofs.BoolLemmas.{and_parts}
-use Rattle.iscsi_history.proofs.DeedTable.{Befits, befits_function, befits_deed}
+use Rattle.iscsi_rules.specs.declared.deed.Deed.{Deed}
+use Rattle.iscsi_rules.specs.declared.deed.Deed.TheVariants.{Void, Empty, Abort, AbortEarlier, AbortAll, CloseConn, CloseSession}
+use Rattle.iscsi_rules.specs.rules.Execution.{exp_of, reply_on}
+use Rattle.iscsi_rules.specs.rules.Deeds.{facts_of, if_found, deed_marks, marks_after, function_marks}
+use Rattle.iscsi_rules.specs.rules.Logout.{close_conn, end_session, is_last_open, parting, taken_out, all_held, live_of_units}
+use Rattle.iscsi_rules.specs.rules.Management.{abort_all, answer, held_command, is_before, live_with_tag}
+use Rattle.iscsi_rules.specs.rules.Settings.{Setting, is_known}
+use Rattle.iscsi_rules.specs.rules.Trace.{Arrival, ClosesConn, ClosesSession, Command, Empties, Enters, Leaves, Mark, Sends, Trace, Voids, held, held_among, is_closed, is_received, live_in}
+use Rattle.iscsi_rules.proofs.AbortMarks.{none_viewed}
+use Rattle.iscsi_rules.proofs.Forms.{Deeds, if_some, marks_done}
+use Rattle.iscsi_rules.proofs.NumberingLemmas.{passed, unseen}
+use Rattle.iscsi_rules.proofs.BoolLemmas.{and_parts}
+use Rattle.iscsi_rules.proofs.DeedTable.{Befits, befits_function, befits_deed}
 use Rattle.iscsi_ffi_law.specs.Arrived.{emptying}
 
 -- nothing is closed by it, and no held request is taken out

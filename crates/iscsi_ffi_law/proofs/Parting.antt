@@ -6,19 +6,19 @@ use Rattle.iscsi_ffi_law.proofs.ClosingTrace.{closes_admitted, closes_each, clos
 use Rattle.iscsi_outbox_rules.specs.rules.Items.{conns_closed, executing, reply_sent as sent_by, task_entered, ticket_enabled, ticket_left, tickets_left}
 use Rattle.iscsi_outbox_rules.specs.rules.Boxes.{Link}
 use Rattle.iscsi_wire.specs.declared.request.Request.{Request}
-use Rattle.iscsi_history.proofs.BoolLemmas.{or_false}
+use Rattle.iscsi_rules.proofs.BoolLemmas.{or_false}
 use Rattle.std.specs.List.{cons_option, flat_map, list_any}
 use Rattle.std.proofs.lemmas.List.{append-nil}
 use Rattle.iscsi_wire.specs.declared.reply.Reply.{Reply}
 use Rattle.iscsi_wire.specs.Fields.{connection_of}
 use Rattle.iscsi_wire.specs.Serial.{wire}
-use Rattle.iscsi_history.specs.declared.effect.Effect.{Effect}
-use Rattle.iscsi_history.specs.declared.effect.Effect.TheVariants.{CloseConn, CloseSession, Empty, Send, Deliver, Immediate, Leave}
-use Rattle.iscsi_history.specs.promises.Replies.{executed_in, reply_sent}
-use Rattle.iscsi_history.specs.rules.Run.{effects_of_item, effects_of_mark, newly_enabled, stat_sn_of}
-use Rattle.iscsi_history.specs.rules.Settings.{Setting}
-use Rattle.iscsi_history.specs.rules.Trace.{Arrival, ClosesConn, ClosesSession, Command, Empties, Leaves, Mark, Sends, Trace, admits_at, delivers_number, empties_number, enters, first_of, held, is_among, is_delivered, is_emptied, leaves_ticket, number_received, shown, waiting, waiting_through}
-use Rattle.iscsi_history.proofs.Forms.{AfterWaiting, AtArrival, AtTurn, Start, start_mark}
+use Rattle.iscsi_rules.specs.declared.effect.Effect.{Effect}
+use Rattle.iscsi_rules.specs.declared.effect.Effect.TheVariants.{CloseConn, CloseSession, Empty, Send, Deliver, Immediate, Leave}
+use Rattle.iscsi_rules.specs.promises.Replies.{executed_in, reply_sent}
+use Rattle.iscsi_rules.specs.rules.Run.{effects_of_item, effects_of_mark, newly_enabled, stat_sn_of}
+use Rattle.iscsi_rules.specs.rules.Settings.{Setting}
+use Rattle.iscsi_rules.specs.rules.Trace.{Arrival, ClosesConn, ClosesSession, Command, Empties, Leaves, Mark, Sends, Trace, admits_at, delivers_number, empties_number, enters, first_of, held, is_among, is_delivered, is_emptied, leaves_ticket, number_received, shown, waiting, waiting_through}
+use Rattle.iscsi_rules.proofs.Forms.{AfterWaiting, AtArrival, AtTurn, Start, start_mark}
 use Rattle.iscsi_ffi_rules.specs.rules.Happening.{answers_in, leaving}
 use Rattle.iscsi_ffi_rules.specs.rules.Needs.{admitted_by}
 use Rattle.iscsi_ffi_law.proofs.DoneShape.{enables, enabled_tickets, gives_none, shows_none, tickets_of}

@@ -5,13 +5,13 @@ use Rattle.iscsi_wire.specs.declared.reply.Reply.{Reply}
 use Rattle.iscsi_wire.specs.declared.request.Request.{Request}
 use Rattle.iscsi_wire.specs.Fields.{connection_of, is_immediate, itt}
 use Rattle.iscsi_wire.specs.Serial.{wire}
-use Rattle.iscsi_history.specs.declared.effect.Effect.{Effect}
-use Rattle.iscsi_history.specs.declared.effect.Effect.TheVariants.{Deliver, Enter, Immediate, Send, Void}
-use Rattle.iscsi_history.specs.rules.Settings.{Setting}
-use Rattle.iscsi_history.specs.rules.Run.{effects_of_item, effects_of_mark, newly_enabled, stat_sn_of}
-use Rattle.iscsi_history.specs.rules.Trace.{Arrival, Command, Enters, Mark, Sends, Trace, Voids, enters, leaves_ticket, waiting}
-use Rattle.iscsi_history.proofs.Forms.{AfterWaiting, AtArrival, AtTurn, Start, if_some, start_mark}
-use Rattle.iscsi_history.proofs.NewlyLemmas.{Untouched}
+use Rattle.iscsi_rules.specs.declared.effect.Effect.{Effect}
+use Rattle.iscsi_rules.specs.declared.effect.Effect.TheVariants.{Deliver, Enter, Immediate, Send, Void}
+use Rattle.iscsi_rules.specs.rules.Settings.{Setting}
+use Rattle.iscsi_rules.specs.rules.Run.{effects_of_item, effects_of_mark, newly_enabled, stat_sn_of}
+use Rattle.iscsi_rules.specs.rules.Trace.{Arrival, Command, Enters, Mark, Sends, Trace, Voids, enters, leaves_ticket, waiting}
+use Rattle.iscsi_rules.proofs.Forms.{AfterWaiting, AtArrival, AtTurn, Start, if_some, start_mark}
+use Rattle.iscsi_rules.proofs.NewlyLemmas.{Untouched}
 use Rattle.iscsi_outbox_rules.specs.rules.Boxes.{Dormant, Task}
 use Rattle.iscsi_ffi_rules.specs.rules.Happening.{answers_in, leaving}
 use Rattle.iscsi_ffi_law.proofs.DoneShape.{enables}

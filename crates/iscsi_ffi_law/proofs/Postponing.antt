@@ -1,6 +1,6 @@
 -- A function waits: it keeps its place behind those that wait on its connection.
 use Rattle.std.proofs.Common.{◌≡◌, ℕ, zero, suc, ◌+◌, ◌*◌, ◌<◌, ◌≤◌, ◌==◌, ◌||◌, ⊎_elim, cond, Bool, true, false, List, [], ◌∷◌, ◌++◌, length, count_by, filter, get_or, Some, None, nat_lt, refl, ap, sym, subst, ◌∙◌, arith, ne_eqb, eq-eqb, lt-ltb, length-set}
-use Rattle.iscsi_history.proofs.ListLemmas.{count_by-push}
+use Rattle.iscsi_rules.proofs.ListLemmas.{count_by-push}
 use Rattle.std.specs.List.{list_any, position}
 use Rattle.std.proofs.lemmas.Bool.{cases_eq, eqb-true}
 use Rattle.std.proofs.lemmas.List.{append-nil, get_or-set_other, get_or-set_same}
@@ -8,13 +8,13 @@ use Rattle.std.proofs.lemmas.List.Elements.{filter-append}
 use Rattle.std.proofs.lemmas.List.Folds.{list_any-append}
 use Rattle.std.proofs.lemmas.List.Sums.{sum_by-append}
 use Rattle.iscsi_wire.specs.Fields.{cmd_sn, connection_of}
-use Rattle.iscsi_history.specs.declared.effect.Effect.TheVariants.{Wait}
-use Rattle.iscsi_history.specs.rules.Management.{MOST_WAITING, waiting_on}
-use Rattle.iscsi_history.specs.rules.Settings.{are_distinct, is_known}
-use Rattle.iscsi_history.specs.rules.Trace.{Arrival, Mark, Waits, shown, waiting}
-use Rattle.iscsi_history.proofs.CountLemmas.{one, count-cons}
-use Rattle.iscsi_history.proofs.ElementLemmas.{In}
-use Rattle.iscsi_history.proofs.NewlyLemmas.{Untouched, newly-untouched}
+use Rattle.iscsi_rules.specs.declared.effect.Effect.TheVariants.{Wait}
+use Rattle.iscsi_rules.specs.rules.Management.{MOST_WAITING, waiting_on}
+use Rattle.iscsi_rules.specs.rules.Settings.{are_distinct, is_known}
+use Rattle.iscsi_rules.specs.rules.Trace.{Arrival, Mark, Waits, shown, waiting}
+use Rattle.iscsi_rules.proofs.CountLemmas.{one, count-cons}
+use Rattle.iscsi_rules.proofs.ElementLemmas.{In}
+use Rattle.iscsi_rules.proofs.NewlyLemmas.{Untouched, newly-untouched}
 use Rattle.iscsi_outbox_rules.specs.rules.Boxes.{Box}
 use Rattle.iscsi_outbox_rules.specs.rules.Items.{after_item}
 use Rattle.iscsi_outbox_rules.specs.rules.Words.{is_running}

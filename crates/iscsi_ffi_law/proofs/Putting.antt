@@ -4,10 +4,10 @@ use Rattle.std.specs.List.{list_any, position}
 use Rattle.std.proofs.lemmas.Bool.{false≢true, eqb-true, eq-eqb, leb-false, not-true, cases_eq}
 use Rattle.std.proofs.lemmas.List.{append-nil, get_or-set_same, get_or-set_other}
 use Rattle.std.proofs.lemmas.List.Sums.{sum_by-append}
-use Rattle.iscsi_history.specs.rules.Trace.{Command as RulesCommand, entered as entered_commands, first_of, has, leaves_ticket}
-use Rattle.iscsi_history.proofs.BoolLemmas.{and_parts}
-use Rattle.iscsi_history.proofs.CountLemmas.{one, count-cons, count-weaker}
-use Rattle.iscsi_history.proofs.ElementLemmas.{In, first-in, in-filter}
+use Rattle.iscsi_rules.specs.rules.Trace.{Command as RulesCommand, entered as entered_commands, first_of, has, leaves_ticket}
+use Rattle.iscsi_rules.proofs.BoolLemmas.{and_parts}
+use Rattle.iscsi_rules.proofs.CountLemmas.{one, count-cons, count-weaker}
+use Rattle.iscsi_rules.proofs.ElementLemmas.{In, first-in, in-filter}
 use Rattle.iscsi_outbox_rules.specs.declared.own_pdu.OwnPdu.{OwnPdu}
 use Rattle.iscsi_outbox_rules.specs.declared.own_pdu.OwnPdu.TheVariants.{OfCommand, OfConnection}
 use Rattle.iscsi_outbox_rules.specs.declared.own_pdu.PutRefusal.{PutRefusal}

@@ -3,8 +3,8 @@ use Rattle.std.proofs.Common.{◌≡◌, ℕ, ◌+◌, ◌<◌, ◌==◌, ◌&&�
 use Rattle.std.specs.List.{list_any}
 use Rattle.std.proofs.lemmas.Bool.{cond_both}
 use Rattle.std.proofs.lemmas.List.{length-map}
-use Rattle.iscsi_history.specs.rules.Trace.{Trace}
-use Rattle.iscsi_history.proofs.CountLemmas.{count-cons}
+use Rattle.iscsi_rules.specs.rules.Trace.{Trace}
+use Rattle.iscsi_rules.proofs.CountLemmas.{count-cons}
 use Rattle.iscsi_outbox_rules.specs.rules.Calls as outbox
 use Rattle.iscsi_outbox_rules.specs.rules.Calls.{Opening}
 use Rattle.iscsi_outbox_rules.specs.rules.Boxes.{Answer, Box, Link, Outgoing}

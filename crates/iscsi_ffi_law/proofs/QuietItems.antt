@@ -2,8 +2,8 @@
 use Rattle.std.proofs.Common.{◌≡◌, ℕ, ◌||◌, cond, Bool, false, List, [], ◌∷◌, ◌++◌, map, filter, filter_map, find, Option, Some, None, is_some, refl, ap, ◌∙◌}
 use Rattle.std.specs.List.{list_any}
 use Rattle.std.proofs.lemmas.List.{append-nil}
-use Rattle.iscsi_history.specs.promises.Replies.{executed_in}
-use Rattle.iscsi_history.specs.rules.Trace.{Arrival, Mark, Trace, admits_at, delivers_number, empties_number, first_of, held, is_delivered, is_emptied, shown}
+use Rattle.iscsi_rules.specs.promises.Replies.{executed_in}
+use Rattle.iscsi_rules.specs.rules.Trace.{Arrival, Mark, Trace, admits_at, delivers_number, empties_number, first_of, held, is_delivered, is_emptied, shown}
 use Rattle.iscsi_ffi_rules.specs.declared.action.Action.{Action}
 use Rattle.iscsi_ffi_rules.specs.rules.Happening.{is_started, leaving, reason_of, stop, stops_in}
 use Rattle.iscsi_ffi_rules.specs.rules.Needs.{admitted_by, is_held, is_of_event}

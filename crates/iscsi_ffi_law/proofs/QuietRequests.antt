@@ -3,9 +3,9 @@ use Rattle.std.proofs.Common.{◌≡◌, ℕ, ◌+◌, ◌==◌, ◌&&◌, ◌||
 use Rattle.std.specs.List.{list_any}
 use Rattle.std.proofs.lemmas.Bool.{or_right}
 use Rattle.std.proofs.lemmas.List.{append-nil}
-use Rattle.iscsi_history.specs.rules.Trace.{Command as RulesCommand, Mark, Trace, are_apart, entered, has, leaves_ticket, live, was_free, is_free_at}
-use Rattle.iscsi_history.proofs.ListLemmas.{any_same}
-use Rattle.iscsi_history.proofs.NewlyLemmas.{Untouched}
+use Rattle.iscsi_rules.specs.rules.Trace.{Command as RulesCommand, Mark, Trace, are_apart, entered, has, leaves_ticket, live, was_free, is_free_at}
+use Rattle.iscsi_rules.proofs.ListLemmas.{any_same}
+use Rattle.iscsi_rules.proofs.NewlyLemmas.{Untouched}
 use Rattle.iscsi_outbox_rules.specs.promises.Scope.{nth}
 use Rattle.iscsi_outbox_rules.specs.rules.Boxes.{Answer, Link, Outgoing}
 use Rattle.iscsi_outbox_law.specs.Commands.{link_in}

@@ -2,7 +2,7 @@
 use Rattle.std.proofs.Common.{◌≡◌, ℕ, ◌+◌, ◌<◌, ◌==◌, ◌&&◌, not, cond, nat_le, Bool, true, false, List, [], ◌∷◌, length, Option, Some, None, refl, ap, sym, subst, ◌∙◌, arith, zero, suc, ◌||◌, ◌++◌}
 use Rattle.std.specs.List.{list_any}
 use Rattle.std.proofs.lemmas.Bool.{false≢true, eq-eqb, or_right}
-use Rattle.iscsi_history.specs.rules.Settings.{is_known}
+use Rattle.iscsi_rules.specs.rules.Settings.{is_known}
 use Rattle.iscsi_arrivals.specs.Counts.{is_open_by}
 use Rattle.iscsi_arrivals.specs.Standing.{StandsFor}
 use Rattle.iscsi_outbox_rules.specs.rules.Boxes.{Link}
@@ -19,7 +19,7 @@ use Rattle.iscsi_ffi_rules.specs.declared.refusal.Refusal.TheVariants.{UnknownCo
 use Rattle.iscsi_ffi_rules.specs.rules.Calls.{Interface, Arrives, Loses}
 use Rattle.iscsi_ffi_rules.specs.rules.Run as rules
 use Rattle.iscsi_outbox_rules.specs.rules.Calls as outbox
-use Rattle.iscsi_history.specs.rules.Trace.{is_closed}
+use Rattle.iscsi_rules.specs.rules.Trace.{is_closed}
 use Rattle.iscsi_requests.specs.Conns.{of_conn}
 use Rattle.iscsi_outbox_steps.specs.Steps.{lost as lost_box}
 use Rattle.iscsi_ffi_rules.specs.rules.Run.{cids, is_joined, is_lost, kept_back, parting}
@@ -28,7 +28,7 @@ use Rattle.iscsi_ffi_steps.specs.Steps.{Answered, Refused, Side as StepsSide, ar
 use Rattle.iscsi_ffi_steps.specs.Steps.{known as known_as}
 use Rattle.iscsi_ffi_steps.specs.Walk.{in_state, drop_waiting}
 use Rattle.iscsi_ffi_rules.specs.rules.Happening.{happens, other, quiet}
-use Rattle.iscsi_history.specs.declared.event.Event.TheVariants.{Arrive}
+use Rattle.iscsi_rules.specs.declared.event.Event.TheVariants.{Arrive}
 use Rattle.iscsi_ffi_law.specs.Alike.{GoesAlike}
 use Rattle.iscsi_ffi_law.specs.Stands.{Stands}
 use Rattle.iscsi_ffi_law.proofs.Ends.{EndsAlike, GoesTo, IsLeft, moved_ends}

@@ -1,8 +1,8 @@
 -- A use of a request ends: with the last one the request goes, and its command.
 use Rattle.std.proofs.Common.{◌≡◌, ℕ, ◌+◌, ◌-◌, ◌<◌, ◌≤◌, ◌==◌, ◌&&◌, ⊎_elim, not, cond, nat_lt, Bool, true, false, List, [], ◌∷◌, count_by, filter, Option, Some, None, is_some, refl, ap, sym, subst, ◌∙◌, arith, lt-ltb, le-ltb, ne_eqb}
 use Rattle.std.proofs.lemmas.Bool.{eqb-true, eqb-false, eq-eqb, ltb-false, cases_lt}
-use Rattle.iscsi_history.proofs.CountLemmas.{one, count-cons}
-use Rattle.iscsi_history.proofs.ElementLemmas.{In}
+use Rattle.iscsi_rules.proofs.CountLemmas.{one, count-cons}
+use Rattle.iscsi_rules.proofs.ElementLemmas.{In}
 use Rattle.iscsi_requests.specs.Cookies.{Cookies, Request, cookie_at, has_place, removed, uses_at, with_uses}
 use Rattle.iscsi_ffi_commands.specs.declared.command.Command.{Command}
 use Rattle.iscsi_ffi_rules.specs.declared.action.Action.{Action}

@@ -2,8 +2,8 @@
 use Rattle.std.proofs.Common.{◌≡◌, ℕ, ◌<◌, ◌≤◌, ◌==◌, ◌&&◌, ◌||◌, ◌⊎◌, inl, inr, ⊎_elim, Bool, true, false, List, [], ◌∷◌, length, count_by, Option, Some, None, is_some, refl, ap, sym, subst, ◌∙◌, arith}
 use Rattle.std.specs.List.{list_any}
 use Rattle.std.proofs.lemmas.Bool.{false≢true, eqb-true, eq-eqb, and_parts, and_from, or_cases, or_left, or_right, cases_lt}
-use Rattle.iscsi_history.specs.rules.Trace.{Command as RulesCommand, Trace, are_apart, entered}
-use Rattle.iscsi_history.proofs.ElementLemmas.{In}
+use Rattle.iscsi_rules.specs.rules.Trace.{Command as RulesCommand, Trace, are_apart, entered}
+use Rattle.iscsi_rules.proofs.ElementLemmas.{In}
 use Rattle.iscsi_outbox_rules.specs.promises.Scope.{nth}
 use Rattle.iscsi_outbox_rules.specs.rules.Boxes.{Answer, Link, Outgoing}
 use Rattle.iscsi_outbox_rules.specs.rules.Run.{new_link}

@@ -3,8 +3,8 @@ use Rattle.std.proofs.Common.{◌≡◌, ℕ, ◌+◌, ◌<◌, ◌≤◌, ◌==
 use Rattle.std.proofs.lemmas.Bool.{cases_eq, cases_lt, eqb-true}
 use Rattle.std.proofs.lemmas.List.{get_or-set_same, get_or-set_other}
 use Rattle.std.proofs.lemmas.List.Sums.{sum_by-append}
-use Rattle.iscsi_history.specs.rules.Trace.{entered}
-use Rattle.iscsi_history.proofs.CountLemmas.{one, count-cons}
+use Rattle.iscsi_rules.specs.rules.Trace.{entered}
+use Rattle.iscsi_rules.proofs.CountLemmas.{one, count-cons}
 use Rattle.iscsi_outbox_rules.specs.promises.Scope.{nth}
 use Rattle.iscsi_outbox_rules.specs.rules.Boxes.{Box, Handed, Link, Outgoing}
 use Rattle.iscsi_outbox_rules.specs.rules.Run.{new_link}

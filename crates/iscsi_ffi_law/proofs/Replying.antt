@@ -2,10 +2,10 @@
 use Rattle.std.proofs.Common.{◌≡◌, ℕ, zero, suc, ◌+◌, ◌<◌, ◌≤◌, ◌==◌, ◌&&◌, ◌||◌, ⊎_elim, not, Bool, true, false, List, [], ◌∷◌, length, map, count_by, filter, Option, Some, None, refl, ap, sym, subst, ◌∙◌, arith, ne_eqb}
 use Rattle.std.proofs.lemmas.Bool.{false≢true, eqb-true, eq-eqb}
 use Rattle.std.proofs.lemmas.List.{length-map}
-use Rattle.iscsi_history.specs.rules.Trace.{Command as RulesCommand, entered}
-use Rattle.iscsi_history.proofs.BoolLemmas.{and_parts}
-use Rattle.iscsi_history.proofs.CountLemmas.{one, count-cons, count-filter, count-split}
-use Rattle.iscsi_history.proofs.ElementLemmas.{In, append-in_first, append-in_second, in-append}
+use Rattle.iscsi_rules.specs.rules.Trace.{Command as RulesCommand, entered}
+use Rattle.iscsi_rules.proofs.BoolLemmas.{and_parts}
+use Rattle.iscsi_rules.proofs.CountLemmas.{one, count-cons, count-filter, count-split}
+use Rattle.iscsi_rules.proofs.ElementLemmas.{In, append-in_first, append-in_second, in-append}
 use Rattle.iscsi_outbox_rules.specs.rules.Boxes.{Answer, Handed, Outgoing}
 use Rattle.iscsi_outbox_rules.specs.rules.Handing.{is_from_queue}
 use Rattle.iscsi_outbox_rules.specs.rules.Words.{is_open}

@@ -1,8 +1,8 @@
 -- Another session's reset, where nothing is withheld: it marks, and tells to stop.
 use Rattle.std.proofs.Common.{◌≡◌, ℕ, zero, suc, ◌+◌, ◌*◌, ◌≤◌, ◌==◌, ◌&&◌, ◌||◌, cond, Bool, true, false, List, [], ◌∷◌, ◌++◌, length, map, filter, Option, Some, None, refl, ap, sym, subst, ◌∙◌, arith, length-append}
-use Rattle.iscsi_history.specs.declared.event.Event.TheVariants.{Done}
-use Rattle.iscsi_history.specs.rules.Trace.{Command as RulesCommand, entered, live}
-use Rattle.iscsi_history.proofs.ElementLemmas.{in-filter}
+use Rattle.iscsi_rules.specs.declared.event.Event.TheVariants.{Done}
+use Rattle.iscsi_rules.specs.rules.Trace.{Command as RulesCommand, entered, live}
+use Rattle.iscsi_rules.proofs.ElementLemmas.{in-filter}
 use Rattle.iscsi_outbox_law.specs.Commands.{link_in}
 use Rattle.iscsi_outbox_law.specs.Pairs.{EachOf}
 use Rattle.iscsi_outbox_law.proofs.PairLemmas.{each-weaken, pairs-weaken}

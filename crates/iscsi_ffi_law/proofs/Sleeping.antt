@@ -2,8 +2,8 @@
 use Rattle.std.proofs.Common.{◌≡◌, ℕ, zero, suc, ◌<◌, ◌==◌, ◌&&◌, ◌||◌, not, Bool, true, false, List, [], ◌∷◌, length, map, filter, get_or, set, Option, None, refl, ap, sym, subst, ◌∙◌, arith}
 use Rattle.std.specs.List.{list_any}
 use Rattle.std.proofs.lemmas.Bool.{false≢true, eqb-true, eq-eqb, or_parts}
-use Rattle.iscsi_history.specs.rules.Trace.{entered}
-use Rattle.iscsi_history.proofs.ListLemmas.{filtered_among}
+use Rattle.iscsi_rules.specs.rules.Trace.{entered}
+use Rattle.iscsi_rules.proofs.ListLemmas.{filtered_among}
 use Rattle.iscsi_outbox_rules.specs.rules.Words.{contains}
 use Rattle.iscsi_outbox_law.specs.Commands.{link_in}
 use Rattle.iscsi_outbox_law.proofs.PairLemmas.{each-weaken, pairs-weaken}
@@ -20,7 +20,7 @@ use Rattle.iscsi_ffi_law.specs.Names.{Name, Note}
 use Rattle.iscsi_ffi_law.specs.Parts.{IsAbout, IsCommand, IsConn, IsNote, IsRequest, is_named}
 use Rattle.iscsi_ffi_law.specs.Stands.{AreRequests, Stands}
 use Rattle.iscsi_ffi_law.proofs.Ends.{EndsAlike, IsLeft, ends_alike}
-use Rattle.iscsi_history.proofs.BoolLemmas.{or_second}
+use Rattle.iscsi_rules.proofs.BoolLemmas.{or_second}
 
 -- ---- who was told
 

@@ -4,10 +4,10 @@ use Rattle.std.proofs.lemmas.Bool.{eqb-true, eq-eqb, false≢true}
 use Rattle.std.proofs.lemmas.List.{append-nil, get_or-set_other}
 use Rattle.std.proofs.lemmas.Nat.{mod_below}
 use Rattle.iscsi_wire.specs.Fields.{cmd_sn, connection_of}
-use Rattle.iscsi_history.specs.rules.Trace.{Admits, Arrival, ClosesConn, ClosesSession, Delivers, Empties, Enters, Executes, Ignores, Leaves, Mark, Sends, Trace, Voids, Waits, admits_at, held, shown, waiting}
-use Rattle.iscsi_history.proofs.CountLemmas.{one, count-cons}
-use Rattle.iscsi_history.proofs.ElementLemmas.{In, append-in_first, append-in_second, first-in, in-append, in-cons}
-use Rattle.iscsi_history.proofs.HeldLemmas.{admitted_of_held, held-number}
+use Rattle.iscsi_rules.specs.rules.Trace.{Admits, Arrival, ClosesConn, ClosesSession, Delivers, Empties, Enters, Executes, Ignores, Leaves, Mark, Sends, Trace, Voids, Waits, admits_at, held, shown, waiting}
+use Rattle.iscsi_rules.proofs.CountLemmas.{one, count-cons}
+use Rattle.iscsi_rules.proofs.ElementLemmas.{In, append-in_first, append-in_second, first-in, in-append, in-cons}
+use Rattle.iscsi_rules.proofs.HeldLemmas.{admitted_of_held, held-number}
 use Rattle.iscsi_outbox_law.specs.Pairs.{EachOf, PairsOf}
 use Rattle.iscsi_outbox_law.proofs.PairLemmas.{each-append, each-filter, pairs-weaken}
 use Rattle.iscsi_requests.specs.Conns.{of_conn}

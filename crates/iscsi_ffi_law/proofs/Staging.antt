@@ -5,10 +5,10 @@ use Rattle.std.proofs.lemmas.Bool.{cond_both, eq-eqb, eqb-true, false≢true, or
 use Rattle.std.proofs.lemmas.List.Folds.{list_any-append}
 use Rattle.iscsi_tasks.specs.declared.task.Attr.{Attr}
 use Rattle.iscsi_tasks.specs.declared.task.Attr.TheVariants.{Simple, Ordered, Head}
-use Rattle.iscsi_history.specs.rules.Trace.{Command as RulesCommand, are_apart, entered, has, leaves_ticket, live, was_free}
-use Rattle.iscsi_history.proofs.BoolLemmas.{or_false}
-use Rattle.iscsi_history.proofs.ElementLemmas.{In, filter-in, in-filter}
-use Rattle.iscsi_history.proofs.ListLemmas.{any_filter}
+use Rattle.iscsi_rules.specs.rules.Trace.{Command as RulesCommand, are_apart, entered, has, leaves_ticket, live, was_free}
+use Rattle.iscsi_rules.proofs.BoolLemmas.{or_false}
+use Rattle.iscsi_rules.proofs.ElementLemmas.{In, filter-in, in-filter}
+use Rattle.iscsi_rules.proofs.ListLemmas.{any_filter}
 use Rattle.iscsi_outbox_rules.specs.rules.Words.{contains}
 use Rattle.iscsi_outbox_law.specs.Pairs.{EachOf}
 use Rattle.iscsi_outbox_law.proofs.PairLemmas.{pairs-any}

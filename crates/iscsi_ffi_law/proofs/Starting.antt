@@ -2,8 +2,8 @@
 use Rattle.std.proofs.Common.{◌≡◌, ℕ, suc, ◌+◌, ◌<◌, ◌≤◌, ◌&&◌, inl, inr, not, cond, nat_lt, Bool, true, false, List, [], ◌∷◌, ◌++◌, length, map, filter, Option, Some, None, refl, ap, sym, subst, ◌∙◌, arith, lt-ltb, length-append, append_assoc}
 use Rattle.std.proofs.lemmas.Bool.{or_parts}
 use Rattle.std.proofs.lemmas.List.{append-nil}
-use Rattle.iscsi_history.specs.rules.Trace.{Command as RulesCommand, are_apart, entered, has, leaves_ticket, was_free}
-use Rattle.iscsi_history.proofs.ElementLemmas.{In}
+use Rattle.iscsi_rules.specs.rules.Trace.{Command as RulesCommand, are_apart, entered, has, leaves_ticket, was_free}
+use Rattle.iscsi_rules.proofs.ElementLemmas.{In}
 use Rattle.iscsi_outbox_rules.specs.rules.Words.{contains}
 use Rattle.iscsi_outbox_law.specs.Pairs.{EachOf}
 use Rattle.iscsi_outbox_steps.specs.State.{State as OutboxState}

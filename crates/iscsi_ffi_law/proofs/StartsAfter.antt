@@ -2,10 +2,10 @@
 use Rattle.std.proofs.Common.{◌≡◌, ℕ, ◌≤◌, ◌==◌, ◌&&◌, ◌||◌, inl, inr, not, cond, Bool, true, false, List, [], ◌∷◌, length, map, count_by, filter, find, Option, Some, None, is_some, nat_lt, refl, ap, sym, subst, ◌∙◌, arith}
 use Rattle.std.specs.List.{list_any}
 use Rattle.std.proofs.lemmas.Bool.{and_from, cond_both, eqb-true, eq-eqb, false≢true}
-use Rattle.iscsi_history.proofs.BoolLemmas.{and_parts}
-use Rattle.iscsi_history.proofs.CountLemmas.{one, count-cons}
-use Rattle.iscsi_history.proofs.ElementLemmas.{In, filter-in, in-filter}
-use Rattle.iscsi_history.proofs.NewlyLemmas.{filter-twice}
+use Rattle.iscsi_rules.proofs.BoolLemmas.{and_parts}
+use Rattle.iscsi_rules.proofs.CountLemmas.{one, count-cons}
+use Rattle.iscsi_rules.proofs.ElementLemmas.{In, filter-in, in-filter}
+use Rattle.iscsi_rules.proofs.NewlyLemmas.{filter-twice}
 use Rattle.iscsi_requests.specs.Cookies as cookies
 use Rattle.iscsi_requests.specs.Cookies.{Cookies, cookie_at, has_place, last_cookie, used_less, uses_at}
 use Rattle.iscsi_ffi_commands.specs.declared.command.Command.{Command}

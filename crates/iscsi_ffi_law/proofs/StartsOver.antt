@@ -1,8 +1,8 @@
 -- What an event enabled and took out again doesn't start.
 use Rattle.std.proofs.Common.{◌≡◌, ℕ, ◌==◌, inl, inr, cond, Bool, true, false, List, [], ◌∷◌, map, filter, find, Option, Some, None, nat_lt, length, refl, ap, sym, subst, ◌∙◌}
 use Rattle.std.proofs.lemmas.Bool.{cond_both, eqb-true, false≢true}
-use Rattle.iscsi_history.specs.rules.Trace.{Command as RulesCommand}
-use Rattle.iscsi_history.proofs.ElementLemmas.{In}
+use Rattle.iscsi_rules.specs.rules.Trace.{Command as RulesCommand}
+use Rattle.iscsi_rules.proofs.ElementLemmas.{In}
 use Rattle.iscsi_requests.specs.Cookies.{cookie_at}
 use Rattle.iscsi_ffi_commands.specs.declared.command.Command.{Command}
 use Rattle.iscsi_ffi_commands.specs.declared.command.Stage.TheVariants.{Started}

@@ -2,10 +2,10 @@
 use Rattle.std.proofs.Common.{◌≡◌, ℕ, ◌+◌, ◌<◌, ◌≤◌, ◌==◌, ◌&&◌, ◌||◌, inl, inr, not, cond, Bool, true, false, List, [], ◌∷◌, length, map, count_by, filter, Option, Some, None, refl, ap, sym, subst, ◌∙◌, arith, ne_eqb}
 use Rattle.std.specs.List.{list_any}
 use Rattle.std.proofs.lemmas.Bool.{false≢true, eqb-true, eq-eqb, and_from}
-use Rattle.iscsi_history.specs.rules.Trace.{Command as RulesCommand, entered, first_of, has, leaves_ticket, live, was_free}
-use Rattle.iscsi_history.proofs.BoolLemmas.{and_parts, and_first, and_second}
-use Rattle.iscsi_history.proofs.CountLemmas.{one, count-cons, count-weaker}
-use Rattle.iscsi_history.proofs.ElementLemmas.{In, filter-in, in-filter}
+use Rattle.iscsi_rules.specs.rules.Trace.{Command as RulesCommand, entered, first_of, has, leaves_ticket, live, was_free}
+use Rattle.iscsi_rules.proofs.BoolLemmas.{and_parts, and_first, and_second}
+use Rattle.iscsi_rules.proofs.CountLemmas.{one, count-cons, count-weaker}
+use Rattle.iscsi_rules.proofs.ElementLemmas.{In, filter-in, in-filter}
 use Rattle.iscsi_outbox_rules.specs.rules.Calls as outbox
 use Rattle.iscsi_outbox_rules.specs.rules.Boxes.{Box, Completed, Dormant, Fresh, Gone, Phase, Running, Started, Task}
 use Rattle.iscsi_outbox_rules.specs.rules.Due.{settle}
@@ -26,7 +26,7 @@ use Rattle.iscsi_ffi_commands.specs.Commands.{find_ticket, has_ticket, is_going,
 use Rattle.iscsi_ffi_rules.specs.rules.Calls.{Interface, Completes, Stops}
 use Rattle.iscsi_ffi_rules.specs.rules.Clearing.{TASK_ABORTED}
 use Rattle.iscsi_ffi_rules.specs.rules.Happening.{happens, other, quiet}
-use Rattle.iscsi_history.specs.declared.event.Event.TheVariants.{Done}
+use Rattle.iscsi_rules.specs.declared.event.Event.TheVariants.{Done}
 use Rattle.iscsi_ffi_rules.specs.rules.Run as rules
 use Rattle.iscsi_ffi_rules.specs.rules.Sides.{Side}
 use Rattle.iscsi_ffi_steps.specs.Steps.{Answered, Side as StepsSide, Stale, complete, complete_as, done, going, happens as steps_happen, says, stop, stop_as, stop_running}

@@ -2,9 +2,9 @@
 use Rattle.std.proofs.Common.{◌≡◌, ℕ, zero, suc, ◌<◌, ◌≤◌, ◌==◌, ◌&&◌, not, cond, Bool, true, false, List, [], ◌∷◌, ◌++◌, length, map, set, count_by, inl, inr, ◌⊎◌, Option, Some, refl, ap, sym, ◌∙◌, ⊎_elim, arith, eq-eqb, length-append, length-set, ◌+◌}
 use Rattle.std.proofs.lemmas.List.{length-map, set-get_or}
 use Rattle.std.proofs.lemmas.Bool.{cases_lt, eqb-true, false≢true}
-use Rattle.iscsi_history.specs.rules.Settings.{are_distinct}
-use Rattle.iscsi_history.proofs.BoolLemmas.{and_parts}
-use Rattle.iscsi_history.proofs.ElementLemmas.{In}
+use Rattle.iscsi_rules.specs.rules.Settings.{are_distinct}
+use Rattle.iscsi_rules.proofs.BoolLemmas.{and_parts}
+use Rattle.iscsi_rules.proofs.ElementLemmas.{In}
 use Rattle.iscsi_arrivals.specs.Standing.{StandsFor}
 use Rattle.iscsi_outbox_rules.specs.rules.Boxes.{Answer, Link, Outgoing}
 use Rattle.iscsi_outbox_rules.specs.rules.Queues.{takes_more}

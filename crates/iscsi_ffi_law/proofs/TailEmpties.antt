@@ -6,13 +6,13 @@ use Rattle.std.proofs.lemmas.List.{append-nil}
 use Rattle.iscsi_wire.specs.declared.reply.Reply.{Reply}
 use Rattle.iscsi_wire.specs.Fields.{cmd_sn}
 use Rattle.iscsi_wire.specs.Serial.{wire}
-use Rattle.iscsi_history.specs.declared.effect.Effect.{Effect}
-use Rattle.iscsi_history.specs.declared.effect.Effect.TheVariants.{Empty, Send}
-use Rattle.iscsi_history.specs.rules.Run.{effects_of_item, stat_sn_of}
-use Rattle.iscsi_history.specs.rules.Settings.{Setting}
-use Rattle.iscsi_history.specs.rules.Trace.{Arrival, Empties, Mark, Sends, Trace, admits_at, first_of, held, is_delivered, is_emptied, shown, waiting}
-use Rattle.iscsi_history.proofs.Forms.{AfterWaiting, AtArrival, AtTurn, Start, start_mark}
-use Rattle.iscsi_history.proofs.NewlyLemmas.{Untouched, newly-untouched}
+use Rattle.iscsi_rules.specs.declared.effect.Effect.{Effect}
+use Rattle.iscsi_rules.specs.declared.effect.Effect.TheVariants.{Empty, Send}
+use Rattle.iscsi_rules.specs.rules.Run.{effects_of_item, stat_sn_of}
+use Rattle.iscsi_rules.specs.rules.Settings.{Setting}
+use Rattle.iscsi_rules.specs.rules.Trace.{Arrival, Empties, Mark, Sends, Trace, admits_at, first_of, held, is_delivered, is_emptied, shown, waiting}
+use Rattle.iscsi_rules.proofs.Forms.{AfterWaiting, AtArrival, AtTurn, Start, start_mark}
+use Rattle.iscsi_rules.proofs.NewlyLemmas.{Untouched, newly-untouched}
 use Rattle.iscsi_outbox_law.proofs.PairLemmas.{each-weaken}
 use Rattle.iscsi_requests.specs.Numbers.{HeldNumbers, size_for, with_held}
 use Rattle.iscsi_ffi_rules.specs.rules.Calls.{Interface}

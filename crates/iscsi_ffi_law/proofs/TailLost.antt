@@ -6,12 +6,12 @@ use Rattle.std.specs.List.{flat_map, list_any}
 use Rattle.std.proofs.lemmas.List.{length-map}
 use Rattle.iscsi_wire.specs.Fields.{cmd_sn, connection_of}
 use Rattle.iscsi_wire.specs.Serial.{wire}
-use Rattle.iscsi_history.specs.declared.effect.Effect.{Effect}
-use Rattle.iscsi_history.specs.declared.effect.Effect.TheVariants.{Send}
-use Rattle.iscsi_history.specs.rules.Run.{newly_enabled, stat_sn_of}
-use Rattle.iscsi_history.specs.rules.Settings.{are_distinct, is_known}
-use Rattle.iscsi_history.specs.rules.Trace.{Arrival, Command as RulesCommand, Mark, held, live, waiting}
-use Rattle.iscsi_history.proofs.Forms.{AtArrival}
+use Rattle.iscsi_rules.specs.declared.effect.Effect.{Effect}
+use Rattle.iscsi_rules.specs.declared.effect.Effect.TheVariants.{Send}
+use Rattle.iscsi_rules.specs.rules.Run.{newly_enabled, stat_sn_of}
+use Rattle.iscsi_rules.specs.rules.Settings.{are_distinct, is_known}
+use Rattle.iscsi_rules.specs.rules.Trace.{Arrival, Command as RulesCommand, Mark, held, live, waiting}
+use Rattle.iscsi_rules.proofs.Forms.{AtArrival}
 use Rattle.iscsi_outbox_rules.specs.rules.Boxes.{AtConns, Box, Handed, Link}
 use Rattle.iscsi_outbox_rules.specs.rules.Items.{after_item, answer, close_all, in_phase, newly_closed, outgoing, phase_enabled}
 use Rattle.iscsi_outbox_rules.specs.rules.Queues.{takes_more, without}
@@ -58,7 +58,7 @@ use Rattle.iscsi_ffi_law.proofs.Framing.{touched_in}
 use Rattle.iscsi_ffi_law.proofs.ClosingEach.{IsClosedTo, all_closed}
 use Rattle.iscsi_ffi_law.proofs.ClosingPlaces.{HasPlace, closes_placed, parted_touched}
 use Rattle.iscsi_outbox_law.proofs.PlaceLemmas.{IsPlace}
-use Rattle.iscsi_history.proofs.ElementLemmas.{In}
+use Rattle.iscsi_rules.proofs.ElementLemmas.{In}
 use Rattle.iscsi_requests.specs.declared.replies.WaitingReply.{WaitingReply}
 use Rattle.iscsi_wire.specs.declared.reply.Reply.TheVariants.{Logout}
 use Rattle.iscsi_ffi_law.proofs.Unanswered.{IsUnanswered, all_unanswered, requests_unanswered}
@@ -70,7 +70,7 @@ use Rattle.iscsi_ffi_law.proofs.Releasing.{ending}
 use Rattle.iscsi_ffi_rules.specs.declared.action.StopReason.{StopReason}
 use Rattle.iscsi_ffi_law.proofs.Members.{PassingAt, any_at as find_at, at_any}
 use Rattle.iscsi_outbox_rules.specs.rules.Run.{new_link}
-use Rattle.iscsi_history.proofs.BoolLemmas.{and_parts}
+use Rattle.iscsi_rules.proofs.BoolLemmas.{and_parts}
 use Rattle.std.proofs.lemmas.Bool.{and_from, false≢true}
 use Rattle.iscsi_ffi_law.proofs.Walking.{enables_past, is_led, led_end, walk_at, walk_in}
 

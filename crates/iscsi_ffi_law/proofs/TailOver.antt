@@ -3,13 +3,13 @@ use Rattle.std.proofs.Common.{◌≡◌, ℕ, ◌+◌, ◌≤◌, ◌==◌, ◌&
 use Rattle.std.proofs.lemmas.Bool.{cases_eq, eqb-true}
 use Rattle.std.proofs.lemmas.List.{append-nil}
 use Rattle.iscsi_wire.specs.Fields.{connection_of}
-use Rattle.iscsi_history.specs.declared.effect.Effect.{Effect}
-use Rattle.iscsi_history.specs.rules.Settings.{are_distinct}
-use Rattle.iscsi_history.specs.rules.Trace.{Arrival, Mark}
-use Rattle.iscsi_history.specs.rules.Run.{stat_sn_of}
-use Rattle.iscsi_history.proofs.CountLemmas.{one}
-use Rattle.iscsi_history.proofs.Forms.{Start}
-use Rattle.iscsi_history.proofs.NewlyLemmas.{Untouched, newly-untouched}
+use Rattle.iscsi_rules.specs.declared.effect.Effect.{Effect}
+use Rattle.iscsi_rules.specs.rules.Settings.{are_distinct}
+use Rattle.iscsi_rules.specs.rules.Trace.{Arrival, Mark}
+use Rattle.iscsi_rules.specs.rules.Run.{stat_sn_of}
+use Rattle.iscsi_rules.proofs.CountLemmas.{one}
+use Rattle.iscsi_rules.proofs.Forms.{Start}
+use Rattle.iscsi_rules.proofs.NewlyLemmas.{Untouched, newly-untouched}
 use Rattle.iscsi_outbox_rules.specs.rules.Boxes.{Box}
 use Rattle.iscsi_outbox_rules.specs.rules.Items.{after_item}
 use Rattle.iscsi_outbox_rules.specs.rules.Words.{is_running}

@@ -7,13 +7,13 @@ use Rattle.std.proofs.lemmas.List.{append-nil, length-map}
 use Rattle.iscsi_wire.specs.declared.reply.Reply.{Reply}
 use Rattle.iscsi_wire.specs.Fields.{cmd_sn, connection_of}
 use Rattle.iscsi_wire.specs.Serial.{wire}
-use Rattle.iscsi_history.specs.declared.effect.Effect.{Effect}
-use Rattle.iscsi_history.specs.declared.effect.Effect.TheVariants.{Send}
-use Rattle.iscsi_history.specs.rules.Run.{newly_enabled, stat_sn_of}
-use Rattle.iscsi_history.specs.rules.Settings.{are_distinct, is_known}
-use Rattle.iscsi_history.specs.rules.Trace.{Arrival, Command as RulesCommand, Mark, first_of, held, live, waiting}
-use Rattle.iscsi_history.proofs.CountLemmas.{one}
-use Rattle.iscsi_history.proofs.Forms.{AfterWaiting, AtArrival, AtTurn, Start, start_mark}
+use Rattle.iscsi_rules.specs.declared.effect.Effect.{Effect}
+use Rattle.iscsi_rules.specs.declared.effect.Effect.TheVariants.{Send}
+use Rattle.iscsi_rules.specs.rules.Run.{newly_enabled, stat_sn_of}
+use Rattle.iscsi_rules.specs.rules.Settings.{are_distinct, is_known}
+use Rattle.iscsi_rules.specs.rules.Trace.{Arrival, Command as RulesCommand, Mark, first_of, held, live, waiting}
+use Rattle.iscsi_rules.proofs.CountLemmas.{one}
+use Rattle.iscsi_rules.proofs.Forms.{AfterWaiting, AtArrival, AtTurn, Start, start_mark}
 use Rattle.iscsi_outbox_rules.specs.rules.Boxes.{Box, Handed, Link}
 use Rattle.iscsi_outbox_rules.specs.rules.Items.{after_item, close_all, newly_closed, reply_sent}
 use Rattle.iscsi_outbox_rules.specs.rules.Queues.{takes_more, without}
@@ -67,7 +67,7 @@ use Rattle.iscsi_ffi_law.proofs.Framing.{some_first, touched_in}
 use Rattle.iscsi_ffi_law.proofs.ClosingEach.{IsClosedTo, all_closed}
 use Rattle.iscsi_ffi_law.proofs.ClosingPlaces.{HasPlace, closes_placed, parted_touched}
 use Rattle.iscsi_outbox_law.proofs.PlaceLemmas.{IsPlace, any_at}
-use Rattle.iscsi_history.proofs.ElementLemmas.{In}
+use Rattle.iscsi_rules.proofs.ElementLemmas.{In}
 use Rattle.iscsi_requests.specs.declared.replies.WaitingReply.{WaitingReply}
 use Rattle.iscsi_ffi_law.proofs.Walking.{enables_past, is_led, led_end, sends_walk, walk_at, walk_in}
 

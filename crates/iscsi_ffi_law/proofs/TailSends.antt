@@ -5,14 +5,14 @@ use Rattle.std.specs.List.{filter_map}
 use Rattle.std.proofs.lemmas.List.{append_assoc}
 use Rattle.iscsi_wire.specs.declared.reply.Reply.{Reply}
 use Rattle.iscsi_wire.specs.Fields.{connection_of}
-use Rattle.iscsi_history.specs.declared.effect.Effect.{Effect}
-use Rattle.iscsi_history.specs.declared.effect.Effect.TheVariants.{Send}
-use Rattle.iscsi_history.specs.rules.Settings.{are_distinct}
-use Rattle.iscsi_history.specs.rules.Trace.{Arrival, Mark, Sends, first_of, waiting}
-use Rattle.iscsi_history.specs.rules.Run.{stat_sn_of}
-use Rattle.iscsi_history.proofs.CountLemmas.{one}
-use Rattle.iscsi_history.proofs.Forms.{Start}
-use Rattle.iscsi_history.proofs.NewlyLemmas.{Untouched, newly-untouched}
+use Rattle.iscsi_rules.specs.declared.effect.Effect.{Effect}
+use Rattle.iscsi_rules.specs.declared.effect.Effect.TheVariants.{Send}
+use Rattle.iscsi_rules.specs.rules.Settings.{are_distinct}
+use Rattle.iscsi_rules.specs.rules.Trace.{Arrival, Mark, Sends, first_of, waiting}
+use Rattle.iscsi_rules.specs.rules.Run.{stat_sn_of}
+use Rattle.iscsi_rules.proofs.CountLemmas.{one}
+use Rattle.iscsi_rules.proofs.Forms.{Start}
+use Rattle.iscsi_rules.proofs.NewlyLemmas.{Untouched, newly-untouched}
 use Rattle.iscsi_outbox_rules.specs.rules.Boxes.{Box, Link}
 use Rattle.iscsi_outbox_rules.specs.rules.Due.{settle}
 use Rattle.iscsi_outbox_rules.specs.rules.Items.{after_item, phase_enabled, reply_sent, send}

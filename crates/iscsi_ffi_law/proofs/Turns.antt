@@ -4,19 +4,19 @@ use Rattle.std.proofs.lemmas.Bool.{cases_lt, false≢true, le-leb}
 use Rattle.iscsi_wire.specs.declared.reply.Reply.{Reply}
 use Rattle.iscsi_wire.specs.declared.reply.Reply.TheVariants.{Reject, Task}
 use Rattle.iscsi_wire.specs.Fields.{connection_of, header_of, is_immediate, itt, opcode}
-use Rattle.iscsi_history.specs.declared.effect.Why.{Why}
-use Rattle.iscsi_history.specs.declared.effect.Why.TheVariants.{Closed, Data, Duplicate, Outside}
-use Rattle.iscsi_history.specs.declared.kind.Kind.{Kind}
-use Rattle.iscsi_history.specs.declared.kind.Kind.TheVariants.{Executes as ExecutesKind, PassedOver, Unknown}
-use Rattle.iscsi_history.specs.rules.Agenda.{arrival, arrival_as, arrival_open, kind_of, numbered, with_turns}
-use Rattle.iscsi_history.specs.rules.Execution.{exp_of, ignored, max_of, rejected, reply_on}
-use Rattle.iscsi_history.specs.rules.Items.{agenda, at_number, execution, function_item, functions, functions_at, immediate_item, is_waiting, item_of, turn_at, waiting_item}
-use Rattle.iscsi_history.specs.rules.Management.{MOST_WAITING, may_wait, refusal_of_function, waiting_on}
-use Rattle.iscsi_history.specs.rules.Settings.{Setting}
-use Rattle.iscsi_history.specs.rules.Trace.{Admits, Arrival, Delivers, Executes, Ignores, Mark, Trace, Waits, after_items, held, is_closed, is_received, waiting}
-use Rattle.iscsi_history.proofs.FormItems.{Does, does_after, does_function, does_reply}
-use Rattle.iscsi_history.proofs.Forms.{AfterWaiting, AtArrival, AtTurn, Deeds, IsDone, Start, marks_done, start_mark}
-use Rattle.iscsi_history.proofs.HeldLemmas.{held-number}
+use Rattle.iscsi_rules.specs.declared.effect.Why.{Why}
+use Rattle.iscsi_rules.specs.declared.effect.Why.TheVariants.{Closed, Data, Duplicate, Outside}
+use Rattle.iscsi_rules.specs.declared.kind.Kind.{Kind}
+use Rattle.iscsi_rules.specs.declared.kind.Kind.TheVariants.{Executes as ExecutesKind, PassedOver, Unknown}
+use Rattle.iscsi_rules.specs.rules.Agenda.{arrival, arrival_as, arrival_open, kind_of, numbered, with_turns}
+use Rattle.iscsi_rules.specs.rules.Execution.{exp_of, ignored, max_of, rejected, reply_on}
+use Rattle.iscsi_rules.specs.rules.Items.{agenda, at_number, execution, function_item, functions, functions_at, immediate_item, is_waiting, item_of, turn_at, waiting_item}
+use Rattle.iscsi_rules.specs.rules.Management.{MOST_WAITING, may_wait, refusal_of_function, waiting_on}
+use Rattle.iscsi_rules.specs.rules.Settings.{Setting}
+use Rattle.iscsi_rules.specs.rules.Trace.{Admits, Arrival, Delivers, Executes, Ignores, Mark, Trace, Waits, after_items, held, is_closed, is_received, waiting}
+use Rattle.iscsi_rules.proofs.FormItems.{Does, does_after, does_function, does_reply}
+use Rattle.iscsi_rules.proofs.Forms.{AfterWaiting, AtArrival, AtTurn, Deeds, IsDone, Start, marks_done, start_mark}
+use Rattle.iscsi_rules.proofs.HeldLemmas.{held-number}
 use Rattle.iscsi_outbox_rules.proofs.ClosedParts.{EachOn}
 use Rattle.iscsi_ffi_law.proofs.Opens.{Opens, opens_after, opens_function, opens_reply}
 

@@ -1,6 +1,6 @@
 -- A reply of the session's that goes nowhere: what is kept of requests stands for the log with it.
 use Rattle.std.proofs.Common.{◌≡◌, ℕ, ◌+◌, ◌<◌, ◌≤◌, ◌==◌, ◌&&◌, ◌||◌, Bool, false, List, [], ◌∷◌, ◌++◌, length, filter, Option, Some, None, refl, ap, sym, subst, ◌∙◌, arith, length-append}
-use Rattle.iscsi_history.specs.rules.Trace.{Trace, entered}
+use Rattle.iscsi_rules.specs.rules.Trace.{Trace, entered}
 use Rattle.iscsi_outbox_rules.specs.promises.Scope.{nth}
 use Rattle.iscsi_outbox_rules.specs.rules.Boxes.{Answer, Box, Handed, Link, Outgoing}
 use Rattle.iscsi_outbox_rules.specs.rules.Run.{new_link}

@@ -5,12 +5,12 @@ use Rattle.std.proofs.lemmas.Bool.{cases_lt, false≢true}
 use Rattle.std.proofs.lemmas.List.{get_or-map, length-map}
 use Rattle.iscsi_wire.specs.declared.reply.Reply.{Reply}
 use Rattle.iscsi_wire.specs.Fields.{connection_of}
-use Rattle.iscsi_history.specs.rules.Settings.{are_distinct, is_known}
-use Rattle.iscsi_history.specs.rules.Trace.{Arrival, Command as RulesCommand, Mark, held, shown, waiting}
-use Rattle.iscsi_history.proofs.CountLemmas.{one}
-use Rattle.iscsi_history.proofs.ElementLemmas.{In}
-use Rattle.iscsi_history.proofs.Forms.{AfterWaiting}
-use Rattle.iscsi_history.proofs.ListLemmas.{fewer_counted}
+use Rattle.iscsi_rules.specs.rules.Settings.{are_distinct, is_known}
+use Rattle.iscsi_rules.specs.rules.Trace.{Arrival, Command as RulesCommand, Mark, held, shown, waiting}
+use Rattle.iscsi_rules.proofs.CountLemmas.{one}
+use Rattle.iscsi_rules.proofs.ElementLemmas.{In}
+use Rattle.iscsi_rules.proofs.Forms.{AfterWaiting}
+use Rattle.iscsi_rules.proofs.ListLemmas.{fewer_counted}
 use Rattle.iscsi_outbox_rules.specs.rules.Boxes.{Link}
 use Rattle.iscsi_outbox_rules.specs.rules.Run.{new_link}
 use Rattle.iscsi_outbox_law.specs.Commands.{is_under_way, link_in}

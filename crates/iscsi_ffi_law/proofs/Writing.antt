@@ -2,7 +2,7 @@
 use Rattle.std.proofs.Common.{◌≡◌, ℕ, zero, suc, ◌+◌, ◌<◌, ◌≤◌, ◌==◌, ◌&&◌, ⊎_elim, cond, nat_lt, Bool, true, false, List, [], ◌∷◌, ◌++◌, length, drop, count_by, Option, Some, None, refl, ap, sym, subst, ◌∙◌, arith, lt-ltb, le-ltb, length-drop, length-set, ne_eqb}
 use Rattle.std.proofs.lemmas.Bool.{cond_both, eqb-true, eq-eqb, cases_eq}
 use Rattle.std.proofs.lemmas.List.{append-nil, get_or-set_same, get_or-set_other}
-use Rattle.iscsi_history.proofs.CountLemmas.{one, count-cons}
+use Rattle.iscsi_rules.proofs.CountLemmas.{one, count-cons}
 use Rattle.iscsi_outbox_rules.specs.rules.Calls as outbox
 use Rattle.iscsi_outbox_rules.specs.rules.Boxes.{Box, Handed, Link}
 use Rattle.iscsi_outbox_rules.specs.rules.Queues.{at_link}

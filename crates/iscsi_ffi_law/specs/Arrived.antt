@@ -4,16 +4,16 @@ use Rattle.std.specs.List.{filter_map, find, list_any}
 use Rattle.iscsi_wire.specs.declared.reply.Reply.{Reply}
 use Rattle.iscsi_wire.specs.Fields.{cmd_sn, connection_of, request_of}
 use Rattle.iscsi_wire.specs.Serial.{wire}
-use Rattle.iscsi_history.specs.declared.effect.Effect.{Effect}
-use Rattle.iscsi_history.specs.declared.event.Event.TheVariants.{Arrive}
-use Rattle.iscsi_history.specs.rules.Agenda.{arrival_of, items_of}
-use Rattle.iscsi_history.specs.rules.Execution.{exp_of}
-use Rattle.iscsi_history.specs.rules.Logout.{is_open}
-use Rattle.iscsi_history.specs.rules.Management.{MOST_WAITING, waiting_on}
-use Rattle.iscsi_history.specs.rules.Settings.{Setting}
+use Rattle.iscsi_rules.specs.declared.effect.Effect.{Effect}
+use Rattle.iscsi_rules.specs.declared.event.Event.TheVariants.{Arrive}
+use Rattle.iscsi_rules.specs.rules.Agenda.{arrival_of, items_of}
+use Rattle.iscsi_rules.specs.rules.Execution.{exp_of}
+use Rattle.iscsi_rules.specs.rules.Logout.{is_open}
+use Rattle.iscsi_rules.specs.rules.Management.{MOST_WAITING, waiting_on}
+use Rattle.iscsi_rules.specs.rules.Settings.{Setting}
 use Rattle.iscsi_requests.specs.Numbers.{IsInWindow, size_for}
-use Rattle.iscsi_history.specs.rules.Run.{effects_of_item, entry_of}
-use Rattle.iscsi_history.specs.rules.Trace.{Admits, Arrival, Command, Empties, Executes, Mark, Trace, enters, entered, first_of, has, held, is_among, is_delivered, is_emptied, leaves_ticket, live, shown, waiting}
+use Rattle.iscsi_rules.specs.rules.Run.{effects_of_item, entry_of}
+use Rattle.iscsi_rules.specs.rules.Trace.{Admits, Arrival, Command, Empties, Executes, Mark, Trace, enters, entered, first_of, has, held, is_among, is_delivered, is_emptied, leaves_ticket, live, shown, waiting}
 use Rattle.iscsi_outbox_rules.specs.promises.Room.{Fits, places}
 use Rattle.iscsi_outbox_rules.specs.rules.Boxes.{Box, Handed, Link}
 use Rattle.iscsi_outbox_rules.specs.rules.Calls as outbox

@@ -2,10 +2,10 @@
 use Rattle.std.specs.Prelude.{◌≡◌, ◌<◌, ◌≤◌, ◌-◌, ◌^◌, ◌==◌, ◌&&◌, ◌++◌, ℕ, zero, suc, true, length, Some, None}
 use Rattle.std.specs.List.{list_any}
 use Rattle.iscsi_wire.specs.Fields.{connection_of}
-use Rattle.iscsi_history.specs.declared.event.Event.TheVariants.{Done}
-use Rattle.iscsi_history.specs.rules.Agenda.{command_of}
-use Rattle.iscsi_history.specs.rules.Run.{entry_of}
-use Rattle.iscsi_history.specs.rules.Trace.{Command, entered, live}
+use Rattle.iscsi_rules.specs.declared.event.Event.TheVariants.{Done}
+use Rattle.iscsi_rules.specs.rules.Agenda.{command_of}
+use Rattle.iscsi_rules.specs.rules.Run.{entry_of}
+use Rattle.iscsi_rules.specs.rules.Trace.{Command, entered, live}
 use Rattle.iscsi_outbox_rules.specs.promises.Room.{FitsCall, places}
 use Rattle.iscsi_outbox_rules.specs.rules.Boxes.{Handed, Link, Task}
 use Rattle.iscsi_outbox_rules.specs.rules.Calls as outbox

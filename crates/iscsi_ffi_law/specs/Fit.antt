@@ -1,7 +1,7 @@
 -- A premise, of the box that a call finds and of the one that it leaves: they hold together, and have room. So it is at each call of a list
 -- of which what is taken is what a session gives (`follows_sound`, `HasRoom` and `IsShort` of the outbox).
 use Rattle.std.specs.Prelude.{◌≡◌, ◌<◌, ◌-◌, ◌^◌, true, length, ℕ, ◌==◌, ◌&&◌, []}
-use Rattle.iscsi_history.specs.rules.Settings.{are_distinct}
+use Rattle.iscsi_rules.specs.rules.Settings.{are_distinct}
 use Rattle.iscsi_outbox_rules.specs.promises.Room.{Fits}
 use Rattle.iscsi_outbox_rules.specs.rules.Boxes.{Box, Link, Task}
 use Rattle.iscsi_outbox_law.specs.Room.{AreFew, AreShort}
@@ -13,7 +13,7 @@ use Rattle.iscsi_outbox_rules.specs.rules.Words.{is_live_phase}
 use Rattle.iscsi_outbox_law.specs.Pairs.{EachOf}
 use Rattle.iscsi_ffi_rules.specs.rules.Sides.{Side}
 use Rattle.iscsi_ffi_law.specs.Parts.{is_live_ticket}
-use Rattle.iscsi_history.specs.rules.Trace.{is_closed}
+use Rattle.iscsi_rules.specs.rules.Trace.{is_closed}
 
 -- another premise, of the rules' side alone: a connection that is cut is closed, as the session has it, and a command that is live in the
 -- outbox is so in the session

@@ -2,7 +2,7 @@
 use Rattle.std.specs.Prelude.{◌≡◌, ◌<◌, ◌≤◌, ℕ, ◌+◌, ◌*◌, ◌==◌, ◌&&◌, ◌||◌, not, Bool, true, false, List, [], ◌∷◌, ◌++◌, length, filter, count_by, nat_lt, get_or, Option, Some, None, is_some, if◌then◌else◌}
 use Rattle.std.specs.List.{find, list_any}
 use Rattle.iscsi_wire.specs.Fields.{cmd_sn, connection_of}
-use Rattle.iscsi_history.specs.rules.Trace.{Arrival, Command as RulesCommand, Trace, entered, has, held, leaves_ticket, was_free}
+use Rattle.iscsi_rules.specs.rules.Trace.{Arrival, Command as RulesCommand, Trace, entered, has, held, leaves_ticket, was_free}
 use Rattle.iscsi_outbox_rules.specs.rules.Boxes.{Answer, Handed, Link, Notices, Outgoing, Owns, Pdu, Pings, Replies}
 use Rattle.iscsi_outbox_rules.specs.rules.Words.{contains, is_reply}
 use Rattle.iscsi_outbox_rules.specs.rules.Own.{own_ticket}

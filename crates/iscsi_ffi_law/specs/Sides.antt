@@ -1,13 +1,13 @@
 -- What holds of the rules' side, whatever calls come: where its options are valid, and the list isn't longer than words count.
 use Rattle.std.specs.Prelude.{◌≡◌, ◌+◌, ◌<◌, ◌≤◌, ◌-◌, ◌^◌, ◌&&◌, ◌++◌, ℕ, true, false, List, [], ◌∷◌, length, None, if◌then◌else◌}
 use Rattle.std.specs.List.{filter_map}
-use Rattle.iscsi_history.specs.declared.effect.Effect.{Effect}
-use Rattle.iscsi_history.specs.declared.event.Event.TheVariants.{Arrive}
+use Rattle.iscsi_rules.specs.declared.effect.Effect.{Effect}
+use Rattle.iscsi_rules.specs.declared.event.Event.TheVariants.{Arrive}
 use Rattle.iscsi_wire.specs.Fields.{connection_of}
-use Rattle.iscsi_history.specs.rules.Management.{MOST_WAITING, waiting_on}
-use Rattle.iscsi_history.specs.promises.Order.{in_parts}
-use Rattle.iscsi_history.specs.rules.Settings.{is_known, is_valid}
-use Rattle.iscsi_history.specs.rules.Trace.{Admits, Arrival, Mark, is_closed, live, waiting}
+use Rattle.iscsi_rules.specs.rules.Management.{MOST_WAITING, waiting_on}
+use Rattle.iscsi_rules.specs.promises.Order.{in_parts}
+use Rattle.iscsi_rules.specs.rules.Settings.{is_known, is_valid}
+use Rattle.iscsi_rules.specs.rules.Trace.{Admits, Arrival, Mark, is_closed, live, waiting}
 use Rattle.iscsi_outbox_rules.specs.promises.Room.{is_other, places}
 use Rattle.iscsi_outbox_rules.specs.rules.Boxes.{Box, Handed, Link}
 use Rattle.iscsi_outbox_rules.specs.rules.Calls as outbox

@@ -1,6 +1,6 @@
 -- When what the steps keep of a side stands for what the rules have of it.
 use Rattle.std.specs.Prelude.{◌≡◌, ◌<◌, ◌≤◌, ℕ, ◌+◌, ◌*◌, true, List, [], length, map, count_by, Option, None}
-use Rattle.iscsi_history.specs.rules.Trace.{are_apart, entered, waiting}
+use Rattle.iscsi_rules.specs.rules.Trace.{are_apart, entered, waiting}
 use Rattle.iscsi_outbox_rules.specs.rules.Words.{contains}
 use Rattle.iscsi_outbox_law.specs.Commands.{link_in}
 use Rattle.iscsi_outbox_law.specs.Pairs.{EachOf}

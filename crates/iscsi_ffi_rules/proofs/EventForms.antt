@@ -3,22 +3,22 @@ use Rattle.std.proofs.Common.{◌≡◌, ℕ, zero, suc, ◌+◌, ◌-◌, ◌==
 use Rattle.iscsi_wire.specs.declared.reply.Reply.{Reply}
 use Rattle.iscsi_wire.specs.declared.reply.Reply.TheVariants.{Task, Reject}
 use Rattle.iscsi_wire.specs.Fields.{connection_of, header_of, is_immediate, opcode, itt, request_of}
-use Rattle.iscsi_history.specs.declared.effect.Why.{Why}
-use Rattle.iscsi_history.specs.declared.effect.Why.TheVariants.{Outside, Duplicate, Closed, Data, Stale}
-use Rattle.iscsi_history.specs.declared.event.Event.{Event}
-use Rattle.iscsi_history.specs.declared.event.Event.TheVariants.{Arrive, Done}
-use Rattle.iscsi_history.specs.declared.kind.Kind.{Kind}
-use Rattle.iscsi_history.specs.declared.kind.Kind.TheVariants.{PassedOver, Unknown, Executes as ExecutesKind}
-use Rattle.iscsi_history.specs.rules.Settings.{Setting}
-use Rattle.iscsi_history.specs.rules.Trace.{Arrival, Command, Mark, Admits, Executes, Waits, Trace, after_items, is_received, held, waiting, live, was_free, is_closed}
-use Rattle.iscsi_history.specs.rules.Execution.{exp_of, max_of, ignored, completion, reply_on}
-use Rattle.iscsi_history.specs.rules.Management.{may_wait, refusal_of_function, MOST_WAITING, waiting_on}
-use Rattle.iscsi_history.specs.rules.Items.{execution, waiting_item, immediate_item, function_item, item_of, is_waiting, functions, functions_at, turn_at, at_number, agenda}
-use Rattle.iscsi_history.specs.rules.Agenda.{with_turns, numbered, kind_of, arrival_as, arrival_open, arrival, arrival_of, command_of, items_of}
-use Rattle.iscsi_history.proofs.ElementLemmas.{in-filter, first-in}
-use Rattle.iscsi_history.proofs.HeldLemmas.{held-number}
-use Rattle.iscsi_history.proofs.Forms.{Start, AtTurn, AtArrival, AfterWaiting, start_mark, Ignored, Rejected, Received, Postponed, Completed, Executed, Starts, HasForm}
-use Rattle.iscsi_history.proofs.FormItems.{Does, does_reply, does_function, does_after}
+use Rattle.iscsi_rules.specs.declared.effect.Why.{Why}
+use Rattle.iscsi_rules.specs.declared.effect.Why.TheVariants.{Outside, Duplicate, Closed, Data, Stale}
+use Rattle.iscsi_rules.specs.declared.event.Event.{Event}
+use Rattle.iscsi_rules.specs.declared.event.Event.TheVariants.{Arrive, Done}
+use Rattle.iscsi_rules.specs.declared.kind.Kind.{Kind}
+use Rattle.iscsi_rules.specs.declared.kind.Kind.TheVariants.{PassedOver, Unknown, Executes as ExecutesKind}
+use Rattle.iscsi_rules.specs.rules.Settings.{Setting}
+use Rattle.iscsi_rules.specs.rules.Trace.{Arrival, Command, Mark, Admits, Executes, Waits, Trace, after_items, is_received, held, waiting, live, was_free, is_closed}
+use Rattle.iscsi_rules.specs.rules.Execution.{exp_of, max_of, ignored, completion, reply_on}
+use Rattle.iscsi_rules.specs.rules.Management.{may_wait, refusal_of_function, MOST_WAITING, waiting_on}
+use Rattle.iscsi_rules.specs.rules.Items.{execution, waiting_item, immediate_item, function_item, item_of, is_waiting, functions, functions_at, turn_at, at_number, agenda}
+use Rattle.iscsi_rules.specs.rules.Agenda.{with_turns, numbered, kind_of, arrival_as, arrival_open, arrival, arrival_of, command_of, items_of}
+use Rattle.iscsi_rules.proofs.ElementLemmas.{in-filter, first-in}
+use Rattle.iscsi_rules.proofs.HeldLemmas.{held-number}
+use Rattle.iscsi_rules.proofs.Forms.{Start, AtTurn, AtArrival, AfterWaiting, start_mark, Ignored, Rejected, Received, Postponed, Completed, Executed, Starts, HasForm}
+use Rattle.iscsi_rules.proofs.FormItems.{Does, does_reply, does_function, does_after}
 use Rattle.iscsi_outbox_rules.proofs.ClosedParts.{EachOn}
 
 module _ (o : Setting) (now : ℕ) where

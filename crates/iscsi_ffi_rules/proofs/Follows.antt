@@ -1,11 +1,11 @@
 -- The trace of a side is that of the events that were taken.
 use Rattle.std.proofs.Common.{◌≡◌, List, [], ◌∷◌, ◌++◌, length, refl, ap, sym, ◌∙◌, subst, arith, length-append}
-use Rattle.iscsi_history.specs.declared.event.Event.{Event}
-use Rattle.iscsi_history.specs.rules.Settings.{Setting}
-use Rattle.iscsi_history.specs.rules.Run.{after_event, trace_of}
-use Rattle.iscsi_history.proofs.Forms.{HaveForms}
-use Rattle.iscsi_history.proofs.FormRuns.{trace_has_forms}
-use Rattle.iscsi_history.proofs.RunLemmas.{trace_of-push}
+use Rattle.iscsi_rules.specs.declared.event.Event.{Event}
+use Rattle.iscsi_rules.specs.rules.Settings.{Setting}
+use Rattle.iscsi_rules.specs.rules.Run.{after_event, trace_of}
+use Rattle.iscsi_rules.proofs.Forms.{HaveForms}
+use Rattle.iscsi_rules.proofs.FormRuns.{trace_has_forms}
+use Rattle.iscsi_rules.proofs.RunLemmas.{trace_of-push}
 use Rattle.iscsi_outbox_rules.specs.rules.Calls.{Opening}
 use Rattle.iscsi_outbox_rules.specs.promises.Room.{Happens, Both, after_step, begun}
 

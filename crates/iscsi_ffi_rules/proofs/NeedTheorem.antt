@@ -3,11 +3,11 @@ use Rattle.std.proofs.Common.{◌≡◌, ℕ, ◌+◌, ◌<◌, ◌==◌, ◌&&�
 use Rattle.std.specs.List.{list_any, list_all}
 use Rattle.std.proofs.lemmas.Bool.{false≢true, cond_both, eqb-true}
 use Rattle.std.proofs.lemmas.List.Folds.{list_any-append}
-use Rattle.iscsi_history.specs.declared.event.Event.TheVariants.{Arrive}
-use Rattle.iscsi_history.specs.rules.Trace.{Command, Trace, first_of, has, entered, leaves_ticket, live, is_among}
-use Rattle.iscsi_history.proofs.BoolLemmas.{or_none, or_first, or_second}
-use Rattle.iscsi_history.proofs.ListLemmas.{all_of_filter, any_filter, list_any-map}
-use Rattle.iscsi_history.proofs.MomentLemmas.{left_unlive}
+use Rattle.iscsi_rules.specs.declared.event.Event.TheVariants.{Arrive}
+use Rattle.iscsi_rules.specs.rules.Trace.{Command, Trace, first_of, has, entered, leaves_ticket, live, is_among}
+use Rattle.iscsi_rules.proofs.BoolLemmas.{or_none, or_first, or_second}
+use Rattle.iscsi_rules.proofs.ListLemmas.{all_of_filter, any_filter, list_any-map}
+use Rattle.iscsi_rules.proofs.MomentLemmas.{left_unlive}
 use Rattle.iscsi_outbox_rules.specs.declared.own_pdu.OwnPdu.{OwnPdu}
 use Rattle.iscsi_outbox_rules.specs.declared.own_pdu.OwnPdu.TheVariants.{OfCommand, OfConnection}
 use Rattle.iscsi_outbox_rules.specs.declared.own_pdu.PutRefusal.{PutRefusal}

@@ -4,16 +4,16 @@ use Rattle.std.specs.List.{list_any, flat_map}
 use Rattle.std.proofs.lemmas.Bool.{false≢true, cond_both, eqb-true}
 use Rattle.std.proofs.lemmas.List.Folds.{list_any-append}
 use Rattle.iscsi_wire.specs.Fields.{function}
-use Rattle.iscsi_history.specs.declared.event.Event.{Event}
-use Rattle.iscsi_history.specs.declared.event.Event.TheVariants.{Arrive, Done}
-use Rattle.iscsi_history.specs.rules.Settings.{is_known}
-use Rattle.iscsi_history.specs.rules.Trace.{Arrival, Command, Mark, is_closed, live}
-use Rattle.iscsi_history.specs.rules.Execution.{unit_named}
-use Rattle.iscsi_history.specs.rules.Agenda.{items_of}
-use Rattle.iscsi_history.specs.rules.Run.{entry_of}
-use Rattle.iscsi_history.specs.promises.Replies.{executed_in, reply_sent}
-use Rattle.iscsi_history.proofs.BoolLemmas.{and_true, or_comm, or_first, or_second}
-use Rattle.iscsi_history.proofs.ListLemmas.{filtered_among, list_any-map}
+use Rattle.iscsi_rules.specs.declared.event.Event.{Event}
+use Rattle.iscsi_rules.specs.declared.event.Event.TheVariants.{Arrive, Done}
+use Rattle.iscsi_rules.specs.rules.Settings.{is_known}
+use Rattle.iscsi_rules.specs.rules.Trace.{Arrival, Command, Mark, is_closed, live}
+use Rattle.iscsi_rules.specs.rules.Execution.{unit_named}
+use Rattle.iscsi_rules.specs.rules.Agenda.{items_of}
+use Rattle.iscsi_rules.specs.rules.Run.{entry_of}
+use Rattle.iscsi_rules.specs.promises.Replies.{executed_in, reply_sent}
+use Rattle.iscsi_rules.proofs.BoolLemmas.{and_true, or_comm, or_first, or_second}
+use Rattle.iscsi_rules.proofs.ListLemmas.{filtered_among, list_any-map}
 use Rattle.iscsi_outbox_rules.specs.declared.own_pdu.OwnPdu.{OwnPdu}
 use Rattle.iscsi_outbox_rules.specs.declared.own_pdu.PutRefusal.{PutRefusal}
 use Rattle.iscsi_outbox_rules.specs.rules.Calls as outbox

@@ -6,23 +6,23 @@ use Rattle.std.proofs.lemmas.List.{append_assoc, append-nil}
 use Rattle.std.proofs.lemmas.List.Folds.{list_any-append}
 use Rattle.std.proofs.lemmas.List.Sums.{sum_by-append}
 use Rattle.iscsi_wire.specs.Fields.{function}
-use Rattle.iscsi_history.specs.declared.effect.Effect.{Effect}
-use Rattle.iscsi_history.specs.declared.effect.Effect.TheVariants.{Deliver, Immediate, Wait, Void, Empty, Enter, Enable, Leave, Send, CloseConn, CloseSession, Ignore}
-use Rattle.iscsi_history.specs.declared.event.Event.{Event}
-use Rattle.iscsi_history.specs.rules.Settings.{Setting}
-use Rattle.iscsi_history.specs.rules.Trace.{Arrival, Command, Mark, Trace, after_items, has, leaves_ticket, live, live_in, is_among}
-use Rattle.iscsi_history.specs.rules.Execution.{unit_named}
-use Rattle.iscsi_history.specs.rules.Agenda.{items_of}
-use Rattle.iscsi_history.specs.rules.Run.{effects_of_item, effects_of, trace_of, run_of}
-use Rattle.iscsi_history.specs.promises.Replies.{executed_in, reply_sent}
-use Rattle.iscsi_history.specs.promises.Enabling.{effects_so_far, effects_in, is_enable}
-use Rattle.iscsi_history.specs.promises.Lives.{names_ticket, life_of, is_life, goes_on_in, ends_in}
-use Rattle.iscsi_history.proofs.BoolLemmas.{or_first, or_second, and_parts}
-use Rattle.iscsi_history.proofs.CountLemmas.{one, count-cons, count-filter, count-weaker}
-use Rattle.iscsi_history.proofs.ListLemmas.{count_by-map, fewer_counted, find-found, list_any-map}
-use Rattle.iscsi_history.proofs.FormRuns.{event_going}
-use Rattle.iscsi_history.proofs.LifeTheorem.{starts_once as lives_once}
-use Rattle.iscsi_history.proofs.MomentLemmas.{log_effects}
+use Rattle.iscsi_rules.specs.declared.effect.Effect.{Effect}
+use Rattle.iscsi_rules.specs.declared.effect.Effect.TheVariants.{Deliver, Immediate, Wait, Void, Empty, Enter, Enable, Leave, Send, CloseConn, CloseSession, Ignore}
+use Rattle.iscsi_rules.specs.declared.event.Event.{Event}
+use Rattle.iscsi_rules.specs.rules.Settings.{Setting}
+use Rattle.iscsi_rules.specs.rules.Trace.{Arrival, Command, Mark, Trace, after_items, has, leaves_ticket, live, live_in, is_among}
+use Rattle.iscsi_rules.specs.rules.Execution.{unit_named}
+use Rattle.iscsi_rules.specs.rules.Agenda.{items_of}
+use Rattle.iscsi_rules.specs.rules.Run.{effects_of_item, effects_of, trace_of, run_of}
+use Rattle.iscsi_rules.specs.promises.Replies.{executed_in, reply_sent}
+use Rattle.iscsi_rules.specs.promises.Enabling.{effects_so_far, effects_in, is_enable}
+use Rattle.iscsi_rules.specs.promises.Lives.{names_ticket, life_of, is_life, goes_on_in, ends_in}
+use Rattle.iscsi_rules.proofs.BoolLemmas.{or_first, or_second, and_parts}
+use Rattle.iscsi_rules.proofs.CountLemmas.{one, count-cons, count-filter, count-weaker}
+use Rattle.iscsi_rules.proofs.ListLemmas.{count_by-map, fewer_counted, find-found, list_any-map}
+use Rattle.iscsi_rules.proofs.FormRuns.{event_going}
+use Rattle.iscsi_rules.proofs.LifeTheorem.{starts_once as lives_once}
+use Rattle.iscsi_rules.proofs.MomentLemmas.{log_effects}
 use Rattle.iscsi_outbox_rules.specs.rules.Calls as outbox
 use Rattle.iscsi_outbox_rules.specs.rules.Words.{contains}
 use Rattle.iscsi_outbox_rules.specs.rules.Items.{ticket_enabled}

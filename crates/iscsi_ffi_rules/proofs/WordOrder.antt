@@ -6,16 +6,16 @@ use Rattle.std.proofs.lemmas.Bool.Decides.{nat_tests}
 use Rattle.std.proofs.lemmas.List.{append_assoc}
 use Rattle.std.proofs.lemmas.List.Sums.{sum_by-append}
 use Rattle.iscsi_wire.specs.Fields.{function}
-use Rattle.iscsi_history.specs.declared.event.Event.TheVariants.{Arrive, Done}
-use Rattle.iscsi_history.specs.rules.Settings.{is_known}
-use Rattle.iscsi_history.specs.rules.Trace.{Arrival, Command, Mark, is_closed, entered}
-use Rattle.iscsi_history.specs.rules.Execution.{unit_named}
-use Rattle.iscsi_history.specs.rules.Agenda.{items_of}
-use Rattle.iscsi_history.specs.rules.Run.{entry_of}
-use Rattle.iscsi_history.specs.promises.Replies.{executed_in, reply_sent}
-use Rattle.iscsi_history.proofs.BoolLemmas.{or_none}
-use Rattle.iscsi_history.proofs.CountLemmas.{one, count-cons}
-use Rattle.iscsi_history.proofs.ListLemmas.{any_flat_map, any_same}
+use Rattle.iscsi_rules.specs.declared.event.Event.TheVariants.{Arrive, Done}
+use Rattle.iscsi_rules.specs.rules.Settings.{is_known}
+use Rattle.iscsi_rules.specs.rules.Trace.{Arrival, Command, Mark, is_closed, entered}
+use Rattle.iscsi_rules.specs.rules.Execution.{unit_named}
+use Rattle.iscsi_rules.specs.rules.Agenda.{items_of}
+use Rattle.iscsi_rules.specs.rules.Run.{entry_of}
+use Rattle.iscsi_rules.specs.promises.Replies.{executed_in, reply_sent}
+use Rattle.iscsi_rules.proofs.BoolLemmas.{or_none}
+use Rattle.iscsi_rules.proofs.CountLemmas.{one, count-cons}
+use Rattle.iscsi_rules.proofs.ListLemmas.{any_flat_map, any_same}
 use Rattle.iscsi_outbox_rules.specs.rules.Calls as outbox
 use Rattle.iscsi_outbox_rules.specs.rules.Boxes.{Outgoing, Handed}
 use Rattle.iscsi_outbox_rules.specs.rules.Words.{contains, is_running}

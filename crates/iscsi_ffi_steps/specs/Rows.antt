@@ -1,7 +1,7 @@
 -- Worked lists, computed: those of the rules. By what is kept each is answered, and tells, as the rules have it.
 use Rattle.std.specs.Prelude.{◌≡◌, List, map, refl}
 use Rattle.iscsi_tasks.specs.Rules as Rules
-use Rattle.iscsi_history.specs.examples.Rows.{setting, of_two}
+use Rattle.iscsi_rules.specs.examples.Rows.{setting, of_two}
 use Rattle.iscsi_outbox_steps.specs.Rows.{pdu_said}
 use Rattle.iscsi_ffi_rules.specs.declared.action.Action.{Action}
 use Rattle.iscsi_ffi_rules.specs.rules.Calls.{Interface}

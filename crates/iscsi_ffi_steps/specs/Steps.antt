@@ -4,14 +4,14 @@ use Rattle.std.specs.List.{flat_map, list_any}
 use Rattle.iscsi_wire.specs.declared.request.Request.{Request}
 use Rattle.iscsi_wire.specs.declared.reply.Reply.{Reply}
 use Rattle.iscsi_wire.specs.Fields.{request_of, is_immediate, cmd_sn}
-use Rattle.iscsi_history.specs.declared.effect.Effect.{Effect}
-use Rattle.iscsi_history.specs.declared.effect.Effect.TheVariants.{Send, Ignore}
-use Rattle.iscsi_history.specs.declared.entry.Entry.{Entry}
-use Rattle.iscsi_history.specs.declared.event.Event.{Event}
-use Rattle.iscsi_history.specs.declared.event.Event.TheVariants.{Arrive, Done}
-use Rattle.iscsi_history.specs.rules.Trace.{Trace}
-use Rattle.iscsi_history.specs.rules.Run.{after_event, entry_of}
-use Rattle.iscsi_history.specs.promises.Order.{in_parts}
+use Rattle.iscsi_rules.specs.declared.effect.Effect.{Effect}
+use Rattle.iscsi_rules.specs.declared.effect.Effect.TheVariants.{Send, Ignore}
+use Rattle.iscsi_rules.specs.declared.entry.Entry.{Entry}
+use Rattle.iscsi_rules.specs.declared.event.Event.{Event}
+use Rattle.iscsi_rules.specs.declared.event.Event.TheVariants.{Arrive, Done}
+use Rattle.iscsi_rules.specs.rules.Trace.{Trace}
+use Rattle.iscsi_rules.specs.rules.Run.{after_event, entry_of}
+use Rattle.iscsi_rules.specs.promises.Order.{in_parts}
 use Rattle.iscsi_outbox_rules.specs.declared.own_pdu.OwnPdu.{OwnPdu}
 use Rattle.iscsi_outbox_rules.specs.declared.own_pdu.OwnPdu.TheVariants.{OfCommand, OfConnection}
 use Rattle.iscsi_outbox_rules.specs.declared.own_pdu.PutRefusal.{PutRefusal}

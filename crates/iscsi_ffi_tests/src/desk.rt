@@ -2,8 +2,8 @@
 
 use iscsi_ffi_commands::Stage;
 use iscsi_ffi_desk::{Action, Desk, DeskOptions, StopReason};
-use iscsi_history::{Effect, Numbers};
 use iscsi_outbox::{Given, OutboxFault, OutboxOptions, OwnPdu, Pdu};
+use iscsi_rules::{Effect, Numbers};
 use iscsi_tasks::Attr;
 use iscsi_wire::{Reply, Request};
 use std::alloc::{AllocError, Global};

@@ -2,8 +2,8 @@
 
 use iscsi_ffi::{Answer, Next, PlainOptions, Side};
 use iscsi_ffi_desk::{Action, StopReason};
-use iscsi_history::Numbers;
 use iscsi_outbox::{OwnPdu, Pdu};
+use iscsi_rules::Numbers;
 use iscsi_tasks::Attr;
 use iscsi_wire::Reply;
 use std::alloc::Global;

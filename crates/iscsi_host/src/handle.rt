@@ -1,7 +1,7 @@
 //! The handle by which C and plain Rust keep a session.
 
 ghost use Rattle.std.specs.Prelude.{◌≡◌, ◌≢◌, List, [], ◌∷◌, ◌++◌, Option, Some, None, IfOk, is_some, option_map, length, take};
-ghost use Rattle.iscsi_history.specs.rules.Settings.{Setting, is_valid};
+ghost use Rattle.iscsi_rules.specs.rules.Settings.{Setting, is_valid};
 ghost use Rattle.iscsi_session.specs.promises.Refusals.{refusal_of};
 ghost use Rattle.iscsi_host.specs.Serving.{Serves, ServesIn, effects_in};
 ghost use Rattle.iscsi_host.specs.Answers.{answer_of, arrival_answer, closed_arrival_answer, closing_answer, answer_in, effect_in, written_over, numbers_in, MayRefuseAs, OpensAs};
@@ -14,7 +14,7 @@ use crate::answer::{Answer, answer_to};
 use crate::host::Host;
 use crate::options::{PlainConnection, PlainOptions, options_of};
 use crate::plain::{PlainEffect, PlainNumbers};
-use iscsi_history::Event;
+use iscsi_rules::Event;
 use iscsi_session::SessionFault;
 use owner::Owner;
 use parts::Parts;

@@ -1,7 +1,7 @@
 //! A session with the effects of its last event.
 
 ghost use Rattle.std.specs.Prelude.{◌≡◌, ◌+◌, ◌*◌, ℕ, List, [], ◌∷◌, ◌++◌, OnOk, OnErr, IfOk, Option, Some, None, true, is_some, option_map, unwrap_or, length, take, vec_capacity};
-ghost use Rattle.iscsi_history.specs.rules.Settings.{Setting, is_valid};
+ghost use Rattle.iscsi_rules.specs.rules.Settings.{Setting, is_valid};
 ghost use Rattle.iscsi_session.specs.promises.Settings.{setting_of};
 ghost use Rattle.iscsi_session.specs.promises.Refusals.{RefusesAs, refusal_of, refusal_of_options};
 ghost use Rattle.iscsi_session.specs.promises.Bounds.{most_effects};
@@ -9,7 +9,7 @@ ghost use Rattle.iscsi_host.specs.Serving.{Serves, fault_of};
 ghost use Rattle.iscsi_host.specs.Plain.{plain_at, executing as executing_in, last_executing, plain_numbers};
 
 use crate::plain::{PlainEffect, PlainNumbers, write_plain};
-use iscsi_history::{Effect, Event, Numbers};
+use iscsi_rules::{Effect, Event, Numbers};
 use iscsi_session::{Options, Session, SessionFault};
 use iscsi_wire::Request;
 use std::alloc::Global;

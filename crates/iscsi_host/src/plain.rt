@@ -4,7 +4,7 @@ ghost use Rattle.std.specs.Prelude.{◌≡◌, ◌++◌, None, option_map};
 ghost use Rattle.iscsi_wire.specs.Replies.{bytes_4, header_of};
 ghost use Rattle.iscsi_host.specs.Plain.{NO_HEADER, plain_of, request_form, number_form, command_form, enter_form, reply_form, attribute_code, reason_code};
 
-use iscsi_history::{Effect, Numbers, Why};
+use iscsi_rules::{Effect, Numbers, Why};
 use iscsi_tasks::Attr;
 use iscsi_wire::{Reply, Request};
 

@@ -1,8 +1,8 @@
 //! The lines of a report, of events and of the plain effects that the handle shows. Their form is that of
 //! `docs/FORMATS.md`; they are made here by themselves, so that nothing of a report comes from elsewhere.
 
-use iscsi_history::Event;
 use iscsi_host::PlainEffect;
+use iscsi_rules::Event;
 use std::alloc::AllocError;
 
 /// The kinds of a plain effect.

@@ -2,9 +2,9 @@
 
 use crate::halt::Halt;
 use crate::lines::{NOTHING, SEND, put_effect, put_event};
-use iscsi_history::Event;
 use iscsi_host::{Answer, Handle, PlainConnection, PlainEffect, PlainNumbers, PlainOptions};
 use iscsi_recording::{EventSource, Events, NO_EVENT, Recording, Watched, read_recording};
+use iscsi_rules::Event;
 use std::alloc::{AllocError, Global};
 
 /// Replays a recording twice by one handle, and appends its report. The handle is closed after the first time, and let go

@@ -4,20 +4,20 @@ use Rattle.std.specs.List.{list_any, list_all, flat_map, range_with_len}
 use Rattle.std.proofs.lemmas.Bool.Decides.{nat_tests}
 use Rattle.iscsi_wire.specs.Serial.{wire, lift, number_of_first}
 use Rattle.iscsi_wire.specs.Fields.{connection_of, is_immediate, opcode, attr_code, itt, rtt, cid, ref_cmd_sn}
-use Rattle.iscsi_history.specs.declared.deed.Answer.TheVariants.{Reject, Respond}
-use Rattle.iscsi_history.specs.declared.deed.Deed.{Deed}
-use Rattle.iscsi_history.specs.declared.deed.Deed.TheVariants.{Nothing, Wait as ToWait, Reply as Replies, Enter as EnterUnit, Void as VoidNumber, Empty as EmptyNumber, Abort, AbortEarlier, AbortAll, CloseConn as Closes, CloseSession as Ends}
-use Rattle.iscsi_history.specs.rules.Settings.{Setting, is_known}
-use Rattle.iscsi_history.specs.rules.Trace.{Arrival, Command, Mark, Executes, Voids, Empties, Waits, Leaves, Enters, ClosesConn, ClosesSession, Trace, first_of, contains, live, live_in, is_ended, is_closed}
-use Rattle.iscsi_history.specs.rules.Execution as Rules
-use Rattle.iscsi_history.specs.rules.Management as Functions
-use Rattle.iscsi_history.specs.rules.Logout as Logouts
-use Rattle.iscsi_history.specs.rules.Deeds as Deeds
-use Rattle.iscsi_history.specs.rules.Deeds.{Facts}
-use Rattle.iscsi_history.specs.rules.Items as Items
-use Rattle.iscsi_history.proofs.BoolLemmas.{and_first, and_second}
-use Rattle.iscsi_history.proofs.DeedTable.{Befits, befits_function, befits_deed}
-use Rattle.iscsi_history.proofs.Missing.{expected_low}
+use Rattle.iscsi_rules.specs.declared.deed.Answer.TheVariants.{Reject, Respond}
+use Rattle.iscsi_rules.specs.declared.deed.Deed.{Deed}
+use Rattle.iscsi_rules.specs.declared.deed.Deed.TheVariants.{Nothing, Wait as ToWait, Reply as Replies, Enter as EnterUnit, Void as VoidNumber, Empty as EmptyNumber, Abort, AbortEarlier, AbortAll, CloseConn as Closes, CloseSession as Ends}
+use Rattle.iscsi_rules.specs.rules.Settings.{Setting, is_known}
+use Rattle.iscsi_rules.specs.rules.Trace.{Arrival, Command, Mark, Executes, Voids, Empties, Waits, Leaves, Enters, ClosesConn, ClosesSession, Trace, first_of, contains, live, live_in, is_ended, is_closed}
+use Rattle.iscsi_rules.specs.rules.Execution as Rules
+use Rattle.iscsi_rules.specs.rules.Management as Functions
+use Rattle.iscsi_rules.specs.rules.Logout as Logouts
+use Rattle.iscsi_rules.specs.rules.Deeds as Deeds
+use Rattle.iscsi_rules.specs.rules.Deeds.{Facts}
+use Rattle.iscsi_rules.specs.rules.Items as Items
+use Rattle.iscsi_rules.proofs.BoolLemmas.{and_first, and_second}
+use Rattle.iscsi_rules.proofs.DeedTable.{Befits, befits_function, befits_deed}
+use Rattle.iscsi_rules.proofs.Missing.{expected_low}
 use Rattle.iscsi_machine.specs.Machine as Machine
 use Rattle.iscsi_machine.specs.Machine.{Member, State, after_mark}
 use Rattle.iscsi_machine.proofs.Ascending.{filter-same_in, filter-all_in, held_range, is_between}

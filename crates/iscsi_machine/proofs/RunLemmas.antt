@@ -7,26 +7,26 @@ use Rattle.iscsi_wire.specs.declared.reply.Reply.{Reply}
 use Rattle.iscsi_wire.specs.declared.reply.Reply.TheVariants.{Scsi, Task, Reject}
 use Rattle.iscsi_wire.specs.Serial.{wire, lift}
 use Rattle.iscsi_wire.specs.Fields.{request_of, connection_of, header_of, is_immediate, opcode, itt, cmd_sn}
-use Rattle.iscsi_history.specs.declared.effect.Why.TheVariants.{Outside, Duplicate, Closed, Data, Stale}
-use Rattle.iscsi_history.specs.declared.entry.Entry.{Entry}
-use Rattle.iscsi_history.specs.declared.event.Event.{Event}
-use Rattle.iscsi_history.specs.declared.event.Event.TheVariants.{Arrive, Done}
-use Rattle.iscsi_history.specs.declared.kind.Kind.{Kind}
-use Rattle.iscsi_history.specs.declared.kind.Kind.TheVariants.{PassedOver, Unknown, Executes as ExecutesKind}
-use Rattle.iscsi_history.specs.rules.Settings.{Setting}
-use Rattle.iscsi_history.specs.rules.Trace.{Arrival, Command, Mark, Admits, Delivers, Executes, Waits, Leaves, Ignores, Trace, after_items, first_of, contains, is_received, held, waiting, live, was_free, is_closed}
-use Rattle.iscsi_history.specs.rules.Execution.{exp_of, max_of, rejected, ignored, completion, reply_on, sense_of_status}
-use Rattle.iscsi_history.specs.rules.Management.{may_wait, refusal_of_function, MOST_WAITING, waiting_on}
-use Rattle.iscsi_history.specs.rules.Items as Items
-use Rattle.iscsi_history.specs.rules.Agenda as Agenda
-use Rattle.iscsi_history.specs.rules.Run as Rules
-use Rattle.iscsi_history.proofs.BoolLemmas.{or_none}
-use Rattle.iscsi_history.proofs.ElementLemmas.{in-filter, first-in}
-use Rattle.iscsi_history.proofs.TraceLemmas.{after_items-append}
-use Rattle.iscsi_history.proofs.HeldLemmas.{held-number, held_received}
-use Rattle.iscsi_history.proofs.Missing.{exp_item, expected_low}
-use Rattle.iscsi_history.proofs.Forms.{AtTurn, AtArrival, AfterWaiting}
-use Rattle.iscsi_history.proofs.FormItems.{does_function, does_after}
+use Rattle.iscsi_rules.specs.declared.effect.Why.TheVariants.{Outside, Duplicate, Closed, Data, Stale}
+use Rattle.iscsi_rules.specs.declared.entry.Entry.{Entry}
+use Rattle.iscsi_rules.specs.declared.event.Event.{Event}
+use Rattle.iscsi_rules.specs.declared.event.Event.TheVariants.{Arrive, Done}
+use Rattle.iscsi_rules.specs.declared.kind.Kind.{Kind}
+use Rattle.iscsi_rules.specs.declared.kind.Kind.TheVariants.{PassedOver, Unknown, Executes as ExecutesKind}
+use Rattle.iscsi_rules.specs.rules.Settings.{Setting}
+use Rattle.iscsi_rules.specs.rules.Trace.{Arrival, Command, Mark, Admits, Delivers, Executes, Waits, Leaves, Ignores, Trace, after_items, first_of, contains, is_received, held, waiting, live, was_free, is_closed}
+use Rattle.iscsi_rules.specs.rules.Execution.{exp_of, max_of, rejected, ignored, completion, reply_on, sense_of_status}
+use Rattle.iscsi_rules.specs.rules.Management.{may_wait, refusal_of_function, MOST_WAITING, waiting_on}
+use Rattle.iscsi_rules.specs.rules.Items as Items
+use Rattle.iscsi_rules.specs.rules.Agenda as Agenda
+use Rattle.iscsi_rules.specs.rules.Run as Rules
+use Rattle.iscsi_rules.proofs.BoolLemmas.{or_none}
+use Rattle.iscsi_rules.proofs.ElementLemmas.{in-filter, first-in}
+use Rattle.iscsi_rules.proofs.TraceLemmas.{after_items-append}
+use Rattle.iscsi_rules.proofs.HeldLemmas.{held-number, held_received}
+use Rattle.iscsi_rules.proofs.Missing.{exp_item, expected_low}
+use Rattle.iscsi_rules.proofs.Forms.{AtTurn, AtArrival, AfterWaiting}
+use Rattle.iscsi_rules.proofs.FormItems.{does_function, does_after}
 use Rattle.iscsi_machine.specs.Machine as Machine
 use Rattle.iscsi_machine.specs.Machine.{Member, State, Stage, does, start, machine_run}
 use Rattle.iscsi_machine.proofs.ItemLemmas.{AllAllowed, members_of, Fits, Leads, item_leads}

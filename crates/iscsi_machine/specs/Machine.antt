@@ -6,24 +6,24 @@ use Rattle.iscsi_wire.specs.declared.reply.Reply.TheVariants.{Scsi}
 use Rattle.iscsi_wire.specs.Serial.{wire, lift, number_of_first}
 use Rattle.iscsi_wire.specs.Fields.{request_of, connection_of, is_immediate, opcode, attr_code, itt, rtt, cid, cmd_sn, ref_cmd_sn}
 use Rattle.iscsi_tasks.specs.Rules.{is_free}
-use Rattle.iscsi_history.specs.declared.deed.Deed.{Deed}
-use Rattle.iscsi_history.specs.declared.deed.Deed.TheVariants.{Nothing, Wait as ToWait, Reply as Replies, Enter as EnterUnit, Void as VoidNumber, Empty as EmptyNumber, Abort, AbortEarlier, AbortAll, CloseConn as Closes, CloseSession as Ends}
-use Rattle.iscsi_history.specs.declared.effect.Effect.{Effect}
-use Rattle.iscsi_history.specs.declared.effect.Effect.TheVariants.{Deliver, Immediate, Wait, Void, Empty, Enter, Enable, Leave, Send, CloseConn, CloseSession, Ignore}
-use Rattle.iscsi_history.specs.declared.effect.Why.TheVariants.{Outside, Duplicate, Closed, Data, Stale}
-use Rattle.iscsi_history.specs.declared.entry.Entry.{Entry}
-use Rattle.iscsi_history.specs.declared.event.Event.{Event}
-use Rattle.iscsi_history.specs.declared.event.Event.TheVariants.{Arrive, Done}
-use Rattle.iscsi_history.specs.declared.kind.Kind.{Kind}
-use Rattle.iscsi_history.specs.declared.kind.Kind.TheVariants.{PassedOver, Unknown, Executes as ExecutesKind}
-use Rattle.iscsi_history.specs.rules.Settings.{Setting, is_known}
-use Rattle.iscsi_history.specs.rules.Trace.{Arrival, Command, Mark, Admits, Delivers, Executes, Voids, Empties, Waits, Leaves, Enters, Sends, ClosesConn, ClosesSession, Ignores, first_of, contains, queued_of}
-use Rattle.iscsi_history.specs.rules.Execution.{MOST_IMMEDIATE, attr_of, unit_named, reply_of, reply_on, rejected, sense_of_status}
-use Rattle.iscsi_history.specs.rules.Management.{may_wait, refusal_of_function, by_its_number, answer, is_to, is_before}
-use Rattle.iscsi_history.specs.rules.Logout.{parting}
-use Rattle.iscsi_history.specs.rules.Deeds.{Facts, of_unit, if_found, function_deed, deed_of}
-use Rattle.iscsi_history.specs.rules.Agenda.{kind_of}
-use Rattle.iscsi_history.specs.rules.Run.{first_stat_sn}
+use Rattle.iscsi_rules.specs.declared.deed.Deed.{Deed}
+use Rattle.iscsi_rules.specs.declared.deed.Deed.TheVariants.{Nothing, Wait as ToWait, Reply as Replies, Enter as EnterUnit, Void as VoidNumber, Empty as EmptyNumber, Abort, AbortEarlier, AbortAll, CloseConn as Closes, CloseSession as Ends}
+use Rattle.iscsi_rules.specs.declared.effect.Effect.{Effect}
+use Rattle.iscsi_rules.specs.declared.effect.Effect.TheVariants.{Deliver, Immediate, Wait, Void, Empty, Enter, Enable, Leave, Send, CloseConn, CloseSession, Ignore}
+use Rattle.iscsi_rules.specs.declared.effect.Why.TheVariants.{Outside, Duplicate, Closed, Data, Stale}
+use Rattle.iscsi_rules.specs.declared.entry.Entry.{Entry}
+use Rattle.iscsi_rules.specs.declared.event.Event.{Event}
+use Rattle.iscsi_rules.specs.declared.event.Event.TheVariants.{Arrive, Done}
+use Rattle.iscsi_rules.specs.declared.kind.Kind.{Kind}
+use Rattle.iscsi_rules.specs.declared.kind.Kind.TheVariants.{PassedOver, Unknown, Executes as ExecutesKind}
+use Rattle.iscsi_rules.specs.rules.Settings.{Setting, is_known}
+use Rattle.iscsi_rules.specs.rules.Trace.{Arrival, Command, Mark, Admits, Delivers, Executes, Voids, Empties, Waits, Leaves, Enters, Sends, ClosesConn, ClosesSession, Ignores, first_of, contains, queued_of}
+use Rattle.iscsi_rules.specs.rules.Execution.{MOST_IMMEDIATE, attr_of, unit_named, reply_of, reply_on, rejected, sense_of_status}
+use Rattle.iscsi_rules.specs.rules.Management.{may_wait, refusal_of_function, by_its_number, answer, is_to, is_before}
+use Rattle.iscsi_rules.specs.rules.Logout.{parting}
+use Rattle.iscsi_rules.specs.rules.Deeds.{Facts, of_unit, if_found, function_deed, deed_of}
+use Rattle.iscsi_rules.specs.rules.Agenda.{kind_of}
+use Rattle.iscsi_rules.specs.rules.Run.{first_stat_sn}
 
 -- ---- the state
 

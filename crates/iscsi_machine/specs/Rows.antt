@@ -4,10 +4,10 @@ use Rattle.iscsi_wire.specs.declared.reply.Reply.TheVariants.{Task, Logout, Nop}
 use Rattle.iscsi_wire.specs.Fields.{request_of}
 use Rattle.iscsi_tasks.specs.declared.task.Attr.TheVariants.{Simple, Ordered}
 use Rattle.iscsi_tasks.specs.Rules as Rules
-use Rattle.iscsi_history.specs.declared.effect.Effect.TheVariants.{Deliver, Immediate, Void, Empty, Enter, Leave, Send, CloseConn, CloseSession}
-use Rattle.iscsi_history.specs.declared.effect.Why.TheVariants.{Duplicate, Closed}
-use Rattle.iscsi_history.specs.rules.Settings.{Setting}
-use Rattle.iscsi_history.specs.examples.Rows.{Row, command, command_now, command_to, nop, function_now, logout_now, setting, of_two, turn, at_once, is_held, waits, is_ignored, entered}
+use Rattle.iscsi_rules.specs.declared.effect.Effect.TheVariants.{Deliver, Immediate, Void, Empty, Enter, Leave, Send, CloseConn, CloseSession}
+use Rattle.iscsi_rules.specs.declared.effect.Why.TheVariants.{Duplicate, Closed}
+use Rattle.iscsi_rules.specs.rules.Settings.{Setting}
+use Rattle.iscsi_rules.specs.examples.Rows.{Row, command, command_now, command_to, nop, function_now, logout_now, setting, of_two, turn, at_once, is_held, waits, is_ignored, entered}
 use Rattle.iscsi_machine.specs.Machine.{machine_run}
 
 -- with these options the machine gives for these events these entries

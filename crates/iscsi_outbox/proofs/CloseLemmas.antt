@@ -10,8 +10,8 @@ use Rattle.std.proofs.Math.ListN.{drop_of_length-le}
 use Rattle.std.proofs.Math.Seq.{drop-cons}
 use Rattle.iscsi_wire.specs.declared.request.Request.{Request}
 use Rattle.iscsi_wire.specs.Fields.{connection_of}
-use Rattle.iscsi_history.specs.declared.effect.Effect.{Effect}
-use Rattle.iscsi_history.specs.declared.effect.Effect.TheVariants.{Deliver, Immediate, Wait, Void, Empty, Enter, Enable, Leave, Send, CloseConn, CloseSession, Ignore}
+use Rattle.iscsi_rules.specs.declared.effect.Effect.{Effect}
+use Rattle.iscsi_rules.specs.declared.effect.Effect.TheVariants.{Deliver, Immediate, Wait, Void, Empty, Enter, Enable, Leave, Send, CloseConn, CloseSession, Ignore}
 use Rattle.iscsi_arrivals.specs.Counts.{Counts, new_counts}
 use Rattle.iscsi_outbox_steps.specs.State.{Limits, State, link_at, place_of}
 use Rattle.iscsi_outbox_steps.specs.Steps.{as_list, close, close_each, close_itself, close_one, close_other, closed_by, closed_in, counted_from, newly_closed}

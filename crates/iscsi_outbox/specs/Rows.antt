@@ -1,6 +1,6 @@
 -- Worked lists of what a host does, computed: what it hears, and of which connections it was told.
 use Rattle.std.specs.Prelude.{◌≡◌, ℕ, true, false, List, [], ◌∷◌, map, refl}
-use Rattle.iscsi_history.specs.examples.Rows.{of_two}
+use Rattle.iscsi_rules.specs.examples.Rows.{of_two}
 use Rattle.iscsi_outbox_rules.specs.rules.Calls.{Opening, Joins, Loses, Nexts, Puts}
 use Rattle.iscsi_outbox_rules.specs.examples.Rows.{message, outbox}
 use Rattle.iscsi_outbox.specs.Told.{Act, Does, Asks, GaveNothing, Heard, Hosted, IsReady, after_act, heard_at, heard_from, hosted, was_told}

@@ -1,6 +1,6 @@
 -- No lost word: what a host was told, by all that it did with an outbox and its writers.
 use Rattle.std.specs.Prelude.{◌≡◌, ℕ, ◌==◌, ◌&&◌, ◌||◌, not, Bool, true, false, List, [], ◌∷◌, ◌++◌, length, option_map, replicate, Option, Some, None, if◌then◌else◌}
-use Rattle.iscsi_history.specs.rules.Settings.{are_distinct}
+use Rattle.iscsi_rules.specs.rules.Settings.{are_distinct}
 use Rattle.iscsi_outbox_rules.specs.rules.Calls.{Opening, Call, Nexts}
 use Rattle.iscsi_outbox_steps.specs.State.{State}
 use Rattle.iscsi_outbox_steps.specs.Steps.{given}

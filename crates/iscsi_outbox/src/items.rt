@@ -2,13 +2,13 @@
 
 ghost use Rattle.std.specs.Prelude.{◌≡◌, filter_map};
 ghost use Rattle.std.specs.List.{list_any};
-ghost use Rattle.iscsi_history.specs.promises.Closes.{is_session_close};
-ghost use Rattle.iscsi_history.specs.promises.Order.{is_request};
-ghost use Rattle.iscsi_history.specs.rules.Trace.{first_of};
+ghost use Rattle.iscsi_rules.specs.promises.Closes.{is_session_close};
+ghost use Rattle.iscsi_rules.specs.promises.Order.{is_request};
+ghost use Rattle.iscsi_rules.specs.rules.Trace.{first_of};
 ghost use Rattle.iscsi_outbox_rules.specs.rules.Items.{executing, reply_sent};
 ghost use Rattle.iscsi_outbox.specs.Walks.{is_close};
 
-use iscsi_history::Effect;
+use iscsi_rules::Effect;
 use iscsi_wire::{Reply, Request};
 
 /// Whether a request executes, or is set to wait: an item begins.

@@ -1,6 +1,6 @@
 -- What follows a session is answered alike by the steps and the rules.
 use Rattle.std.proofs.Common.{◌≡◌, true, List}
-use Rattle.iscsi_history.specs.rules.Settings.{are_distinct}
+use Rattle.iscsi_rules.specs.rules.Settings.{are_distinct}
 use Rattle.iscsi_outbox_rules.specs.promises.Room.{HasRoom}
 use Rattle.iscsi_outbox_rules.specs.promises.Deeds.{FollowsKnown}
 use Rattle.iscsi_outbox_rules.specs.rules.Calls.{Opening, Call}

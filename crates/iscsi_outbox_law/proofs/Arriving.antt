@@ -3,7 +3,7 @@
 use Rattle.std.proofs.Common.{◌≡◌, ℕ, ◌+◌, ◌-◌, cond, max, nat_lt, true, false, length, drop, refl, ap, sym, subst, ◌∙◌, arith}
 use Rattle.std.specs.List.{list_any}
 use Rattle.std.proofs.lemmas.List.{drop-drop}
-use Rattle.iscsi_history.specs.rules.Settings.{are_distinct}
+use Rattle.iscsi_rules.specs.rules.Settings.{are_distinct}
 use Rattle.iscsi_arrivals.specs.Counts.{heard_by, written_by}
 use Rattle.iscsi_arrivals.proofs.HeardLemmas.{stands_heard}
 use Rattle.iscsi_outbox_rules.specs.rules.Calls.{Opening}

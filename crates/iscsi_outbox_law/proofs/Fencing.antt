@@ -3,7 +3,7 @@ use Rattle.std.proofs.Common.{◌≡◌, ℕ, zero, suc, ◌+◌, ◌<◌, ◌==
 use Rattle.std.specs.List.{list_any}
 use Rattle.std.proofs.lemmas.Bool.{or_parts}
 use Rattle.std.proofs.lemmas.List.Sums.{sum_by-cons}
-use Rattle.iscsi_history.specs.rules.Settings.{are_distinct}
+use Rattle.iscsi_rules.specs.rules.Settings.{are_distinct}
 use Rattle.iscsi_arrivals.specs.declared.stamp.Stamp.{Stamp}
 use Rattle.iscsi_arrivals.specs.Counts.{Counts, has_arrived_by, is_busy_by, is_open_by}
 use Rattle.iscsi_arrivals.specs.Standing.{StandsFor}

@@ -3,7 +3,7 @@ use Rattle.std.proofs.Common.{◌≡◌, ℕ, ◌<◌, ◌==◌, ◌&&◌, ◌||
 use Rattle.std.specs.List.{list_all, list_any}
 use Rattle.std.proofs.lemmas.List.{set-get_or}
 use Rattle.iscsi_wire.specs.Serial.{wire}
-use Rattle.iscsi_history.specs.rules.Settings.{are_distinct}
+use Rattle.iscsi_rules.specs.rules.Settings.{are_distinct}
 use Rattle.iscsi_arrivals.specs.Counts.{is_open_by, new_counts, tag_of_ping}
 use Rattle.iscsi_arrivals.specs.Standing.{StandsFor}
 use Rattle.iscsi_arrivals.proofs.StandingLemmas.{open_is}

@@ -1,6 +1,6 @@
 -- Something is written on a connection, or a header arrives there: the state after it.
 use Rattle.std.proofs.Common.{◌≡◌, ℕ, ◌-◌, ◌<◌, ◌^◌, length, set, count_by, true, Option, Some, None, refl, ap, sym, subst, arith}
-use Rattle.iscsi_history.specs.rules.Settings.{are_distinct}
+use Rattle.iscsi_rules.specs.rules.Settings.{are_distinct}
 use Rattle.iscsi_arrivals.specs.Counts.{Counts, heard_by, written_by}
 use Rattle.iscsi_outbox_rules.specs.promises.Room.{Fits}
 use Rattle.iscsi_outbox_rules.specs.rules.Calls.{Opening}

@@ -4,7 +4,7 @@ use Rattle.std.specs.List.{list_any}
 use Rattle.std.proofs.lemmas.Bool.{and_parts, not-true}
 use Rattle.std.proofs.lemmas.List.{drop_all, set-get_or}
 use Rattle.iscsi_wire.specs.Serial.{number_of_first}
-use Rattle.iscsi_history.specs.rules.Settings.{are_distinct}
+use Rattle.iscsi_rules.specs.rules.Settings.{are_distinct}
 use Rattle.iscsi_arrivals.specs.Counts.{Counts, may_join_by, joined_by, new_counts}
 use Rattle.iscsi_arrivals.specs.Standing.{StandsFor, may_join_now}
 use Rattle.iscsi_outbox_rules.specs.rules.Calls.{Opening}

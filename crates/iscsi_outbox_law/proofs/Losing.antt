@@ -1,7 +1,7 @@
 -- The transport of a connection is gone: the state after it.
 use Rattle.std.proofs.Common.{◌≡◌, ℕ, ◌+◌, ◌-◌, ◌<◌, ◌≤◌, ◌==◌, ◌^◌, not, cond, Bool, true, false, List, [], ◌∷◌, ◌++◌, length, filter, set, Option, Some, None, refl, ap, sym, subst, ◌∙◌, arith, eq-eqb, ne_eqb}
 use Rattle.std.proofs.lemmas.Bool.{eqb-true, false≢true}
-use Rattle.iscsi_history.specs.rules.Settings.{are_distinct}
+use Rattle.iscsi_rules.specs.rules.Settings.{are_distinct}
 use Rattle.iscsi_arrivals.specs.Standing.{StandsFor}
 use Rattle.iscsi_outbox_rules.specs.rules.Calls.{Opening}
 use Rattle.iscsi_outbox_rules.specs.rules.Boxes.{Answer, Link, Box}

@@ -4,8 +4,8 @@ use Rattle.std.specs.List.{list_any, position_or_len}
 use Rattle.std.proofs.lemmas.Bool.{cases_eq, cases_lt, eq-eqb, eqb-true, eqb-false, or_parts, false≢true}
 use Rattle.std.proofs.lemmas.List.{get_or-map, length-map}
 use Rattle.std.proofs.lemmas.List.Quantifiers.{position-Some}
-use Rattle.iscsi_history.specs.rules.Settings.{are_distinct, is_known}
-use Rattle.iscsi_history.specs.rules.Trace.{first_of}
+use Rattle.iscsi_rules.specs.rules.Settings.{are_distinct, is_known}
+use Rattle.iscsi_rules.specs.rules.Trace.{first_of}
 use Rattle.iscsi_outbox_rules.specs.rules.Boxes.{Link}
 use Rattle.iscsi_outbox_rules.specs.rules.Queues.{at_link}
 use Rattle.iscsi_outbox_rules.specs.rules.Run.{new_link}

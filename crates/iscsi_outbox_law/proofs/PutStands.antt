@@ -1,7 +1,7 @@
 -- Whether a PDU of the target's own is taken, and the state after it.
 use Rattle.std.proofs.Common.{◌≡◌, ℕ, ◌-◌, ◌<◌, ◌^◌, ◌⊎◌, inl, inr, ⊎_elim, not, cond, Bool, true, false, Option, Some, None, refl, ap, sym, subst, ◌∙◌, arith, lt-ltb}
 use Rattle.std.proofs.lemmas.Bool.{leb-false}
-use Rattle.iscsi_history.specs.rules.Settings.{are_distinct}
+use Rattle.iscsi_rules.specs.rules.Settings.{are_distinct}
 use Rattle.iscsi_arrivals.specs.Counts.{is_usable_by}
 use Rattle.iscsi_outbox_rules.specs.promises.Room.{Fits}
 use Rattle.iscsi_outbox_rules.specs.declared.own_pdu.OwnPdu.{OwnPdu}

@@ -3,8 +3,8 @@ use Rattle.std.proofs.Common.{◌≡◌, ℕ, zero, suc, ◌+◌, ◌*◌, ◌<�
 use Rattle.std.specs.List.{find, list_any}
 use Rattle.std.proofs.lemmas.Bool.{and_from, and_parts, eq-eqb, eqb-true, or_parts, true≢false}
 use Rattle.std.proofs.lemmas.List.Sums.{sum_by-cons}
-use Rattle.iscsi_history.specs.rules.Settings.{are_distinct}
-use Rattle.iscsi_history.specs.rules.Trace.{first_of}
+use Rattle.iscsi_rules.specs.rules.Settings.{are_distinct}
+use Rattle.iscsi_rules.specs.rules.Trace.{first_of}
 use Rattle.iscsi_arrivals.proofs.SinceLemmas.{usable_is}
 use Rattle.iscsi_outbox_rules.specs.declared.own_pdu.PutRefusal.{PutRefusal}
 use Rattle.iscsi_outbox_rules.specs.declared.own_pdu.PutRefusal.TheVariants.{Closed, Full}

@@ -6,19 +6,19 @@ use Rattle.std.proofs.lemmas.List.{append_assoc}
 use Rattle.std.proofs.lemmas.List.Elements.{filter_map-append}
 use Rattle.iscsi_wire.specs.declared.request.Request.{Request}
 use Rattle.iscsi_wire.specs.Fields.{connection_of}
-use Rattle.iscsi_history.specs.declared.effect.Effect.{Effect}
-use Rattle.iscsi_history.specs.declared.effect.Effect.TheVariants.{Enable}
-use Rattle.iscsi_history.specs.rules.Settings.{Setting}
-use Rattle.iscsi_history.specs.rules.Trace.{Arrival, Command, Mark, Admits, Delivers, Executes, Voids, Empties, Waits, Leaves, Enters, Sends, ClosesConn, ClosesSession, Ignores, Trace, enters, entered, live, is_among}
-use Rattle.iscsi_history.specs.rules.Run.{effects_of_mark, newly_enabled, effects_of_item}
-use Rattle.iscsi_history.specs.promises.Replies.{executed_in}
-use Rattle.iscsi_history.proofs.AbortMarks.{none_viewed}
-use Rattle.iscsi_history.proofs.CloseLemmas.{is_at}
-use Rattle.iscsi_history.proofs.ElementLemmas.{In as InList}
-use Rattle.iscsi_history.proofs.Forms.{Start, AtTurn, AtArrival, AfterWaiting, start_mark, Deeds, if_some, marks_done, Form, Ignored, Rejected, Received, Postponed, Completed, Executed, marks_of_form, IsFormed}
-use Rattle.iscsi_history.proofs.LifeLemmas.{among-mine, mine-none_counted}
-use Rattle.iscsi_history.proofs.NumberingLemmas.{to_list, unseen, passed}
-use Rattle.iscsi_history.proofs.TouchLemmas.{leaving_in, leaving_few}
+use Rattle.iscsi_rules.specs.declared.effect.Effect.{Effect}
+use Rattle.iscsi_rules.specs.declared.effect.Effect.TheVariants.{Enable}
+use Rattle.iscsi_rules.specs.rules.Settings.{Setting}
+use Rattle.iscsi_rules.specs.rules.Trace.{Arrival, Command, Mark, Admits, Delivers, Executes, Voids, Empties, Waits, Leaves, Enters, Sends, ClosesConn, ClosesSession, Ignores, Trace, enters, entered, live, is_among}
+use Rattle.iscsi_rules.specs.rules.Run.{effects_of_mark, newly_enabled, effects_of_item}
+use Rattle.iscsi_rules.specs.promises.Replies.{executed_in}
+use Rattle.iscsi_rules.proofs.AbortMarks.{none_viewed}
+use Rattle.iscsi_rules.proofs.CloseLemmas.{is_at}
+use Rattle.iscsi_rules.proofs.ElementLemmas.{In as InList}
+use Rattle.iscsi_rules.proofs.Forms.{Start, AtTurn, AtArrival, AfterWaiting, start_mark, Deeds, if_some, marks_done, Form, Ignored, Rejected, Received, Postponed, Completed, Executed, marks_of_form, IsFormed}
+use Rattle.iscsi_rules.proofs.LifeLemmas.{among-mine, mine-none_counted}
+use Rattle.iscsi_rules.proofs.NumberingLemmas.{to_list, unseen, passed}
+use Rattle.iscsi_rules.proofs.TouchLemmas.{leaving_in, leaving_few}
 use Rattle.iscsi_outbox_rules.specs.rules.Boxes.{Task, Box}
 use Rattle.iscsi_outbox_rules.specs.rules.Words.{contains, is_live_phase}
 use Rattle.iscsi_outbox_rules.specs.rules.Items.{executing}

@@ -7,20 +7,20 @@ use Rattle.iscsi_wire.specs.declared.reply.Reply.{Reply}
 use Rattle.iscsi_wire.specs.declared.reply.Reply.TheVariants.{Scsi, Task as TaskReply, Logout, Nop, Reject}
 use Rattle.iscsi_wire.specs.declared.request.Request.{Request}
 use Rattle.iscsi_wire.specs.Fields.{connection_of, opcode, function, rtt}
-use Rattle.iscsi_history.specs.declared.effect.Effect.{Effect}
-use Rattle.iscsi_history.specs.declared.effect.Effect.TheVariants.{Deliver, Immediate, Wait, Void, Empty, Enter, Enable, Leave, Send, CloseConn, CloseSession, Ignore}
-use Rattle.iscsi_history.specs.rules.Settings.{is_known}
-use Rattle.iscsi_history.specs.rules.Trace.{Arrival, Command, Mark, Admits, Delivers, Executes, Voids, Empties, Waits, Leaves, Enters, Sends, ClosesConn, ClosesSession, Ignores, Trace, first_of, enters, entered, has, leaves_ticket, live, is_among, is_closed}
-use Rattle.iscsi_history.specs.rules.Execution.{unit_named}
-use Rattle.iscsi_history.specs.rules.Logout.{is_open}
-use Rattle.iscsi_history.specs.rules.Run.{newly_enabled, effects_of_item}
-use Rattle.iscsi_history.specs.promises.Replies.{executed_in}
-use Rattle.iscsi_history.proofs.CloseLemmas.{is_at, Sound}
-use Rattle.iscsi_history.proofs.ElementLemmas.{in-filter}
-use Rattle.iscsi_history.proofs.Forms.{AtTurn, AtArrival, AfterWaiting, Deeds, Form, Ignored, Rejected, Received, Postponed, Completed, Executed, marks_of_form, Each, EntersAs, IsFormed, HasForm, HaveForms}
-use Rattle.iscsi_history.proofs.LifeLemmas.{tickets_count}
-use Rattle.iscsi_history.proofs.NumberingLemmas.{to_list}
-use Rattle.iscsi_history.proofs.TouchLemmas.{leaving_in, entering_in, enters_form, leaves_form, EntersNext, entering_next}
+use Rattle.iscsi_rules.specs.declared.effect.Effect.{Effect}
+use Rattle.iscsi_rules.specs.declared.effect.Effect.TheVariants.{Deliver, Immediate, Wait, Void, Empty, Enter, Enable, Leave, Send, CloseConn, CloseSession, Ignore}
+use Rattle.iscsi_rules.specs.rules.Settings.{is_known}
+use Rattle.iscsi_rules.specs.rules.Trace.{Arrival, Command, Mark, Admits, Delivers, Executes, Voids, Empties, Waits, Leaves, Enters, Sends, ClosesConn, ClosesSession, Ignores, Trace, first_of, enters, entered, has, leaves_ticket, live, is_among, is_closed}
+use Rattle.iscsi_rules.specs.rules.Execution.{unit_named}
+use Rattle.iscsi_rules.specs.rules.Logout.{is_open}
+use Rattle.iscsi_rules.specs.rules.Run.{newly_enabled, effects_of_item}
+use Rattle.iscsi_rules.specs.promises.Replies.{executed_in}
+use Rattle.iscsi_rules.proofs.CloseLemmas.{is_at, Sound}
+use Rattle.iscsi_rules.proofs.ElementLemmas.{in-filter}
+use Rattle.iscsi_rules.proofs.Forms.{AtTurn, AtArrival, AfterWaiting, Deeds, Form, Ignored, Rejected, Received, Postponed, Completed, Executed, marks_of_form, Each, EntersAs, IsFormed, HasForm, HaveForms}
+use Rattle.iscsi_rules.proofs.LifeLemmas.{tickets_count}
+use Rattle.iscsi_rules.proofs.NumberingLemmas.{to_list}
+use Rattle.iscsi_rules.proofs.TouchLemmas.{leaving_in, entering_in, enters_form, leaves_form, EntersNext, entering_next}
 use Rattle.iscsi_outbox_rules.specs.rules.Calls.{Opening}
 use Rattle.iscsi_outbox_rules.specs.rules.Boxes.{Task, Aim, AtTag, AtUnit, AtConns, Box}
 use Rattle.iscsi_outbox_rules.specs.rules.Words.{contains}

@@ -9,25 +9,25 @@ use Rattle.iscsi_wire.specs.declared.reply.Reply.{Reply}
 use Rattle.iscsi_wire.specs.declared.reply.Reply.TheVariants.{Task, Logout, Reject}
 use Rattle.iscsi_wire.specs.Serial.{lift}
 use Rattle.iscsi_wire.specs.Fields.{connection_of, header_of, is_immediate, opcode, itt, rtt, ref_cmd_sn, request_of}
-use Rattle.iscsi_history.specs.declared.effect.Why.TheVariants.{Outside, Duplicate, Closed, Data, Stale}
-use Rattle.iscsi_history.specs.declared.event.Event.{Event}
-use Rattle.iscsi_history.specs.declared.event.Event.TheVariants.{Arrive, Done}
-use Rattle.iscsi_history.specs.declared.kind.Kind.{Kind}
-use Rattle.iscsi_history.specs.declared.kind.Kind.TheVariants.{PassedOver, Unknown, Executes as ExecutesKind}
-use Rattle.iscsi_history.specs.declared.deed.Answer.{Answer}
-use Rattle.iscsi_history.specs.declared.deed.Answer.TheVariants.{Reject, Pong, LogOut}
-use Rattle.iscsi_history.specs.declared.deed.Deed.TheVariants.{Reply as Replies, Enter, Void}
-use Rattle.iscsi_history.specs.rules.Settings.{Setting}
-use Rattle.iscsi_history.specs.rules.Trace.{Arrival, Command, Mark, Admits, Delivers, Executes, Voids, Empties, Waits, Leaves, ClosesConn, ClosesSession, Ignores, Trace, after_items, first_of, is_received, held, waiting, live_in, is_closed}
-use Rattle.iscsi_history.specs.rules.Execution.{exp_of, max_of, reply_on, ignored, completion, reply_of}
-use Rattle.iscsi_history.specs.rules.Deeds.{Facts, function_deed, deed_of, facts_of, if_found, deed_marks, marks_after, function_marks}
-use Rattle.iscsi_history.specs.rules.Management.{may_wait, refusal_of_function, MOST_WAITING, waiting_on, answer, held_command, live_with_tag, is_before, abort_all, refusal}
-use Rattle.iscsi_history.specs.rules.Logout.{is_last_open, live_of_units, all_held, taken_out, parting, end_session, close_conn}
-use Rattle.iscsi_history.specs.rules.Items.{execution, item_of, waiting_item, immediate_item, function_item, is_waiting, functions, functions_at, turn_at, at_number, agenda}
-use Rattle.iscsi_history.specs.rules.Agenda.{with_turns, numbered, kind_of, arrival_as, arrival_open, arrival, arrival_of, command_of, items_of}
-use Rattle.iscsi_history.specs.promises.Replies.{executed_in}
-use Rattle.iscsi_history.proofs.AbortMarks.{none_mapped, none_viewed}
-use Rattle.iscsi_history.proofs.DeedTable.{with_answers, through_deed, is_parting, refused_plainly}
+use Rattle.iscsi_rules.specs.declared.effect.Why.TheVariants.{Outside, Duplicate, Closed, Data, Stale}
+use Rattle.iscsi_rules.specs.declared.event.Event.{Event}
+use Rattle.iscsi_rules.specs.declared.event.Event.TheVariants.{Arrive, Done}
+use Rattle.iscsi_rules.specs.declared.kind.Kind.{Kind}
+use Rattle.iscsi_rules.specs.declared.kind.Kind.TheVariants.{PassedOver, Unknown, Executes as ExecutesKind}
+use Rattle.iscsi_rules.specs.declared.deed.Answer.{Answer}
+use Rattle.iscsi_rules.specs.declared.deed.Answer.TheVariants.{Reject, Pong, LogOut}
+use Rattle.iscsi_rules.specs.declared.deed.Deed.TheVariants.{Reply as Replies, Enter, Void}
+use Rattle.iscsi_rules.specs.rules.Settings.{Setting}
+use Rattle.iscsi_rules.specs.rules.Trace.{Arrival, Command, Mark, Admits, Delivers, Executes, Voids, Empties, Waits, Leaves, ClosesConn, ClosesSession, Ignores, Trace, after_items, first_of, is_received, held, waiting, live_in, is_closed}
+use Rattle.iscsi_rules.specs.rules.Execution.{exp_of, max_of, reply_on, ignored, completion, reply_of}
+use Rattle.iscsi_rules.specs.rules.Deeds.{Facts, function_deed, deed_of, facts_of, if_found, deed_marks, marks_after, function_marks}
+use Rattle.iscsi_rules.specs.rules.Management.{may_wait, refusal_of_function, MOST_WAITING, waiting_on, answer, held_command, live_with_tag, is_before, abort_all, refusal}
+use Rattle.iscsi_rules.specs.rules.Logout.{is_last_open, live_of_units, all_held, taken_out, parting, end_session, close_conn}
+use Rattle.iscsi_rules.specs.rules.Items.{execution, item_of, waiting_item, immediate_item, function_item, is_waiting, functions, functions_at, turn_at, at_number, agenda}
+use Rattle.iscsi_rules.specs.rules.Agenda.{with_turns, numbered, kind_of, arrival_as, arrival_open, arrival, arrival_of, command_of, items_of}
+use Rattle.iscsi_rules.specs.promises.Replies.{executed_in}
+use Rattle.iscsi_rules.proofs.AbortMarks.{none_mapped, none_viewed}
+use Rattle.iscsi_rules.proofs.DeedTable.{with_answers, through_deed, is_parting, refused_plainly}
 use Rattle.iscsi_outbox_rules.proofs.ClosedItems.{send_of, some_pair}
 use Rattle.iscsi_outbox_law.specs.Pairs.{EachOf}
 use Rattle.iscsi_outbox_law.proofs.PairLemmas.{each-append}

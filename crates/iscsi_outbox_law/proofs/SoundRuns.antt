@@ -3,19 +3,19 @@
 use Rattle.std.proofs.Common.{◌≡◌, ℕ, ◌+◌, cond, Bool, true, false, List, [], ◌∷◌, ◌++◌, map, filter, filter_map, Some, None, refl, ap, sym, subst, ◌∙◌, arith, ⊎_elim}
 use Rattle.std.specs.List.{list_all, flat_map}
 use Rattle.std.proofs.lemmas.Bool.{and_parts, cond_both}
-use Rattle.iscsi_history.specs.declared.effect.Effect.{Effect}
-use Rattle.iscsi_history.specs.declared.effect.Numbers.{Numbers}
-use Rattle.iscsi_history.specs.declared.entry.Entry.{Entry}
-use Rattle.iscsi_history.specs.declared.event.Event.{Event}
-use Rattle.iscsi_history.specs.rules.Settings.{are_distinct}
-use Rattle.iscsi_history.specs.rules.Trace.{Mark, Trace, after_items as after_marks, first_of}
-use Rattle.iscsi_history.specs.rules.Agenda.{belongs, items_of}
-use Rattle.iscsi_history.specs.rules.Run.{after_event as after_session_event, effects_of, effects_of_item, entries_from, entry_of}
-use Rattle.iscsi_history.specs.promises.Order.{in_parts}
-use Rattle.iscsi_history.proofs.CloseLemmas.{Sound}
-use Rattle.iscsi_history.proofs.CloseRuns.{Sounds, event_sound}
-use Rattle.iscsi_history.proofs.Forms.{HaveForms}
-use Rattle.iscsi_history.proofs.FormRuns.{event_going}
+use Rattle.iscsi_rules.specs.declared.effect.Effect.{Effect}
+use Rattle.iscsi_rules.specs.declared.effect.Numbers.{Numbers}
+use Rattle.iscsi_rules.specs.declared.entry.Entry.{Entry}
+use Rattle.iscsi_rules.specs.declared.event.Event.{Event}
+use Rattle.iscsi_rules.specs.rules.Settings.{are_distinct}
+use Rattle.iscsi_rules.specs.rules.Trace.{Mark, Trace, after_items as after_marks, first_of}
+use Rattle.iscsi_rules.specs.rules.Agenda.{belongs, items_of}
+use Rattle.iscsi_rules.specs.rules.Run.{after_event as after_session_event, effects_of, effects_of_item, entries_from, entry_of}
+use Rattle.iscsi_rules.specs.promises.Order.{in_parts}
+use Rattle.iscsi_rules.proofs.CloseLemmas.{Sound}
+use Rattle.iscsi_rules.proofs.CloseRuns.{Sounds, event_sound}
+use Rattle.iscsi_rules.proofs.Forms.{HaveForms}
+use Rattle.iscsi_rules.proofs.FormRuns.{event_going}
 use Rattle.iscsi_outbox_rules.specs.rules.Calls.{Opening, Call, Takes, Puts, Stops, Nexts, Writes, Hears, Joins, Loses, Clears}
 use Rattle.iscsi_outbox_rules.specs.rules.Boxes.{Phase, Dormant, Fresh, Started, Completed, Running, Gone, Task, Box}
 use Rattle.iscsi_outbox_rules.specs.rules.Words.{contains, is_live_phase, is_running}

@@ -2,9 +2,9 @@
 use Rattle.std.proofs.Common.{◌≡◌, ℕ, ◌<◌, ◌&&◌, ◌||◌, ◌^◌, nat_lt, cond, Bool, true, false, List, [], ◌∷◌, map, filter_map, refl, ap, sym, subst, ◌∙◌, lt-ltb}
 use Rattle.std.proofs.lemmas.Bool.{false≢true, true≢false}
 use Rattle.iscsi_wire.specs.Serial.{lift}
-use Rattle.iscsi_history.specs.declared.effect.Effect.{Effect}
-use Rattle.iscsi_history.specs.declared.effect.Numbers.{Numbers}
-use Rattle.iscsi_history.specs.promises.Order.{in_parts}
+use Rattle.iscsi_rules.specs.declared.effect.Effect.{Effect}
+use Rattle.iscsi_rules.specs.declared.effect.Numbers.{Numbers}
+use Rattle.iscsi_rules.specs.promises.Order.{in_parts}
 use Rattle.iscsi_outbox_rules.specs.rules.Calls.{Opening}
 use Rattle.iscsi_outbox_rules.specs.rules.Boxes.{Phase, Dormant, Fresh, Started, Completed, Running, Gone, Task, Box}
 use Rattle.iscsi_outbox_rules.specs.rules.Words.{contains, is_left_phase, is_live_phase, is_running_phase}

@@ -1,7 +1,7 @@
 -- What a call answers, whatever calls came before: for a state that they led to.
 use Rattle.std.specs.Prelude.{◌≡◌, ◌≤◌, Bool, true, List, [], ◌∷◌, ◌++◌}
-use Rattle.iscsi_history.specs.rules.Settings.{are_distinct}
-use Rattle.iscsi_history.specs.promises.Flow.{FlowsThrough}
+use Rattle.iscsi_rules.specs.rules.Settings.{are_distinct}
+use Rattle.iscsi_rules.specs.promises.Flow.{FlowsThrough}
 use Rattle.iscsi_outbox_rules.specs.rules.Calls.{Opening, Call}
 use Rattle.iscsi_outbox_rules.specs.rules.Words.{may_take as may_take_by_rules}
 use Rattle.iscsi_outbox_rules.specs.rules.Run.{opened, after_calls as after_calls_by_rules, answered as answered_by_rules}

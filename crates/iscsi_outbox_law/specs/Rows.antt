@@ -2,8 +2,8 @@
 use Rattle.std.specs.Prelude.{◌≡◌, ℕ, true, List, [], ◌∷◌, filter_map, map, refl}
 use Rattle.iscsi_wire.specs.declared.reply.Reply.TheVariants.{Logout}
 use Rattle.iscsi_tasks.specs.Rules as Rules
-use Rattle.iscsi_history.specs.declared.event.Event.TheVariants.{Arrive}
-use Rattle.iscsi_history.specs.examples.Rows.{command, logout_now, of_two}
+use Rattle.iscsi_rules.specs.declared.event.Event.TheVariants.{Arrive}
+use Rattle.iscsi_rules.specs.examples.Rows.{command, logout_now, of_two}
 use Rattle.iscsi_outbox_rules.specs.rules.Calls.{Joins, Nexts, Stops, Opening}
 use Rattle.iscsi_outbox_rules.specs.rules.Run.{answered_by as answered_by_rules}
 use Rattle.iscsi_outbox_rules.specs.promises.Room.{Step, Happens, Other, all_are, begun, calls_of, is_read_with_room}

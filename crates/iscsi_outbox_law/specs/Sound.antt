@@ -4,10 +4,10 @@ use Rattle.std.specs.List.{list_any}
 use Rattle.iscsi_wire.specs.declared.request.Request.{Request}
 use Rattle.iscsi_wire.specs.declared.reply.Reply.{Reply}
 use Rattle.iscsi_wire.specs.Fields.{connection_of, opcode}
-use Rattle.iscsi_history.specs.declared.effect.Effect.{Effect}
-use Rattle.iscsi_history.specs.declared.effect.Effect.TheVariants.{Enter, CloseConn, CloseSession}
-use Rattle.iscsi_history.specs.rules.Settings.{is_known}
-use Rattle.iscsi_history.specs.rules.Trace.{first_of}
+use Rattle.iscsi_rules.specs.declared.effect.Effect.{Effect}
+use Rattle.iscsi_rules.specs.declared.effect.Effect.TheVariants.{Enter, CloseConn, CloseSession}
+use Rattle.iscsi_rules.specs.rules.Settings.{is_known}
+use Rattle.iscsi_rules.specs.rules.Trace.{first_of}
 use Rattle.iscsi_outbox_rules.specs.rules.Calls.{Opening}
 use Rattle.iscsi_outbox_rules.specs.rules.Boxes.{Phase, Fresh, Task, Outgoing, Handed, Answer, Link, Box, AtConns}
 use Rattle.iscsi_outbox_rules.specs.rules.Words.{contains, is_left, is_left_phase, is_live_phase, is_of, is_open}

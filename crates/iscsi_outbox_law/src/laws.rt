@@ -1,7 +1,7 @@
 //! What the steps have in common with the rules, for every list of calls: laws of the definitions, which no code is needed for.
 
 ghost use Rattle.std.specs.Prelude.{◌≡◌, ◌<◌, ◌-◌, ◌^◌, ℕ, List, true};
-ghost use Rattle.iscsi_history.specs.rules.Settings.{are_distinct};
+ghost use Rattle.iscsi_rules.specs.rules.Settings.{are_distinct};
 ghost use Rattle.iscsi_outbox_law.specs.Called.{KeepsAllPromises, KeepsToRules, MayTakeByRules};
 ghost use Rattle.iscsi_outbox_law.specs.Room.{AreFew, IsShort};
 ghost use Rattle.iscsi_outbox_law.specs.Said.{AnswersAlike, said};

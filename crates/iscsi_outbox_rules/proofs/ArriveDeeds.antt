@@ -5,7 +5,7 @@ use Rattle.std.proofs.lemmas.Bool.{false≢true, eqb-true}
 use Rattle.std.proofs.lemmas.List.{append_assoc}
 use Rattle.std.proofs.lemmas.List.Folds.{list_any-append}
 use Rattle.iscsi_wire.specs.Serial.{wire}
-use Rattle.iscsi_history.proofs.BoolLemmas.{and_parts, and_both, or_first, or_second}
+use Rattle.iscsi_rules.proofs.BoolLemmas.{and_parts, and_both, or_first, or_second}
 use Rattle.iscsi_outbox_rules.specs.rules.Boxes.{Pdu, Replies, Owns, Pings, Notices, Handed}
 use Rattle.iscsi_outbox_rules.specs.promises.Deeds.{Deed, handed_in_deed, is_handed_on, handed_on}
 use Rattle.iscsi_outbox_rules.specs.promises.Arrived.{acknowledges, answers, is_write_of, writes_from, writes_on, next_behind, is_acknowledged, shows_arrival, shows_later, has_arrived}

@@ -5,9 +5,9 @@ use Rattle.std.proofs.lemmas.Bool.{cond_both, false≢true, eqb-true, cases_lt}
 use Rattle.std.proofs.lemmas.List.{append-nil, length_push}
 use Rattle.std.proofs.lemmas.List.Folds.{list_any-append}
 use Rattle.iscsi_wire.specs.Serial.{wire, lift, number_of_first}
-use Rattle.iscsi_history.proofs.BoolLemmas.{and_both, or_first, or_second}
-use Rattle.iscsi_history.proofs.ListLemmas.{count_by-push}
-use Rattle.iscsi_history.proofs.NumberLemmas.{wire-lift}
+use Rattle.iscsi_rules.proofs.BoolLemmas.{and_both, or_first, or_second}
+use Rattle.iscsi_rules.proofs.ListLemmas.{count_by-push}
+use Rattle.iscsi_rules.proofs.NumberLemmas.{wire-lift}
 use Rattle.iscsi_outbox_rules.specs.rules.Calls.{Opening, Nexts, Writes, Hears, Joins, Loses}
 use Rattle.iscsi_outbox_rules.specs.rules.Boxes.{Pdu, Replies, Owns, Pings, Notices, Handed, Link}
 use Rattle.iscsi_outbox_rules.specs.rules.Words.{is_open}

@@ -2,7 +2,7 @@
 use Rattle.std.proofs.Common.{◌≡◌, ℕ, ⊎_elim, List, [], ◌∷◌, ◌++◌, length, max, nat_lt, Some, None, refl, ap, sym, subst, ◌+◌, ◌∙◌, true}
 use Rattle.std.proofs.lemmas.Bool.{cond_both}
 use Rattle.std.proofs.lemmas.List.{append-nil}
-use Rattle.iscsi_history.specs.declared.effect.Effect.{Effect}
+use Rattle.iscsi_rules.specs.declared.effect.Effect.{Effect}
 use Rattle.iscsi_outbox_rules.specs.declared.own_pdu.OwnPdu.{OwnPdu}
 use Rattle.iscsi_outbox_rules.specs.rules.Calls.{Opening, Call, Takes, Puts, Stops, Nexts, Writes, Hears, Joins, Loses, Clears}
 use Rattle.iscsi_outbox_rules.specs.rules.Boxes.{Handed, Link, Box}
@@ -14,7 +14,7 @@ use Rattle.iscsi_outbox_rules.specs.rules.Own.{own_conn, own_outgoing, put_refus
 use Rattle.iscsi_outbox_rules.specs.rules.Handing.{handed_as, after_given}
 use Rattle.iscsi_outbox_rules.specs.rules.Run.{after_call, answered, phase_stopped, one_written, arrived_by_stat_sn, arrived_by_ping, link_heard, may_join, link_joined, link_lost, cleared}
 use Rattle.iscsi_outbox_rules.specs.promises.Deeds.{Deed, items_in, items_of_call}
-use Rattle.iscsi_history.proofs.BoolLemmas.{or_second}
+use Rattle.iscsi_rules.proofs.BoolLemmas.{or_second}
 use Rattle.iscsi_outbox_rules.proofs.Walks.{over_after, Walk, settles, event_keeps}
 use Rattle.iscsi_outbox_rules.proofs.DeedLemmas.{items_in-more}
 use Rattle.iscsi_outbox_rules.proofs.Chosen.{Chosen, chosen_from}

@@ -6,21 +6,21 @@ use Rattle.std.proofs.lemmas.Bool.{false≢true}
 use Rattle.iscsi_wire.specs.Fields.{connection_of}
 use Rattle.iscsi_wire.specs.declared.reply.Reply.{Reply}
 use Rattle.iscsi_wire.specs.declared.request.Request.{Request}
-use Rattle.iscsi_history.specs.declared.effect.Effect.{Effect}
-use Rattle.iscsi_history.specs.declared.entry.Entry.{Entry}
-use Rattle.iscsi_history.specs.declared.event.Event.{Event}
-use Rattle.iscsi_history.specs.rules.Settings.{Setting, is_known}
-use Rattle.iscsi_history.specs.rules.Trace.{Arrival, Command, Mark, Admits, Delivers, Executes, Voids, Empties, Waits, Leaves, Enters, Sends, ClosesConn, ClosesSession, Ignores, Trace, has, first_of, closes_conn, closes_session, is_ended, is_closed}
-use Rattle.iscsi_history.specs.rules.Logout.{is_open}
-use Rattle.iscsi_history.specs.rules.Agenda.{belongs}
-use Rattle.iscsi_history.specs.rules.Run.{effects_of_mark, newly_enabled, effects_of_item, trace_of, run_of}
-use Rattle.iscsi_history.specs.promises.Order.{in_parts}
-use Rattle.iscsi_history.proofs.BoolLemmas.{and_false, or_first, or_second, or_false}
-use Rattle.iscsi_history.proofs.Forms.{AtTurn, AtArrival, AfterWaiting, Deeds, if_some, marks_done, Form, Ignored, Rejected, Received, Postponed, Completed, Executed, marks_of_form, HasForm, is_arrival, HaveForms}
-use Rattle.iscsi_history.proofs.FormRuns.{trace_has_forms}
-use Rattle.iscsi_history.proofs.ReplyForms.{replies_seen}
-use Rattle.iscsi_history.proofs.CloseLemmas.{is_at, Sound}
-use Rattle.iscsi_history.proofs.CloseRuns.{Sounds, trace_sounds}
+use Rattle.iscsi_rules.specs.declared.effect.Effect.{Effect}
+use Rattle.iscsi_rules.specs.declared.entry.Entry.{Entry}
+use Rattle.iscsi_rules.specs.declared.event.Event.{Event}
+use Rattle.iscsi_rules.specs.rules.Settings.{Setting, is_known}
+use Rattle.iscsi_rules.specs.rules.Trace.{Arrival, Command, Mark, Admits, Delivers, Executes, Voids, Empties, Waits, Leaves, Enters, Sends, ClosesConn, ClosesSession, Ignores, Trace, has, first_of, closes_conn, closes_session, is_ended, is_closed}
+use Rattle.iscsi_rules.specs.rules.Logout.{is_open}
+use Rattle.iscsi_rules.specs.rules.Agenda.{belongs}
+use Rattle.iscsi_rules.specs.rules.Run.{effects_of_mark, newly_enabled, effects_of_item, trace_of, run_of}
+use Rattle.iscsi_rules.specs.promises.Order.{in_parts}
+use Rattle.iscsi_rules.proofs.BoolLemmas.{and_false, or_first, or_second, or_false}
+use Rattle.iscsi_rules.proofs.Forms.{AtTurn, AtArrival, AfterWaiting, Deeds, if_some, marks_done, Form, Ignored, Rejected, Received, Postponed, Completed, Executed, marks_of_form, HasForm, is_arrival, HaveForms}
+use Rattle.iscsi_rules.proofs.FormRuns.{trace_has_forms}
+use Rattle.iscsi_rules.proofs.ReplyForms.{replies_seen}
+use Rattle.iscsi_rules.proofs.CloseLemmas.{is_at, Sound}
+use Rattle.iscsi_rules.proofs.CloseRuns.{Sounds, trace_sounds}
 use Rattle.iscsi_outbox_rules.specs.rules.Items.{executing, reply_sent}
 use Rattle.iscsi_outbox_rules.specs.promises.Scope.{is_closed_by, closes_in}
 use Rattle.iscsi_outbox_rules.proofs.MarkRuns.{closes_as, is_closing, closed_by, closed_by-more}

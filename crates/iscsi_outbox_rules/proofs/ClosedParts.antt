@@ -5,24 +5,24 @@ use Rattle.std.proofs.lemmas.Bool.{false≢true}
 use Rattle.std.proofs.lemmas.List.{append_assoc, append-nil}
 use Rattle.iscsi_wire.specs.Fields.{connection_of, is_immediate, request_of}
 use Rattle.iscsi_wire.specs.declared.reply.Reply.{Reply}
-use Rattle.iscsi_history.specs.declared.effect.Effect.{Effect}
-use Rattle.iscsi_history.specs.declared.effect.Effect.TheVariants.{Enable}
-use Rattle.iscsi_history.specs.declared.effect.Why.TheVariants.{Outside, Duplicate, Closed, Data}
-use Rattle.iscsi_history.specs.declared.entry.Entry.{Entry}
-use Rattle.iscsi_history.specs.declared.event.Event.{Event}
-use Rattle.iscsi_history.specs.declared.event.Event.TheVariants.{Arrive, Done}
-use Rattle.iscsi_history.specs.declared.kind.Kind.{Kind}
-use Rattle.iscsi_history.specs.declared.kind.Kind.TheVariants.{PassedOver, Unknown, Executes as ExecutesKind}
-use Rattle.iscsi_history.specs.rules.Settings.{Setting}
-use Rattle.iscsi_history.specs.rules.Trace.{Arrival, Command, Mark, Admits, Delivers, Executes, Voids, Empties, Waits, Leaves, Enters, Sends, ClosesConn, ClosesSession, Ignores, Trace, after_items, is_received, held, waiting, is_closed}
-use Rattle.iscsi_history.specs.rules.Execution.{exp_of, max_of, rejected, ignored, completion}
-use Rattle.iscsi_history.specs.rules.Items.{immediate_item, function_item, item_of, is_waiting, functions, functions_at, turn_at, at_number, agenda}
-use Rattle.iscsi_history.specs.rules.Agenda.{with_turns, kind_of, arrival, arrival_of, command_of, items_of}
-use Rattle.iscsi_history.specs.rules.Run.{after_event, after_events, effects_of_mark, newly_enabled, effects_of_item, effects_of, entries_from, trace_of, run_of}
-use Rattle.iscsi_history.specs.promises.Order.{is_request, onto_first, in_parts}
-use Rattle.iscsi_history.proofs.BoolLemmas.{and_parts, and_both}
-use Rattle.iscsi_history.proofs.Forms.{AtTurn, AtArrival, AfterWaiting, Deeds, if_some, marks_done, Form, Ignored, Rejected, Received, Postponed, Completed, Executed, marks_of_form, HasForm}
-use Rattle.iscsi_history.proofs.ReplyForms.{replies_seen}
+use Rattle.iscsi_rules.specs.declared.effect.Effect.{Effect}
+use Rattle.iscsi_rules.specs.declared.effect.Effect.TheVariants.{Enable}
+use Rattle.iscsi_rules.specs.declared.effect.Why.TheVariants.{Outside, Duplicate, Closed, Data}
+use Rattle.iscsi_rules.specs.declared.entry.Entry.{Entry}
+use Rattle.iscsi_rules.specs.declared.event.Event.{Event}
+use Rattle.iscsi_rules.specs.declared.event.Event.TheVariants.{Arrive, Done}
+use Rattle.iscsi_rules.specs.declared.kind.Kind.{Kind}
+use Rattle.iscsi_rules.specs.declared.kind.Kind.TheVariants.{PassedOver, Unknown, Executes as ExecutesKind}
+use Rattle.iscsi_rules.specs.rules.Settings.{Setting}
+use Rattle.iscsi_rules.specs.rules.Trace.{Arrival, Command, Mark, Admits, Delivers, Executes, Voids, Empties, Waits, Leaves, Enters, Sends, ClosesConn, ClosesSession, Ignores, Trace, after_items, is_received, held, waiting, is_closed}
+use Rattle.iscsi_rules.specs.rules.Execution.{exp_of, max_of, rejected, ignored, completion}
+use Rattle.iscsi_rules.specs.rules.Items.{immediate_item, function_item, item_of, is_waiting, functions, functions_at, turn_at, at_number, agenda}
+use Rattle.iscsi_rules.specs.rules.Agenda.{with_turns, kind_of, arrival, arrival_of, command_of, items_of}
+use Rattle.iscsi_rules.specs.rules.Run.{after_event, after_events, effects_of_mark, newly_enabled, effects_of_item, effects_of, entries_from, trace_of, run_of}
+use Rattle.iscsi_rules.specs.promises.Order.{is_request, onto_first, in_parts}
+use Rattle.iscsi_rules.proofs.BoolLemmas.{and_parts, and_both}
+use Rattle.iscsi_rules.proofs.Forms.{AtTurn, AtArrival, AfterWaiting, Deeds, if_some, marks_done, Form, Ignored, Rejected, Received, Postponed, Completed, Executed, marks_of_form, HasForm}
+use Rattle.iscsi_rules.proofs.ReplyForms.{replies_seen}
 
 -- ---- requests among the effects of an item
 

@@ -4,10 +4,10 @@ use Rattle.std.proofs.Common.{◌≡◌, ℕ, ◌⊎◌, inl, inr, ⊎_elim, ◌
 use Rattle.std.specs.List.{list_any, list_all}
 use Rattle.std.proofs.lemmas.Bool.{cond_both, false≢true, eqb-true}
 use Rattle.std.proofs.lemmas.Bool.Decides.{nat_tests}
-use Rattle.iscsi_history.proofs.ApartLemmas.{eq_sym}
-use Rattle.iscsi_history.proofs.BoolLemmas.{and_parts, and_both, and_false, or_first, or_second, or_none, not_true}
-use Rattle.iscsi_history.proofs.ElementLemmas.{In, filter-in}
-use Rattle.iscsi_history.proofs.ListLemmas.{none_both}
+use Rattle.iscsi_rules.proofs.ApartLemmas.{eq_sym}
+use Rattle.iscsi_rules.proofs.BoolLemmas.{and_parts, and_both, and_false, or_first, or_second, or_none, not_true}
+use Rattle.iscsi_rules.proofs.ElementLemmas.{In, filter-in}
+use Rattle.iscsi_rules.proofs.ListLemmas.{none_both}
 use Rattle.iscsi_outbox_rules.specs.rules.Calls.{Opening}
 use Rattle.iscsi_outbox_rules.specs.rules.Boxes.{Task, Outgoing, Handed, Answer, Link, Box}
 use Rattle.iscsi_outbox_rules.specs.rules.Words.{contains, is_running_phase, is_running, is_left, is_of, is_open, looks_for_arrival, unwritten, unarrived, under_way, has_under_way}

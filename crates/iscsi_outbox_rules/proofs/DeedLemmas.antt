@@ -6,8 +6,8 @@ use Rattle.std.proofs.lemmas.List.{append-nil, map-append}
 use Rattle.std.proofs.lemmas.List.Elements.{filter_map-append, filter-append}
 use Rattle.std.proofs.lemmas.List.Concat.{flat_map-append}
 use Rattle.std.proofs.lemmas.List.Folds.{list_any-append}
-use Rattle.iscsi_history.specs.rules.Trace.{first_of}
-use Rattle.iscsi_history.proofs.BoolLemmas.{or_false, or_none}
+use Rattle.iscsi_rules.specs.rules.Trace.{first_of}
+use Rattle.iscsi_rules.proofs.BoolLemmas.{or_false, or_none}
 use Rattle.iscsi_outbox_rules.specs.rules.Boxes.{Handed}
 use Rattle.iscsi_outbox_rules.specs.promises.Deeds.{Deed, items_of_call, items_in, handed_in_deed, handed_in, handed_on, is_join_of, is_lose_of, has_joined, was_lost}
 use Rattle.iscsi_outbox_rules.specs.promises.Numbers.{stat_sn_of_join, joined_with}

@@ -6,9 +6,9 @@ use Rattle.std.proofs.lemmas.List.{append_assoc}
 use Rattle.iscsi_wire.specs.Fields.{connection_of}
 use Rattle.iscsi_wire.specs.declared.reply.Reply.{Reply}
 use Rattle.iscsi_wire.specs.declared.request.Request.{Request}
-use Rattle.iscsi_history.specs.declared.effect.Effect.{Effect}
-use Rattle.iscsi_history.specs.rules.Trace.{first_of}
-use Rattle.iscsi_history.proofs.BoolLemmas.{and_parts, and_both, or_none, or_second, not_true}
+use Rattle.iscsi_rules.specs.declared.effect.Effect.{Effect}
+use Rattle.iscsi_rules.specs.rules.Trace.{first_of}
+use Rattle.iscsi_rules.proofs.BoolLemmas.{and_parts, and_both, or_none, or_second, not_true}
 use Rattle.iscsi_outbox_rules.specs.rules.Calls.{Opening, Call}
 use Rattle.iscsi_outbox_rules.specs.rules.Boxes.{Aim, Handed}
 use Rattle.iscsi_outbox_rules.specs.rules.Items.{executing, reply_sent, aim}

@@ -5,19 +5,19 @@ use Rattle.std.proofs.lemmas.Bool.{false≢true, eqb-true, cases_lt}
 use Rattle.std.proofs.lemmas.List.{append_assoc}
 use Rattle.std.proofs.lemmas.List.Folds.{list_any-append}
 use Rattle.iscsi_wire.specs.Serial.{lift, wire, number_of_first}
-use Rattle.iscsi_history.specs.declared.event.Event.{Event}
-use Rattle.iscsi_history.specs.declared.entry.Entry.{Entry}
-use Rattle.iscsi_history.specs.declared.effect.Effect.{Effect}
-use Rattle.iscsi_history.specs.declared.effect.Numbers.{Numbers}
-use Rattle.iscsi_history.specs.rules.Settings.{Setting}
-use Rattle.iscsi_history.specs.rules.Trace.{Trace, received, is_received}
-use Rattle.iscsi_history.specs.rules.Execution.{exp_of, max_of}
-use Rattle.iscsi_history.specs.rules.Run.{after_event, trace_of, entry_of, entries_from}
-use Rattle.iscsi_history.specs.promises.Flow.{HasOneMore, Flows, FlowsThrough}
-use Rattle.iscsi_history.specs.promises.Meaning.{IsLeastMissing}
-use Rattle.iscsi_history.proofs.BoolLemmas.{or_false}
-use Rattle.iscsi_history.proofs.RunLemmas.{trace_of-push}
-use Rattle.iscsi_history.proofs.MeaningTheorem.{means_what_it_says}
+use Rattle.iscsi_rules.specs.declared.event.Event.{Event}
+use Rattle.iscsi_rules.specs.declared.entry.Entry.{Entry}
+use Rattle.iscsi_rules.specs.declared.effect.Effect.{Effect}
+use Rattle.iscsi_rules.specs.declared.effect.Numbers.{Numbers}
+use Rattle.iscsi_rules.specs.rules.Settings.{Setting}
+use Rattle.iscsi_rules.specs.rules.Trace.{Trace, received, is_received}
+use Rattle.iscsi_rules.specs.rules.Execution.{exp_of, max_of}
+use Rattle.iscsi_rules.specs.rules.Run.{after_event, trace_of, entry_of, entries_from}
+use Rattle.iscsi_rules.specs.promises.Flow.{HasOneMore, Flows, FlowsThrough}
+use Rattle.iscsi_rules.specs.promises.Meaning.{IsLeastMissing}
+use Rattle.iscsi_rules.proofs.BoolLemmas.{or_false}
+use Rattle.iscsi_rules.proofs.RunLemmas.{trace_of-push}
+use Rattle.iscsi_rules.proofs.MeaningTheorem.{means_what_it_says}
 use Rattle.iscsi_outbox_rules.specs.rules.Calls.{Opening, Call, Takes, Puts, Stops, Nexts, Writes, Hears, Joins, Loses, Clears}
 use Rattle.iscsi_outbox_rules.specs.rules.Boxes.{Box}
 use Rattle.iscsi_outbox_rules.specs.rules.Run.{opened, after_call, after_calls}

@@ -4,8 +4,8 @@ use Rattle.std.proofs.lemmas.Bool.{false≢true}
 use Rattle.std.proofs.lemmas.List.{append-nil, map-append}
 use Rattle.std.proofs.lemmas.List.Sums.{sum_by-cons}
 use Rattle.iscsi_wire.specs.Serial.{wire, number_of_first}
-use Rattle.iscsi_history.specs.declared.effect.Effect.{Effect}
-use Rattle.iscsi_history.proofs.BoolLemmas.{and_parts, or_false, or_second}
+use Rattle.iscsi_rules.specs.declared.effect.Effect.{Effect}
+use Rattle.iscsi_rules.proofs.BoolLemmas.{and_parts, or_false, or_second}
 use Rattle.iscsi_outbox_rules.specs.rules.Calls.{Opening, Call, Nexts, Joins, Loses}
 use Rattle.iscsi_outbox_rules.specs.rules.Boxes.{Outgoing, Handed, Link, Box}
 use Rattle.iscsi_outbox_rules.specs.rules.Queues.{without}

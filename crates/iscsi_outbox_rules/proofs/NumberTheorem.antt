@@ -1,8 +1,8 @@
 -- The numbers of what goes out, and on which connections it does.
 use Rattle.std.proofs.Common.{◌≡◌, ℕ, ⊎_elim, ◌==◌, not, true, List, [], ◌∷◌, ◌++◌, map, Some, refl, ap, sym, subst, ◌∙◌}
 use Rattle.std.proofs.lemmas.Bool.{eqb-true}
-use Rattle.iscsi_history.proofs.BoolLemmas.{and_parts, not_true}
-use Rattle.iscsi_history.proofs.ListLemmas.{first_itself}
+use Rattle.iscsi_rules.proofs.BoolLemmas.{and_parts, not_true}
+use Rattle.iscsi_rules.proofs.ListLemmas.{first_itself}
 use Rattle.iscsi_outbox_rules.specs.rules.Calls.{Opening, Call}
 use Rattle.iscsi_outbox_rules.specs.rules.Boxes.{Outgoing, Handed, Link, Box}
 use Rattle.iscsi_outbox_rules.specs.rules.Calls.{Nexts}

@@ -1,6 +1,6 @@
 -- A reply that goes out, as the session sent it: among the replies of what was taken, and of all that is.
 use Rattle.std.proofs.Common.{◌≡◌, ℕ, List, ◌++◌, Option, Some, None, ap, sym, ◌∙◌}
-use Rattle.iscsi_history.specs.declared.effect.Effect.{Effect}
+use Rattle.iscsi_rules.specs.declared.effect.Effect.{Effect}
 use Rattle.iscsi_outbox_rules.specs.rules.Calls.{Opening, Call}
 use Rattle.iscsi_outbox_rules.specs.rules.Boxes.{Handed}
 use Rattle.iscsi_outbox_rules.specs.promises.Deeds.{Deed, deeds_of, items_in, FollowsSession}

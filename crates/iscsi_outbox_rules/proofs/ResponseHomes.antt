@@ -8,20 +8,20 @@ use Rattle.std.proofs.lemmas.List.Sums.{sum_by-cons}
 use Rattle.iscsi_wire.specs.declared.reply.Reply.{Reply}
 use Rattle.iscsi_wire.specs.declared.request.Request.{Request}
 use Rattle.iscsi_wire.specs.Fields.{connection_of}
-use Rattle.iscsi_history.specs.declared.effect.Effect.{Effect}
-use Rattle.iscsi_history.specs.declared.entry.Entry.{Entry}
-use Rattle.iscsi_history.specs.declared.event.Event.{Event}
-use Rattle.iscsi_history.specs.rules.Settings.{Setting}
-use Rattle.iscsi_history.specs.rules.Trace.{Arrival, Command, Mark, Admits, Delivers, Executes, Voids, Empties, Waits, Leaves, Enters, Sends, ClosesConn, ClosesSession, Ignores, Trace, first_of, has, enters, entered as entered_so_far, leaves_ticket, live}
-use Rattle.iscsi_history.specs.rules.Run.{effects_of_mark, newly_enabled, effects_of_item, trace_of, run_of}
-use Rattle.iscsi_history.specs.promises.Lives.{ticket_entered, tickets_entered}
-use Rattle.iscsi_history.specs.promises.Order.{in_parts}
-use Rattle.iscsi_history.proofs.ElementLemmas.{In, in-filter, append-in_first, append-in_second}
-use Rattle.iscsi_history.proofs.Forms.{Start, AtTurn, AtArrival, AfterWaiting, Deeds, Form, Ignored, Rejected, Received, Postponed, Completed, Executed, marks_of_form, Each, EntersAs, IsFormed, HasForm, HaveForms}
-use Rattle.iscsi_history.proofs.FormRuns.{trace_has_forms}
-use Rattle.iscsi_history.proofs.LifeLemmas.{tickets_count}
-use Rattle.iscsi_history.proofs.NumberingLemmas.{to_list}
-use Rattle.iscsi_history.proofs.TouchLemmas.{entering_in, enable_effect, enters_form}
+use Rattle.iscsi_rules.specs.declared.effect.Effect.{Effect}
+use Rattle.iscsi_rules.specs.declared.entry.Entry.{Entry}
+use Rattle.iscsi_rules.specs.declared.event.Event.{Event}
+use Rattle.iscsi_rules.specs.rules.Settings.{Setting}
+use Rattle.iscsi_rules.specs.rules.Trace.{Arrival, Command, Mark, Admits, Delivers, Executes, Voids, Empties, Waits, Leaves, Enters, Sends, ClosesConn, ClosesSession, Ignores, Trace, first_of, has, enters, entered as entered_so_far, leaves_ticket, live}
+use Rattle.iscsi_rules.specs.rules.Run.{effects_of_mark, newly_enabled, effects_of_item, trace_of, run_of}
+use Rattle.iscsi_rules.specs.promises.Lives.{ticket_entered, tickets_entered}
+use Rattle.iscsi_rules.specs.promises.Order.{in_parts}
+use Rattle.iscsi_rules.proofs.ElementLemmas.{In, in-filter, append-in_first, append-in_second}
+use Rattle.iscsi_rules.proofs.Forms.{Start, AtTurn, AtArrival, AfterWaiting, Deeds, Form, Ignored, Rejected, Received, Postponed, Completed, Executed, marks_of_form, Each, EntersAs, IsFormed, HasForm, HaveForms}
+use Rattle.iscsi_rules.proofs.FormRuns.{trace_has_forms}
+use Rattle.iscsi_rules.proofs.LifeLemmas.{tickets_count}
+use Rattle.iscsi_rules.proofs.NumberingLemmas.{to_list}
+use Rattle.iscsi_rules.proofs.TouchLemmas.{entering_in, enable_effect, enters_form}
 use Rattle.iscsi_outbox_rules.specs.rules.Calls.{Opening, Call}
 use Rattle.iscsi_outbox_rules.specs.rules.Items.{executing, tickets_left, reply_sent}
 use Rattle.iscsi_outbox_rules.specs.rules.Run.{opened}

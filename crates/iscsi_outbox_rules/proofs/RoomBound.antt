@@ -8,20 +8,20 @@ use Rattle.std.proofs.lemmas.List.{append-nil}
 use Rattle.std.proofs.lemmas.List.Folds.{list_any-append}
 use Rattle.std.proofs.lemmas.List.Sums.{sum_by-append}
 use Rattle.iscsi_wire.specs.Fields.{connection_of, is_immediate}
-use Rattle.iscsi_history.specs.rules.Settings.{Setting, is_known}
-use Rattle.iscsi_history.specs.rules.Trace.{Arrival, Command, Mark, Admits, Delivers, Executes, Voids, Empties, Waits, Leaves, Enters, Sends, ClosesConn, ClosesSession, Ignores, Trace, shown, first_of, number_received, received, is_received, contains, admits_at, admitted, held, is_delivered, is_emptied, waiting, entered, live, has, leaves_ticket}
-use Rattle.iscsi_history.specs.rules.Execution.{exp_of, unfinished}
-use Rattle.iscsi_history.proofs.BoolLemmas.{and_true}
-use Rattle.iscsi_history.proofs.ApartLemmas.{eq_sym}
-use Rattle.iscsi_history.proofs.CountLemmas.{one, count-cons, count-split}
-use Rattle.iscsi_history.proofs.ElementLemmas.{In, in-filter, in-append, append-in_first, append-in_second}
-use Rattle.iscsi_history.proofs.HeldLemmas.{held_received}
-use Rattle.iscsi_history.proofs.NumberingLemmas.{unseen}
-use Rattle.iscsi_history.proofs.Forms.{AtTurn, AtArrival, AfterWaiting, Deeds, marks_done, Form, Ignored, Rejected, Received, Postponed, Completed, Executed, marks_of_form, IsFormed, HasForm, HaveForms}
-use Rattle.iscsi_history.proofs.ReplyForms.{replies_seen}
-use Rattle.iscsi_history.proofs.ReplyTurns.{admits_request}
-use Rattle.iscsi_history.proofs.ReplyRuns.{one_most}
-use Rattle.iscsi_history.proofs.ListLemmas.{fewer_counted}
+use Rattle.iscsi_rules.specs.rules.Settings.{Setting, is_known}
+use Rattle.iscsi_rules.specs.rules.Trace.{Arrival, Command, Mark, Admits, Delivers, Executes, Voids, Empties, Waits, Leaves, Enters, Sends, ClosesConn, ClosesSession, Ignores, Trace, shown, first_of, number_received, received, is_received, contains, admits_at, admitted, held, is_delivered, is_emptied, waiting, entered, live, has, leaves_ticket}
+use Rattle.iscsi_rules.specs.rules.Execution.{exp_of, unfinished}
+use Rattle.iscsi_rules.proofs.BoolLemmas.{and_true}
+use Rattle.iscsi_rules.proofs.ApartLemmas.{eq_sym}
+use Rattle.iscsi_rules.proofs.CountLemmas.{one, count-cons, count-split}
+use Rattle.iscsi_rules.proofs.ElementLemmas.{In, in-filter, in-append, append-in_first, append-in_second}
+use Rattle.iscsi_rules.proofs.HeldLemmas.{held_received}
+use Rattle.iscsi_rules.proofs.NumberingLemmas.{unseen}
+use Rattle.iscsi_rules.proofs.Forms.{AtTurn, AtArrival, AfterWaiting, Deeds, marks_done, Form, Ignored, Rejected, Received, Postponed, Completed, Executed, marks_of_form, IsFormed, HasForm, HaveForms}
+use Rattle.iscsi_rules.proofs.ReplyForms.{replies_seen}
+use Rattle.iscsi_rules.proofs.ReplyTurns.{admits_request}
+use Rattle.iscsi_rules.proofs.ReplyRuns.{one_most}
+use Rattle.iscsi_rules.proofs.ListLemmas.{fewer_counted}
 use Rattle.iscsi_outbox_rules.proofs.EachLemmas.{EachOf, each-filter}
 use Rattle.iscsi_outbox_rules.proofs.ScopeConns.{IsKnown, KnownIn, all_waiting, commands_known}
 use Rattle.iscsi_outbox_rules.proofs.RoomTurns.{Within}

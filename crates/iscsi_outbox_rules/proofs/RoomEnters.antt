@@ -4,33 +4,33 @@ use Rattle.std.proofs.Common.{◌≡◌, ℕ, zero, suc, ◌+◌, ◌-◌, ◌�
 use Rattle.iscsi_wire.specs.declared.reply.Reply.{Reply}
 use Rattle.iscsi_wire.specs.declared.reply.Reply.TheVariants.{Task, Reject}
 use Rattle.iscsi_wire.specs.Fields.{connection_of, header_of, is_immediate, opcode, itt, request_of}
-use Rattle.iscsi_history.specs.declared.effect.Why.{Why}
-use Rattle.iscsi_history.specs.declared.effect.Why.TheVariants.{Outside, Duplicate, Closed, Data, Stale}
-use Rattle.iscsi_history.specs.declared.event.Event.{Event}
-use Rattle.iscsi_history.specs.declared.event.Event.TheVariants.{Arrive, Done}
-use Rattle.iscsi_history.specs.declared.kind.Kind.{Kind}
-use Rattle.iscsi_history.specs.declared.kind.Kind.TheVariants.{PassedOver, Unknown, Executes as ExecutesKind}
-use Rattle.iscsi_history.specs.rules.Deeds.{marks_after}
-use Rattle.iscsi_history.specs.rules.Settings.{Setting}
-use Rattle.iscsi_history.specs.rules.Trace.{Arrival, Command, Mark, Admits, Executes, Waits, Ignores, Trace, after_items, is_received, held, waiting, live, was_free, is_closed}
-use Rattle.iscsi_history.specs.rules.Execution.{exp_of, max_of, rejected, ignored, completion, reply_on}
-use Rattle.iscsi_history.specs.rules.Management.{may_wait, refusal_of_function, MOST_WAITING, waiting_on}
-use Rattle.iscsi_history.specs.rules.Items.{execution, waiting_item, immediate_item, function_item, item_of, is_waiting, functions, functions_at, turn_at, at_number, agenda}
-use Rattle.iscsi_history.specs.rules.Agenda.{with_turns, numbered, kind_of, arrival_as, arrival_open, arrival, arrival_of, command_of, items_of}
-use Rattle.iscsi_history.proofs.CountLemmas.{count-cons}
-use Rattle.iscsi_history.proofs.ElementLemmas.{in-filter, first-in}
-use Rattle.iscsi_history.proofs.TraceLemmas.{after_items-append}
-use Rattle.iscsi_history.proofs.HeldLemmas.{held-number}
-use Rattle.iscsi_history.proofs.Forms.{Start, AtTurn, AtArrival, AfterWaiting, start_mark, Deeds, marks_done, Form, Ignored, Rejected, Received, Postponed, Completed, Executed, marks_of_form, Starts, IsFormed, HasForm}
-use Rattle.iscsi_history.proofs.FormItems.{Does, does_reply, does_function, does_after}
+use Rattle.iscsi_rules.specs.declared.effect.Why.{Why}
+use Rattle.iscsi_rules.specs.declared.effect.Why.TheVariants.{Outside, Duplicate, Closed, Data, Stale}
+use Rattle.iscsi_rules.specs.declared.event.Event.{Event}
+use Rattle.iscsi_rules.specs.declared.event.Event.TheVariants.{Arrive, Done}
+use Rattle.iscsi_rules.specs.declared.kind.Kind.{Kind}
+use Rattle.iscsi_rules.specs.declared.kind.Kind.TheVariants.{PassedOver, Unknown, Executes as ExecutesKind}
+use Rattle.iscsi_rules.specs.rules.Deeds.{marks_after}
+use Rattle.iscsi_rules.specs.rules.Settings.{Setting}
+use Rattle.iscsi_rules.specs.rules.Trace.{Arrival, Command, Mark, Admits, Executes, Waits, Ignores, Trace, after_items, is_received, held, waiting, live, was_free, is_closed}
+use Rattle.iscsi_rules.specs.rules.Execution.{exp_of, max_of, rejected, ignored, completion, reply_on}
+use Rattle.iscsi_rules.specs.rules.Management.{may_wait, refusal_of_function, MOST_WAITING, waiting_on}
+use Rattle.iscsi_rules.specs.rules.Items.{execution, waiting_item, immediate_item, function_item, item_of, is_waiting, functions, functions_at, turn_at, at_number, agenda}
+use Rattle.iscsi_rules.specs.rules.Agenda.{with_turns, numbered, kind_of, arrival_as, arrival_open, arrival, arrival_of, command_of, items_of}
+use Rattle.iscsi_rules.proofs.CountLemmas.{count-cons}
+use Rattle.iscsi_rules.proofs.ElementLemmas.{in-filter, first-in}
+use Rattle.iscsi_rules.proofs.TraceLemmas.{after_items-append}
+use Rattle.iscsi_rules.proofs.HeldLemmas.{held-number}
+use Rattle.iscsi_rules.proofs.Forms.{Start, AtTurn, AtArrival, AfterWaiting, start_mark, Deeds, marks_done, Form, Ignored, Rejected, Received, Postponed, Completed, Executed, marks_of_form, Starts, IsFormed, HasForm}
+use Rattle.iscsi_rules.proofs.FormItems.{Does, does_reply, does_function, does_after}
 use Rattle.iscsi_outbox_rules.proofs.ClosedParts.{EachOn}
 use Rattle.iscsi_outbox_rules.proofs.RoomStored.{any, stored, stored_item, stored_turn, waited, admits_done, done_once, taken_by}
-use Rattle.iscsi_history.specs.rules.Trace.{enters}
-use Rattle.iscsi_history.proofs.ListLemmas.{fewer_counted, count_by-push}
-use Rattle.iscsi_history.proofs.TouchLemmas.{enters_form}
+use Rattle.iscsi_rules.specs.rules.Trace.{enters}
+use Rattle.iscsi_rules.proofs.ListLemmas.{fewer_counted, count_by-push}
+use Rattle.iscsi_rules.proofs.TouchLemmas.{enters_form}
 use Rattle.iscsi_outbox_rules.proofs.RoomSteps.{shrinks_done}
 use Rattle.iscsi_outbox_rules.proofs.RoomSends.{mark_reply, done_replies, answers, parting_answers}
-use Rattle.iscsi_history.proofs.NumberingLemmas.{to_list}
+use Rattle.iscsi_rules.proofs.NumberingLemmas.{to_list}
 use Rattle.std.proofs.lemmas.List.{length-map}
 
 -- what waits, and what is held

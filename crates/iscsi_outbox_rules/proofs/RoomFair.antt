@@ -5,17 +5,17 @@ use Rattle.std.proofs.lemmas.Bool.Decides.{nat_tests}
 use Rattle.iscsi_wire.specs.declared.reply.Reply.{Reply}
 use Rattle.iscsi_wire.specs.Fields.{connection_of, is_immediate, ref_cmd_sn}
 use Rattle.iscsi_wire.specs.Serial.{lift}
-use Rattle.iscsi_history.specs.declared.deed.Deed.{Deed}
-use Rattle.iscsi_history.specs.declared.deed.Deed.TheVariants.{Reply as Replies, Enter, Void, Empty, Abort, AbortEarlier, AbortAll, CloseConn, CloseSession}
-use Rattle.iscsi_history.specs.rules.Settings.{Setting}
-use Rattle.iscsi_history.specs.rules.Trace.{Arrival, Command, Mark, Admits, Delivers, Executes, Voids, Empties, Waits, Leaves, Enters, ClosesConn, ClosesSession, Trace, is_received, live_in}
-use Rattle.iscsi_history.specs.rules.Execution.{exp_of, max_of, is_crowded, reply_on}
-use Rattle.iscsi_history.specs.rules.Management.{answer, is_before, abort_all}
-use Rattle.iscsi_history.specs.rules.Logout.{is_last_open, live_of_units, all_held, taken_out, parting, end_session, close_conn}
-use Rattle.iscsi_history.specs.rules.Deeds.{facts_of, if_found, deed_marks, marks_after, function_marks}
-use Rattle.iscsi_history.proofs.BoolLemmas.{and_parts}
-use Rattle.iscsi_history.proofs.DeedTable.{Befits, befits_function, befits_deed}
-use Rattle.iscsi_history.proofs.Forms.{Deeds, if_some, marks_done, Each}
+use Rattle.iscsi_rules.specs.declared.deed.Deed.{Deed}
+use Rattle.iscsi_rules.specs.declared.deed.Deed.TheVariants.{Reply as Replies, Enter, Void, Empty, Abort, AbortEarlier, AbortAll, CloseConn, CloseSession}
+use Rattle.iscsi_rules.specs.rules.Settings.{Setting}
+use Rattle.iscsi_rules.specs.rules.Trace.{Arrival, Command, Mark, Admits, Delivers, Executes, Voids, Empties, Waits, Leaves, Enters, ClosesConn, ClosesSession, Trace, is_received, live_in}
+use Rattle.iscsi_rules.specs.rules.Execution.{exp_of, max_of, is_crowded, reply_on}
+use Rattle.iscsi_rules.specs.rules.Management.{answer, is_before, abort_all}
+use Rattle.iscsi_rules.specs.rules.Logout.{is_last_open, live_of_units, all_held, taken_out, parting, end_session, close_conn}
+use Rattle.iscsi_rules.specs.rules.Deeds.{facts_of, if_found, deed_marks, marks_after, function_marks}
+use Rattle.iscsi_rules.proofs.BoolLemmas.{and_parts}
+use Rattle.iscsi_rules.proofs.DeedTable.{Befits, befits_function, befits_deed}
+use Rattle.iscsi_rules.proofs.Forms.{Deeds, if_some, marks_done, Each}
 use Rattle.iscsi_outbox_rules.proofs.EachLemmas.{EachOf, each-append, each-first, each-second}
 
 module _ (o : Setting) (t : Trace) (a : Arrival) where

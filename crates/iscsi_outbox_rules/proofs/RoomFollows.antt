@@ -1,13 +1,13 @@
 -- The calls of a session and its outbox take what the session gives.
 use Rattle.std.proofs.Common.{◌≡◌, true, List, [], ◌∷◌, ◌++◌, refl, ap, ◌∙◌}
 use Rattle.std.specs.List.{list_all, flat_map}
-use Rattle.iscsi_history.specs.declared.event.Event.{Event}
-use Rattle.iscsi_history.specs.declared.event.Event.TheVariants.{Arrive, Done}
-use Rattle.iscsi_history.specs.rules.Settings.{is_known}
-use Rattle.iscsi_history.specs.rules.Agenda.{belongs}
-use Rattle.iscsi_history.specs.rules.Run.{entries_from, entry_of}
-use Rattle.iscsi_history.specs.promises.Flow.{FlowsThrough}
-use Rattle.iscsi_history.proofs.BoolLemmas.{and_both, and_parts}
+use Rattle.iscsi_rules.specs.declared.event.Event.{Event}
+use Rattle.iscsi_rules.specs.declared.event.Event.TheVariants.{Arrive, Done}
+use Rattle.iscsi_rules.specs.rules.Settings.{is_known}
+use Rattle.iscsi_rules.specs.rules.Agenda.{belongs}
+use Rattle.iscsi_rules.specs.rules.Run.{entries_from, entry_of}
+use Rattle.iscsi_rules.specs.promises.Flow.{FlowsThrough}
+use Rattle.iscsi_rules.proofs.BoolLemmas.{and_both, and_parts}
 use Rattle.iscsi_wire.specs.Fields.{request_of}
 use Rattle.std.proofs.Common.{◌||◌, ◌≤◌}
 use Rattle.iscsi_outbox_rules.specs.rules.Calls.{Opening}

@@ -5,17 +5,17 @@ use Rattle.std.proofs.lemmas.Bool.{cond_both, false≢true, eqb-true}
 use Rattle.std.proofs.lemmas.Bool.Decides.{nat_tests}
 use Rattle.std.proofs.lemmas.List.{append_assoc}
 use Rattle.iscsi_wire.specs.Fields.{connection_of, is_immediate, opcode, request_of}
-use Rattle.iscsi_history.specs.declared.entry.Entry.{Entry}
-use Rattle.iscsi_history.specs.declared.event.Event.{Event}
-use Rattle.iscsi_history.specs.declared.event.Event.TheVariants.{Arrive, Done}
-use Rattle.iscsi_history.specs.rules.Settings.{is_known}
-use Rattle.iscsi_history.specs.rules.Trace.{live}
-use Rattle.iscsi_history.specs.rules.Agenda.{arrival_of, belongs, items_of}
-use Rattle.iscsi_history.specs.rules.Run.{entry_of, trace_of, run_of, after_event}
-use Rattle.iscsi_history.proofs.BoolLemmas.{and_parts}
-use Rattle.iscsi_history.proofs.RunLemmas.{trace_of-push, run_of-push}
-use Rattle.iscsi_history.proofs.Forms.{HaveForms}
-use Rattle.iscsi_history.proofs.FormRuns.{event_going}
+use Rattle.iscsi_rules.specs.declared.entry.Entry.{Entry}
+use Rattle.iscsi_rules.specs.declared.event.Event.{Event}
+use Rattle.iscsi_rules.specs.declared.event.Event.TheVariants.{Arrive, Done}
+use Rattle.iscsi_rules.specs.rules.Settings.{is_known}
+use Rattle.iscsi_rules.specs.rules.Trace.{live}
+use Rattle.iscsi_rules.specs.rules.Agenda.{arrival_of, belongs, items_of}
+use Rattle.iscsi_rules.specs.rules.Run.{entry_of, trace_of, run_of, after_event}
+use Rattle.iscsi_rules.proofs.BoolLemmas.{and_parts}
+use Rattle.iscsi_rules.proofs.RunLemmas.{trace_of-push, run_of-push}
+use Rattle.iscsi_rules.proofs.Forms.{HaveForms}
+use Rattle.iscsi_rules.proofs.FormRuns.{event_going}
 use Rattle.iscsi_outbox_rules.specs.rules.Calls.{Opening, Call, Takes, Puts, Stops, Nexts, Writes, Hears, Joins, Loses, Clears}
 use Rattle.iscsi_outbox_rules.specs.rules.Boxes.{Phase, Dormant, Fresh, Started, Completed, Running, Gone, Task, Link, Box}
 use Rattle.iscsi_outbox_rules.specs.rules.Words.{contains, is_live_phase, is_running, replies_waiting, room, owing, may_take}

@@ -4,16 +4,16 @@ use Rattle.std.proofs.Common.{◌≡◌, ℕ, ◌+◌, ◌-◌, ◌≤◌, ◌<�
 use Rattle.std.proofs.lemmas.Bool.{false≢true, eqb-true, cases_lt}
 use Rattle.std.proofs.lemmas.List.{append-nil}
 use Rattle.iscsi_wire.specs.Fields.{is_immediate}
-use Rattle.iscsi_history.specs.rules.Settings.{Setting}
-use Rattle.iscsi_history.specs.rules.Trace.{Arrival, Command, Mark, Trace, number_received, received, is_received, contains, admits_at, held, waiting}
-use Rattle.iscsi_history.specs.rules.Execution.{exp_of, max_of, unfinished, live_immediate}
-use Rattle.iscsi_history.specs.rules.Management.{waiting_on}
-use Rattle.iscsi_history.specs.promises.Flow.{HasOneMore}
-use Rattle.iscsi_history.proofs.CountLemmas.{one}
-use Rattle.iscsi_history.proofs.Missing.{expected_below, expected_low}
-use Rattle.iscsi_history.proofs.FlowItems.{same_exp, exp_stays}
-use Rattle.iscsi_history.proofs.Forms.{Start, AtTurn, AtArrival, AfterWaiting, start_mark, marks_done, begun, Starts}
-use Rattle.iscsi_history.proofs.FormItems.{Does}
+use Rattle.iscsi_rules.specs.rules.Settings.{Setting}
+use Rattle.iscsi_rules.specs.rules.Trace.{Arrival, Command, Mark, Trace, number_received, received, is_received, contains, admits_at, held, waiting}
+use Rattle.iscsi_rules.specs.rules.Execution.{exp_of, max_of, unfinished, live_immediate}
+use Rattle.iscsi_rules.specs.rules.Management.{waiting_on}
+use Rattle.iscsi_rules.specs.promises.Flow.{HasOneMore}
+use Rattle.iscsi_rules.proofs.CountLemmas.{one}
+use Rattle.iscsi_rules.proofs.Missing.{expected_below, expected_low}
+use Rattle.iscsi_rules.proofs.FlowItems.{same_exp, exp_stays}
+use Rattle.iscsi_rules.proofs.Forms.{Start, AtTurn, AtArrival, AfterWaiting, start_mark, marks_done, begun, Starts}
+use Rattle.iscsi_rules.proofs.FormItems.{Does}
 use Rattle.iscsi_outbox_rules.proofs.EachLemmas.{EachOf}
 use Rattle.iscsi_outbox_rules.proofs.RoomFair.{Fair}
 use Rattle.iscsi_outbox_rules.proofs.RoomSteps.{live-begun, fewer_wait, unfinished_more, few_immediate}

@@ -3,11 +3,11 @@ use Rattle.std.proofs.Common.{◌≡◌, ℕ, ◌==◌, ◌≤◌, not, true, fa
 use Rattle.std.specs.List.{cons_option}
 use Rattle.std.proofs.lemmas.Bool.{cond_both}
 use Rattle.iscsi_wire.specs.Fields.{connection_of, is_immediate}
-use Rattle.iscsi_history.specs.rules.Settings.{Setting}
-use Rattle.iscsi_history.specs.rules.Trace.{Arrival, Mark, Admits, Delivers, Executes, Voids, Empties, Waits, Leaves, Enters, Sends, ClosesConn, ClosesSession, Ignores, Trace, first_of, shown, number_received, admits_at, held, waiting_by, waiting_through, waiting}
-use Rattle.iscsi_history.specs.rules.Execution.{max_of}
-use Rattle.iscsi_history.specs.rules.Management.{may_wait}
-use Rattle.iscsi_history.proofs.HeldLemmas.{admitted_of_held, held_before}
+use Rattle.iscsi_rules.specs.rules.Settings.{Setting}
+use Rattle.iscsi_rules.specs.rules.Trace.{Arrival, Mark, Admits, Delivers, Executes, Voids, Empties, Waits, Leaves, Enters, Sends, ClosesConn, ClosesSession, Ignores, Trace, first_of, shown, number_received, admits_at, held, waiting_by, waiting_through, waiting}
+use Rattle.iscsi_rules.specs.rules.Execution.{max_of}
+use Rattle.iscsi_rules.specs.rules.Management.{may_wait}
+use Rattle.iscsi_rules.proofs.HeldLemmas.{admitted_of_held, held_before}
 use Rattle.iscsi_outbox_rules.proofs.EachLemmas.{EachOf, each-append, each-filter}
 use Rattle.iscsi_outbox_rules.proofs.RoomFair.{MarkFair, Fair}
 

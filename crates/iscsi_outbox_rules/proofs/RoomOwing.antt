@@ -6,10 +6,10 @@ use Rattle.std.proofs.lemmas.Bool.{cond_both}
 use Rattle.std.proofs.lemmas.List.Sums.{sum_by-append}
 use Rattle.iscsi_wire.specs.declared.reply.Reply.{Reply}
 use Rattle.iscsi_wire.specs.declared.request.Request.{Request}
-use Rattle.iscsi_history.specs.declared.effect.Effect.{Effect}
-use Rattle.iscsi_history.specs.rules.Trace.{first_of}
-use Rattle.iscsi_history.proofs.CountLemmas.{one, count-cons, count-weaker}
-use Rattle.iscsi_history.proofs.ListLemmas.{count_by-map}
+use Rattle.iscsi_rules.specs.declared.effect.Effect.{Effect}
+use Rattle.iscsi_rules.specs.rules.Trace.{first_of}
+use Rattle.iscsi_rules.proofs.CountLemmas.{one, count-cons, count-weaker}
+use Rattle.iscsi_rules.proofs.ListLemmas.{count_by-map}
 use Rattle.iscsi_outbox_rules.specs.rules.Calls.{Opening}
 use Rattle.iscsi_outbox_rules.specs.rules.Boxes.{Phase, Dormant, Fresh, Started, Completed, Running, Gone, Task, Outgoing, Aim, Answer, Link, Box}
 use Rattle.iscsi_outbox_rules.specs.rules.Words.{contains, is_live_phase, is_running_phase, is_left_phase, under_way, has_under_way, is_of, owes}

@@ -7,33 +7,33 @@ use Rattle.std.proofs.lemmas.List.Elements.{filter_map-append}
 use Rattle.iscsi_wire.specs.declared.reply.Reply.{Reply}
 use Rattle.iscsi_wire.specs.declared.reply.Reply.TheVariants.{Task, Reject}
 use Rattle.iscsi_wire.specs.Fields.{connection_of, header_of, is_immediate, opcode, function, itt, cid, request_of}
-use Rattle.iscsi_history.specs.declared.effect.Effect.{Effect}
-use Rattle.iscsi_history.specs.declared.effect.Effect.TheVariants.{Enable}
-use Rattle.iscsi_history.specs.declared.effect.Why.{Why}
-use Rattle.iscsi_history.specs.declared.effect.Why.TheVariants.{Outside, Duplicate, Closed, Data, Stale}
-use Rattle.iscsi_history.specs.declared.event.Event.{Event}
-use Rattle.iscsi_history.specs.declared.event.Event.TheVariants.{Arrive, Done}
-use Rattle.iscsi_history.specs.declared.kind.Kind.{Kind}
-use Rattle.iscsi_history.specs.declared.kind.Kind.TheVariants.{PassedOver, Unknown, Executes as ExecutesKind}
-use Rattle.iscsi_history.specs.declared.deed.Answer.TheVariants.{Reject as RejectBy, LogOut}
-use Rattle.iscsi_history.specs.declared.deed.Deed.TheVariants.{Reply as Replies, CloseConn, CloseSession}
-use Rattle.iscsi_history.specs.rules.Deeds.{logout_deed, facts_of, deed_marks, marks_after}
-use Rattle.iscsi_history.specs.rules.Settings.{Setting}
-use Rattle.iscsi_history.specs.rules.Trace.{Arrival, Command, Mark, Admits, Delivers, Executes, Voids, Empties, Waits, Leaves, Enters, Sends, ClosesConn, ClosesSession, Ignores, Trace, after_items, first_of, is_received, held, waiting, live, was_free, is_closed}
-use Rattle.iscsi_history.specs.rules.Execution.{exp_of, max_of, NO_TAG, rejected, ignored, completion, reply_on}
-use Rattle.iscsi_history.specs.rules.Management.{may_wait, refusal_of_function, MOST_WAITING, waiting_on}
-use Rattle.iscsi_history.specs.rules.Logout.{is_open, is_last_open, taken_out, parting, end_session, close_conn}
-use Rattle.iscsi_history.specs.rules.Items.{execution, waiting_item, immediate_item, function_item, item_of, is_waiting, functions, functions_at, turn_at, at_number, agenda}
-use Rattle.iscsi_history.specs.rules.Agenda.{with_turns, numbered, kind_of, arrival_as, arrival_open, arrival, arrival_of, command_of, items_of}
-use Rattle.iscsi_history.specs.rules.Run.{effects_of_mark, newly_enabled, effects_of_item}
-use Rattle.iscsi_history.proofs.CountLemmas.{one, count-cons}
-use Rattle.iscsi_history.proofs.ElementLemmas.{in-filter, first-in}
-use Rattle.iscsi_history.proofs.TraceLemmas.{after_items-append}
-use Rattle.iscsi_history.proofs.HeldLemmas.{held-number}
-use Rattle.iscsi_history.proofs.NumberingLemmas.{to_list}
-use Rattle.iscsi_history.proofs.Forms.{Start, AtTurn, AtArrival, AfterWaiting, start_mark, Deeds, if_some, marks_done, Form, Ignored, Rejected, Received, Postponed, Completed, Executed, marks_of_form, Starts, HasForm}
-use Rattle.iscsi_history.proofs.FormItems.{Does, does_reply, does_function, does_after}
-use Rattle.iscsi_history.proofs.ReplyForms.{replies_seen}
+use Rattle.iscsi_rules.specs.declared.effect.Effect.{Effect}
+use Rattle.iscsi_rules.specs.declared.effect.Effect.TheVariants.{Enable}
+use Rattle.iscsi_rules.specs.declared.effect.Why.{Why}
+use Rattle.iscsi_rules.specs.declared.effect.Why.TheVariants.{Outside, Duplicate, Closed, Data, Stale}
+use Rattle.iscsi_rules.specs.declared.event.Event.{Event}
+use Rattle.iscsi_rules.specs.declared.event.Event.TheVariants.{Arrive, Done}
+use Rattle.iscsi_rules.specs.declared.kind.Kind.{Kind}
+use Rattle.iscsi_rules.specs.declared.kind.Kind.TheVariants.{PassedOver, Unknown, Executes as ExecutesKind}
+use Rattle.iscsi_rules.specs.declared.deed.Answer.TheVariants.{Reject as RejectBy, LogOut}
+use Rattle.iscsi_rules.specs.declared.deed.Deed.TheVariants.{Reply as Replies, CloseConn, CloseSession}
+use Rattle.iscsi_rules.specs.rules.Deeds.{logout_deed, facts_of, deed_marks, marks_after}
+use Rattle.iscsi_rules.specs.rules.Settings.{Setting}
+use Rattle.iscsi_rules.specs.rules.Trace.{Arrival, Command, Mark, Admits, Delivers, Executes, Voids, Empties, Waits, Leaves, Enters, Sends, ClosesConn, ClosesSession, Ignores, Trace, after_items, first_of, is_received, held, waiting, live, was_free, is_closed}
+use Rattle.iscsi_rules.specs.rules.Execution.{exp_of, max_of, NO_TAG, rejected, ignored, completion, reply_on}
+use Rattle.iscsi_rules.specs.rules.Management.{may_wait, refusal_of_function, MOST_WAITING, waiting_on}
+use Rattle.iscsi_rules.specs.rules.Logout.{is_open, is_last_open, taken_out, parting, end_session, close_conn}
+use Rattle.iscsi_rules.specs.rules.Items.{execution, waiting_item, immediate_item, function_item, item_of, is_waiting, functions, functions_at, turn_at, at_number, agenda}
+use Rattle.iscsi_rules.specs.rules.Agenda.{with_turns, numbered, kind_of, arrival_as, arrival_open, arrival, arrival_of, command_of, items_of}
+use Rattle.iscsi_rules.specs.rules.Run.{effects_of_mark, newly_enabled, effects_of_item}
+use Rattle.iscsi_rules.proofs.CountLemmas.{one, count-cons}
+use Rattle.iscsi_rules.proofs.ElementLemmas.{in-filter, first-in}
+use Rattle.iscsi_rules.proofs.TraceLemmas.{after_items-append}
+use Rattle.iscsi_rules.proofs.HeldLemmas.{held-number}
+use Rattle.iscsi_rules.proofs.NumberingLemmas.{to_list}
+use Rattle.iscsi_rules.proofs.Forms.{Start, AtTurn, AtArrival, AfterWaiting, start_mark, Deeds, if_some, marks_done, Form, Ignored, Rejected, Received, Postponed, Completed, Executed, marks_of_form, Starts, HasForm}
+use Rattle.iscsi_rules.proofs.FormItems.{Does, does_reply, does_function, does_after}
+use Rattle.iscsi_rules.proofs.ReplyForms.{replies_seen}
 use Rattle.iscsi_outbox_rules.specs.rules.Items.{reply_sent}
 use Rattle.iscsi_outbox_rules.proofs.ClosedParts.{effects_each, EachOn}
 use Rattle.iscsi_outbox_rules.proofs.RoomStored.{any, at_once, taken_by, sent_by_form, at_once_form}

@@ -4,15 +4,15 @@ use Rattle.std.proofs.Common.{◌≡◌, ℕ, ◌+◌, ◌≤◌, ◌<◌, ◌==
 use Rattle.std.proofs.lemmas.Bool.{false≢true, eqb-true}
 use Rattle.std.proofs.lemmas.Bool.Decides.{nat_tests}
 use Rattle.iscsi_wire.specs.Fields.{connection_of, is_immediate}
-use Rattle.iscsi_history.specs.rules.Settings.{Setting}
-use Rattle.iscsi_history.specs.rules.Trace.{Arrival, Command, Mark, Voids, Empties, Leaves, Enters, Sends, ClosesConn, ClosesSession, Trace, waiting_by, waiting_through, waiting, live}
-use Rattle.iscsi_history.specs.rules.Execution.{unfinished, live_immediate, is_crowded}
-use Rattle.iscsi_history.proofs.ListLemmas.{fewer_counted}
-use Rattle.iscsi_history.proofs.TraceLemmas.{live-quiet}
-use Rattle.iscsi_history.proofs.CountLemmas.{one, count-cons}
-use Rattle.iscsi_history.proofs.NumberingLemmas.{to_list}
-use Rattle.iscsi_history.proofs.Forms.{Start, AtTurn, AtArrival, AfterWaiting, start_mark, Deeds, if_some, marks_done, begun, Each, Executed, marks_of_form, IsFormed}
-use Rattle.iscsi_history.proofs.ReplyForms.{live_form}
+use Rattle.iscsi_rules.specs.rules.Settings.{Setting}
+use Rattle.iscsi_rules.specs.rules.Trace.{Arrival, Command, Mark, Voids, Empties, Leaves, Enters, Sends, ClosesConn, ClosesSession, Trace, waiting_by, waiting_through, waiting, live}
+use Rattle.iscsi_rules.specs.rules.Execution.{unfinished, live_immediate, is_crowded}
+use Rattle.iscsi_rules.proofs.ListLemmas.{fewer_counted}
+use Rattle.iscsi_rules.proofs.TraceLemmas.{live-quiet}
+use Rattle.iscsi_rules.proofs.CountLemmas.{one, count-cons}
+use Rattle.iscsi_rules.proofs.NumberingLemmas.{to_list}
+use Rattle.iscsi_rules.proofs.Forms.{Start, AtTurn, AtArrival, AfterWaiting, start_mark, Deeds, if_some, marks_done, begun, Each, Executed, marks_of_form, IsFormed}
+use Rattle.iscsi_rules.proofs.ReplyForms.{live_form}
 use Rattle.iscsi_outbox_rules.proofs.RoomFair.{MarkFair, Fair, fair_enters}
 
 -- ---- functions that wait

@@ -8,17 +8,17 @@ use Rattle.std.proofs.lemmas.List.Elements.{filter-append}
 use Rattle.std.proofs.lemmas.List.Sums.{sum_by-append}
 use Rattle.iscsi_wire.specs.Fields.{connection_of}
 use Rattle.iscsi_wire.specs.declared.reply.Reply.{Reply}
-use Rattle.iscsi_history.specs.rules.Settings.{Setting}
-use Rattle.iscsi_history.specs.rules.Trace.{Arrival, Command, Mark, Admits, Delivers, Executes, Waits, Sends, Ignores, Trace, shown, delivers_number, empties_number, is_delivered, is_emptied, admits_at, admitted, held, waiting, live}
-use Rattle.iscsi_history.proofs.BoolLemmas.{and_parts, and_both}
-use Rattle.iscsi_history.proofs.ListLemmas.{fewer_counted, count_by-push}
-use Rattle.iscsi_history.proofs.CountLemmas.{one, count-cons, count-filter, count-weaker, count-lost}
-use Rattle.iscsi_history.proofs.ElementLemmas.{In, first-in}
-use Rattle.iscsi_history.proofs.HeldLemmas.{admitted_of_held}
-use Rattle.iscsi_history.proofs.Forms.{AtTurn, AtArrival, AfterWaiting, Deeds, marks_done, Form, Ignored, Rejected, Received, Postponed, Completed, Executed, marks_of_form, IsFormed, Each, EntersAs}
-use Rattle.iscsi_history.proofs.NumberingLemmas.{to_list, unseen}
-use Rattle.iscsi_history.proofs.ReplyForms.{live_form, replies_seen}
-use Rattle.iscsi_history.proofs.ReplyTurns.{admits_request, admitted_there}
+use Rattle.iscsi_rules.specs.rules.Settings.{Setting}
+use Rattle.iscsi_rules.specs.rules.Trace.{Arrival, Command, Mark, Admits, Delivers, Executes, Waits, Sends, Ignores, Trace, shown, delivers_number, empties_number, is_delivered, is_emptied, admits_at, admitted, held, waiting, live}
+use Rattle.iscsi_rules.proofs.BoolLemmas.{and_parts, and_both}
+use Rattle.iscsi_rules.proofs.ListLemmas.{fewer_counted, count_by-push}
+use Rattle.iscsi_rules.proofs.CountLemmas.{one, count-cons, count-filter, count-weaker, count-lost}
+use Rattle.iscsi_rules.proofs.ElementLemmas.{In, first-in}
+use Rattle.iscsi_rules.proofs.HeldLemmas.{admitted_of_held}
+use Rattle.iscsi_rules.proofs.Forms.{AtTurn, AtArrival, AfterWaiting, Deeds, marks_done, Form, Ignored, Rejected, Received, Postponed, Completed, Executed, marks_of_form, IsFormed, Each, EntersAs}
+use Rattle.iscsi_rules.proofs.NumberingLemmas.{to_list, unseen}
+use Rattle.iscsi_rules.proofs.ReplyForms.{live_form, replies_seen}
+use Rattle.iscsi_rules.proofs.ReplyTurns.{admits_request, admitted_there}
 use Rattle.iscsi_outbox_rules.proofs.RoomSteps.{shrinks_done}
 
 abbrev pub any : {A : Type 0} → A → Bool

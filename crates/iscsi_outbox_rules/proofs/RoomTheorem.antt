@@ -5,19 +5,19 @@ use Rattle.std.proofs.lemmas.Bool.{cond_both, false≢true, eqb-true}
 use Rattle.std.proofs.lemmas.Bool.Decides.{nat_tests}
 use Rattle.std.proofs.lemmas.List.Sums.{sum_by-cons}
 use Rattle.iscsi_wire.specs.Fields.{connection_of, is_immediate, opcode, request_of}
-use Rattle.iscsi_history.specs.declared.effect.Effect.{Effect}
-use Rattle.iscsi_history.specs.declared.entry.Entry.{Entry}
-use Rattle.iscsi_history.specs.declared.event.Event.{Event}
-use Rattle.iscsi_history.specs.declared.event.Event.TheVariants.{Arrive, Done}
-use Rattle.iscsi_history.specs.rules.Settings.{is_known, are_distinct}
-use Rattle.iscsi_history.specs.rules.Trace.{first_of}
-use Rattle.iscsi_history.specs.rules.Agenda.{arrival_of, belongs, items_of}
-use Rattle.iscsi_history.specs.rules.Run.{entry_of}
-use Rattle.iscsi_history.specs.promises.Order.{in_parts}
-use Rattle.iscsi_history.proofs.BoolLemmas.{and_parts, or_none, not_true}
-use Rattle.iscsi_history.proofs.CountLemmas.{one, count-cons}
-use Rattle.iscsi_history.proofs.Forms.{HaveForms}
-use Rattle.iscsi_history.proofs.FormRuns.{event_going}
+use Rattle.iscsi_rules.specs.declared.effect.Effect.{Effect}
+use Rattle.iscsi_rules.specs.declared.entry.Entry.{Entry}
+use Rattle.iscsi_rules.specs.declared.event.Event.{Event}
+use Rattle.iscsi_rules.specs.declared.event.Event.TheVariants.{Arrive, Done}
+use Rattle.iscsi_rules.specs.rules.Settings.{is_known, are_distinct}
+use Rattle.iscsi_rules.specs.rules.Trace.{first_of}
+use Rattle.iscsi_rules.specs.rules.Agenda.{arrival_of, belongs, items_of}
+use Rattle.iscsi_rules.specs.rules.Run.{entry_of}
+use Rattle.iscsi_rules.specs.promises.Order.{in_parts}
+use Rattle.iscsi_rules.proofs.BoolLemmas.{and_parts, or_none, not_true}
+use Rattle.iscsi_rules.proofs.CountLemmas.{one, count-cons}
+use Rattle.iscsi_rules.proofs.Forms.{HaveForms}
+use Rattle.iscsi_rules.proofs.FormRuns.{event_going}
 use Rattle.iscsi_outbox_rules.specs.rules.Calls.{Opening, Call, Takes, Puts, Stops, Nexts, Writes, Hears, Joins, Loses, Clears}
 use Rattle.iscsi_outbox_rules.specs.rules.Boxes.{Outgoing, Answer, Link, Box}
 use Rattle.iscsi_outbox_rules.specs.rules.Words.{is_reply, replies_waiting, room, owing, may_take}

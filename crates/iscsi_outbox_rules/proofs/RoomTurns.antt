@@ -5,33 +5,33 @@ use Rattle.std.proofs.lemmas.Bool.Decides.{nat_tests}
 use Rattle.iscsi_wire.specs.declared.reply.Reply.{Reply}
 use Rattle.iscsi_wire.specs.declared.reply.Reply.TheVariants.{Scsi, Task, Reject}
 use Rattle.iscsi_wire.specs.Fields.{connection_of, header_of, is_immediate, opcode, itt, request_of}
-use Rattle.iscsi_history.specs.declared.effect.Why.{Why}
-use Rattle.iscsi_history.specs.declared.effect.Why.TheVariants.{Outside, Duplicate, Closed, Data, Stale}
-use Rattle.iscsi_history.specs.declared.event.Event.{Event}
-use Rattle.iscsi_history.specs.declared.event.Event.TheVariants.{Arrive, Done}
-use Rattle.iscsi_history.specs.declared.kind.Kind.{Kind}
-use Rattle.iscsi_history.specs.declared.kind.Kind.TheVariants.{PassedOver, Unknown, Executes as ExecutesKind}
-use Rattle.iscsi_history.specs.rules.Deeds.{marks_after}
-use Rattle.iscsi_history.specs.rules.Settings.{Setting}
-use Rattle.iscsi_history.specs.rules.Trace.{Arrival, Command, Mark, Admits, Delivers, Executes, Waits, Leaves, Ignores, Trace, after_items, number_received, received, is_received, admits_at, held, waiting, live, was_free, is_closed}
-use Rattle.iscsi_history.specs.rules.Execution.{exp_of, max_of, unfinished, live_immediate, rejected, ignored, completion, reply_on, sense_of_status}
-use Rattle.iscsi_history.specs.rules.Management.{may_wait, refusal_of_function, MOST_WAITING, waiting_on}
-use Rattle.iscsi_history.specs.rules.Items.{execution, waiting_item, immediate_item, function_item, item_of, is_waiting, functions, functions_at, turn_at, at_number, agenda}
-use Rattle.iscsi_history.specs.rules.Agenda.{with_turns, numbered, kind_of, arrival_as, arrival_open, arrival, arrival_of, command_of}
-use Rattle.iscsi_history.specs.rules.Run.{after_event}
-use Rattle.iscsi_history.specs.promises.Flow.{HasOneMore}
-use Rattle.iscsi_history.proofs.BoolLemmas.{and_second, or_none}
-use Rattle.iscsi_history.proofs.ElementLemmas.{In, in-filter, first-in}
-use Rattle.iscsi_history.proofs.ListLemmas.{count_by-push}
-use Rattle.iscsi_history.proofs.TraceLemmas.{after_items-append, live-quiet}
-use Rattle.iscsi_history.proofs.CountLemmas.{one}
-use Rattle.iscsi_history.proofs.HeldLemmas.{held-number, held-delivered, held-admits}
-use Rattle.iscsi_history.proofs.ReplyForms.{live_form}
-use Rattle.iscsi_history.proofs.ReplyRuns.{one_most}
-use Rattle.iscsi_history.proofs.ReceivedItems.{function_receives_none, turn_receives_none, immediate_receives_one, may_immediate}
-use Rattle.iscsi_history.proofs.FlowItems.{same_exp}
-use Rattle.iscsi_history.proofs.Forms.{AtTurn, AtArrival, AfterWaiting, begun, Completed}
-use Rattle.iscsi_history.proofs.FormItems.{does_reply, does_function, does_after}
+use Rattle.iscsi_rules.specs.declared.effect.Why.{Why}
+use Rattle.iscsi_rules.specs.declared.effect.Why.TheVariants.{Outside, Duplicate, Closed, Data, Stale}
+use Rattle.iscsi_rules.specs.declared.event.Event.{Event}
+use Rattle.iscsi_rules.specs.declared.event.Event.TheVariants.{Arrive, Done}
+use Rattle.iscsi_rules.specs.declared.kind.Kind.{Kind}
+use Rattle.iscsi_rules.specs.declared.kind.Kind.TheVariants.{PassedOver, Unknown, Executes as ExecutesKind}
+use Rattle.iscsi_rules.specs.rules.Deeds.{marks_after}
+use Rattle.iscsi_rules.specs.rules.Settings.{Setting}
+use Rattle.iscsi_rules.specs.rules.Trace.{Arrival, Command, Mark, Admits, Delivers, Executes, Waits, Leaves, Ignores, Trace, after_items, number_received, received, is_received, admits_at, held, waiting, live, was_free, is_closed}
+use Rattle.iscsi_rules.specs.rules.Execution.{exp_of, max_of, unfinished, live_immediate, rejected, ignored, completion, reply_on, sense_of_status}
+use Rattle.iscsi_rules.specs.rules.Management.{may_wait, refusal_of_function, MOST_WAITING, waiting_on}
+use Rattle.iscsi_rules.specs.rules.Items.{execution, waiting_item, immediate_item, function_item, item_of, is_waiting, functions, functions_at, turn_at, at_number, agenda}
+use Rattle.iscsi_rules.specs.rules.Agenda.{with_turns, numbered, kind_of, arrival_as, arrival_open, arrival, arrival_of, command_of}
+use Rattle.iscsi_rules.specs.rules.Run.{after_event}
+use Rattle.iscsi_rules.specs.promises.Flow.{HasOneMore}
+use Rattle.iscsi_rules.proofs.BoolLemmas.{and_second, or_none}
+use Rattle.iscsi_rules.proofs.ElementLemmas.{In, in-filter, first-in}
+use Rattle.iscsi_rules.proofs.ListLemmas.{count_by-push}
+use Rattle.iscsi_rules.proofs.TraceLemmas.{after_items-append, live-quiet}
+use Rattle.iscsi_rules.proofs.CountLemmas.{one}
+use Rattle.iscsi_rules.proofs.HeldLemmas.{held-number, held-delivered, held-admits}
+use Rattle.iscsi_rules.proofs.ReplyForms.{live_form}
+use Rattle.iscsi_rules.proofs.ReplyRuns.{one_most}
+use Rattle.iscsi_rules.proofs.ReceivedItems.{function_receives_none, turn_receives_none, immediate_receives_one, may_immediate}
+use Rattle.iscsi_rules.proofs.FlowItems.{same_exp}
+use Rattle.iscsi_rules.proofs.Forms.{AtTurn, AtArrival, AfterWaiting, begun, Completed}
+use Rattle.iscsi_rules.proofs.FormItems.{does_reply, does_function, does_after}
 use Rattle.iscsi_outbox_rules.proofs.EachLemmas.{EachOf, each-filter}
 use Rattle.iscsi_outbox_rules.proofs.RoomFair.{fair_after, fair_function, fair_reply}
 use Rattle.iscsi_outbox_rules.proofs.RoomMarks.{MarkKept, Waiter, held_numbered, all_waiters, still_unheld}

@@ -5,9 +5,9 @@ use Rattle.std.specs.List.{list_any, flat_map}
 use Rattle.std.proofs.lemmas.Bool.{cond_both, false≢true, eqb-true}
 use Rattle.std.proofs.lemmas.List.Folds.{list_any-append}
 use Rattle.iscsi_wire.specs.declared.request.Request.{Request}
-use Rattle.iscsi_history.specs.declared.effect.Effect.{Effect}
-use Rattle.iscsi_history.specs.declared.effect.Numbers.{Numbers}
-use Rattle.iscsi_history.specs.promises.Order.{in_parts}
+use Rattle.iscsi_rules.specs.declared.effect.Effect.{Effect}
+use Rattle.iscsi_rules.specs.declared.effect.Numbers.{Numbers}
+use Rattle.iscsi_rules.specs.promises.Order.{in_parts}
 use Rattle.iscsi_outbox_rules.specs.rules.Calls.{Opening, Call, Takes, Puts, Stops, Nexts, Writes, Hears, Joins, Loses, Clears}
 use Rattle.iscsi_outbox_rules.specs.rules.Boxes.{Dormant, Fresh, Started, Completed, Running, Gone, Task, Box}
 use Rattle.iscsi_outbox_rules.specs.rules.Words.{is_running_phase, is_running}

@@ -5,11 +5,11 @@ use Rattle.std.specs.List.{list_any, flat_map}
 use Rattle.std.proofs.lemmas.Bool.{false≢true, eqb-true}
 use Rattle.std.proofs.lemmas.List.{append_assoc}
 use Rattle.std.proofs.lemmas.List.Concat.{flat_map-append}
-use Rattle.iscsi_history.specs.declared.effect.Effect.{Effect}
-use Rattle.iscsi_history.specs.rules.Settings.{is_known}
-use Rattle.iscsi_history.specs.rules.Trace.{Command}
-use Rattle.iscsi_history.specs.rules.Run.{trace_of}
-use Rattle.iscsi_history.proofs.BoolLemmas.{and_parts, and_first}
+use Rattle.iscsi_rules.specs.declared.effect.Effect.{Effect}
+use Rattle.iscsi_rules.specs.rules.Settings.{is_known}
+use Rattle.iscsi_rules.specs.rules.Trace.{Command}
+use Rattle.iscsi_rules.specs.rules.Run.{trace_of}
+use Rattle.iscsi_rules.proofs.BoolLemmas.{and_parts, and_first}
 use Rattle.iscsi_outbox_rules.specs.rules.Calls.{Opening, Call, Stops}
 use Rattle.iscsi_outbox_rules.specs.rules.Boxes.{Task, Aim, Outgoing, Handed, Link, Box}
 use Rattle.iscsi_outbox_rules.specs.rules.Words.{contains, is_running_phase}

@@ -3,16 +3,16 @@
 use Rattle.std.proofs.Common.{◌≡◌, ℕ, ◌+◌, ◌≤◌, not, Bool, false, List, [], ◌∷◌, filter_map, count_by, Option, Some, None, refl, ap, sym, ◌∙◌, subst, arith}
 use Rattle.iscsi_wire.specs.declared.reply.Reply.{Reply}
 use Rattle.iscsi_wire.specs.Fields.{connection_of, is_immediate}
-use Rattle.iscsi_history.specs.declared.effect.Effect.{Effect}
-use Rattle.iscsi_history.specs.rules.Settings.{Setting}
-use Rattle.iscsi_history.specs.rules.Trace.{Arrival, Command, Mark, Sends, Trace, first_of, live}
-use Rattle.iscsi_history.specs.rules.Execution.{unfinished}
-use Rattle.iscsi_history.specs.rules.Run.{effects_of_item}
-use Rattle.iscsi_history.proofs.CountLemmas.{one, count-cons}
-use Rattle.iscsi_history.proofs.NumberingLemmas.{to_list}
-use Rattle.iscsi_history.proofs.ReplyForms.{replies_seen, live_form}
-use Rattle.iscsi_history.proofs.Forms.{Start, AtTurn, AtArrival, AfterWaiting, start_mark, Deeds, if_some, marks_done, Executed, marks_of_form, Starts, Each, EntersAs, IsFormed}
-use Rattle.iscsi_history.proofs.FormItems.{Does}
+use Rattle.iscsi_rules.specs.declared.effect.Effect.{Effect}
+use Rattle.iscsi_rules.specs.rules.Settings.{Setting}
+use Rattle.iscsi_rules.specs.rules.Trace.{Arrival, Command, Mark, Sends, Trace, first_of, live}
+use Rattle.iscsi_rules.specs.rules.Execution.{unfinished}
+use Rattle.iscsi_rules.specs.rules.Run.{effects_of_item}
+use Rattle.iscsi_rules.proofs.CountLemmas.{one, count-cons}
+use Rattle.iscsi_rules.proofs.NumberingLemmas.{to_list}
+use Rattle.iscsi_rules.proofs.ReplyForms.{replies_seen, live_form}
+use Rattle.iscsi_rules.proofs.Forms.{Start, AtTurn, AtArrival, AfterWaiting, start_mark, Deeds, if_some, marks_done, Executed, marks_of_form, Starts, Each, EntersAs, IsFormed}
+use Rattle.iscsi_rules.proofs.FormItems.{Does}
 use Rattle.iscsi_outbox_rules.specs.rules.Items.{executing, tickets_left, reply_sent}
 use Rattle.iscsi_outbox_rules.proofs.ClosedItems.{send_of, sent_item}
 use Rattle.iscsi_outbox_rules.proofs.ShownReplies.{answers, answers_numbered}

@@ -2,8 +2,8 @@
 use Rattle.std.proofs.Common.{◌≡◌, ℕ, ⊎_elim, ◌+◌, ◌≤◌, List, [], ◌∷◌, ◌++◌, max, Option, Some, None, refl, ap, sym, subst, ◌∙◌, arith}
 use Rattle.std.proofs.lemmas.Bool.{cond_both}
 use Rattle.iscsi_wire.specs.Serial.{lift}
-use Rattle.iscsi_history.specs.declared.effect.Effect.{Effect}
-use Rattle.iscsi_history.specs.promises.Order.{in_parts}
+use Rattle.iscsi_rules.specs.declared.effect.Effect.{Effect}
+use Rattle.iscsi_rules.specs.promises.Order.{in_parts}
 use Rattle.iscsi_outbox_rules.specs.rules.Calls.{Opening, Call, Takes, Puts, Stops, Nexts, Writes, Hears, Joins, Loses, Clears}
 use Rattle.iscsi_outbox_rules.specs.rules.Boxes.{Aim, Answer, Link, Box}
 use Rattle.iscsi_outbox_rules.specs.rules.Words.{is_running, max_shown}
@@ -13,7 +13,7 @@ use Rattle.iscsi_outbox_rules.specs.rules.Items.{executing, tickets_left, reply_
 use Rattle.iscsi_outbox_rules.specs.rules.Own.{own_conn, own_outgoing, put_refusal}
 use Rattle.iscsi_outbox_rules.specs.rules.Handing.{without_chosen}
 use Rattle.iscsi_outbox_rules.specs.rules.Run.{after_call, phase_stopped, one_written, link_heard, may_join, link_joined, link_lost, cleared}
-use Rattle.iscsi_history.specs.rules.Trace.{first_of}
+use Rattle.iscsi_rules.specs.rules.Trace.{first_of}
 use Rattle.std.specs.List.{list_any}
 use Rattle.std.proofs.Common.{filter_map, ◌&&◌, ◌==◌}
 use Rattle.iscsi_wire.specs.declared.reply.Reply.{Reply}

@@ -7,27 +7,27 @@ use Rattle.iscsi_wire.specs.Serial.{lift, wire}
 use Rattle.iscsi_wire.specs.declared.reply.Reply.TheVariants.{Scsi}
 use Rattle.iscsi_wire.specs.declared.request.Request.{Request}
 use Rattle.iscsi_wire.specs.Fields.{is_immediate, opcode, cmd_sn, itt, request_of}
-use Rattle.iscsi_history.specs.declared.effect.Effect.{Effect}
-use Rattle.iscsi_history.specs.declared.effect.Effect.TheVariants.{Enable}
-use Rattle.iscsi_history.specs.declared.effect.Why.TheVariants.{Stale}
-use Rattle.iscsi_history.specs.declared.entry.Entry.{Entry}
-use Rattle.iscsi_history.specs.declared.event.Event.{Event}
-use Rattle.iscsi_history.specs.declared.event.Event.TheVariants.{Arrive, Done}
-use Rattle.iscsi_history.specs.declared.kind.Kind.TheVariants.{PassedOver, Unknown, Executes as ExecutesKind}
-use Rattle.iscsi_history.specs.rules.Settings.{are_distinct}
-use Rattle.iscsi_history.specs.rules.Trace.{Command, Mark, Leaves, Trace, after_items, entered, live, was_free, has, leaves_ticket}
-use Rattle.iscsi_history.specs.rules.Execution.{exp_of, max_of, unfinished, completion, reply_on, sense_of_status}
-use Rattle.iscsi_history.specs.rules.Agenda.{kind_of, arrival_of, command_of, items_of}
-use Rattle.iscsi_history.specs.rules.Run.{newly_enabled, effects_of_item, entry_of, after_event}
-use Rattle.iscsi_history.specs.promises.Order.{in_parts}
-use Rattle.iscsi_history.proofs.BoolLemmas.{and_parts}
-use Rattle.iscsi_history.proofs.CountLemmas.{one, count-cons}
-use Rattle.iscsi_history.proofs.ElementLemmas.{In, in-filter, first-in}
-use Rattle.iscsi_history.proofs.Missing.{expected_low}
-use Rattle.iscsi_history.proofs.ReplyForms.{live_form}
-use Rattle.iscsi_history.proofs.FlowItems.{same_exp}
-use Rattle.iscsi_history.proofs.Forms.{Completed, HaveForms}
-use Rattle.iscsi_history.proofs.FormRuns.{event_going}
+use Rattle.iscsi_rules.specs.declared.effect.Effect.{Effect}
+use Rattle.iscsi_rules.specs.declared.effect.Effect.TheVariants.{Enable}
+use Rattle.iscsi_rules.specs.declared.effect.Why.TheVariants.{Stale}
+use Rattle.iscsi_rules.specs.declared.entry.Entry.{Entry}
+use Rattle.iscsi_rules.specs.declared.event.Event.{Event}
+use Rattle.iscsi_rules.specs.declared.event.Event.TheVariants.{Arrive, Done}
+use Rattle.iscsi_rules.specs.declared.kind.Kind.TheVariants.{PassedOver, Unknown, Executes as ExecutesKind}
+use Rattle.iscsi_rules.specs.rules.Settings.{are_distinct}
+use Rattle.iscsi_rules.specs.rules.Trace.{Command, Mark, Leaves, Trace, after_items, entered, live, was_free, has, leaves_ticket}
+use Rattle.iscsi_rules.specs.rules.Execution.{exp_of, max_of, unfinished, completion, reply_on, sense_of_status}
+use Rattle.iscsi_rules.specs.rules.Agenda.{kind_of, arrival_of, command_of, items_of}
+use Rattle.iscsi_rules.specs.rules.Run.{newly_enabled, effects_of_item, entry_of, after_event}
+use Rattle.iscsi_rules.specs.promises.Order.{in_parts}
+use Rattle.iscsi_rules.proofs.BoolLemmas.{and_parts}
+use Rattle.iscsi_rules.proofs.CountLemmas.{one, count-cons}
+use Rattle.iscsi_rules.proofs.ElementLemmas.{In, in-filter, first-in}
+use Rattle.iscsi_rules.proofs.Missing.{expected_low}
+use Rattle.iscsi_rules.proofs.ReplyForms.{live_form}
+use Rattle.iscsi_rules.proofs.FlowItems.{same_exp}
+use Rattle.iscsi_rules.proofs.Forms.{Completed, HaveForms}
+use Rattle.iscsi_rules.proofs.FormRuns.{event_going}
 use Rattle.iscsi_outbox_rules.specs.rules.Calls.{Opening, Call, Takes, Puts, Stops, Nexts, Writes, Hears, Joins, Loses, Clears}
 use Rattle.iscsi_outbox_rules.specs.rules.Boxes.{Box}
 use Rattle.iscsi_outbox_rules.specs.rules.Words.{numbered_room, numbered_waiting}

@@ -5,29 +5,29 @@ use Rattle.std.proofs.lemmas.Bool.{eqb-true}
 use Rattle.iscsi_wire.specs.declared.reply.Reply.{Reply}
 use Rattle.iscsi_wire.specs.declared.reply.Reply.TheVariants.{Task, Reject}
 use Rattle.iscsi_wire.specs.Fields.{connection_of, header_of, is_immediate, opcode, itt}
-use Rattle.iscsi_history.specs.declared.effect.Effect.{Effect}
-use Rattle.iscsi_history.specs.declared.effect.Effect.TheVariants.{Enable}
-use Rattle.iscsi_history.specs.declared.effect.Why.{Why}
-use Rattle.iscsi_history.specs.declared.effect.Why.TheVariants.{Outside, Duplicate, Closed, Data}
-use Rattle.iscsi_history.specs.declared.kind.Kind.{Kind}
-use Rattle.iscsi_history.specs.declared.kind.Kind.TheVariants.{PassedOver, Unknown, Executes as ExecutesKind}
-use Rattle.iscsi_history.specs.rules.Settings.{Setting}
-use Rattle.iscsi_history.specs.rules.Trace.{Arrival, Command, Mark, Admits, Executes, Waits, Ignores, Trace, after_items, number_received, received, is_received, admits_at, held, waiting, live, is_closed}
-use Rattle.iscsi_history.specs.rules.Execution.{exp_of, max_of, unfinished, rejected, ignored, reply_on}
-use Rattle.iscsi_history.specs.rules.Management.{may_wait, refusal_of_function, MOST_WAITING, waiting_on}
-use Rattle.iscsi_history.specs.rules.Items.{execution, waiting_item, immediate_item, function_item, item_of, is_waiting, functions, functions_at, turn_at, at_number, agenda}
-use Rattle.iscsi_history.specs.rules.Agenda.{with_turns, numbered, kind_of, arrival_as, arrival_open, arrival}
-use Rattle.iscsi_history.specs.rules.Run.{newly_enabled, effects_of_item}
-use Rattle.iscsi_history.specs.promises.Flow.{HasOneMore}
-use Rattle.iscsi_history.proofs.BoolLemmas.{and_second}
-use Rattle.iscsi_history.proofs.CountLemmas.{one, count-cons}
-use Rattle.iscsi_history.proofs.TraceLemmas.{after_items-append, live-quiet}
-use Rattle.iscsi_history.proofs.HeldLemmas.{held-number, held-admits, held_before}
-use Rattle.iscsi_history.proofs.ReplyRuns.{one_most}
-use Rattle.iscsi_history.proofs.ReceivedItems.{function_receives_none, turn_receives_none, immediate_receives_one, may_immediate}
-use Rattle.iscsi_history.proofs.FlowItems.{same_exp, exp_stays}
-use Rattle.iscsi_history.proofs.Forms.{AtTurn, AtArrival, AfterWaiting, begun}
-use Rattle.iscsi_history.proofs.FormItems.{Does, does_reply, does_function, does_after}
+use Rattle.iscsi_rules.specs.declared.effect.Effect.{Effect}
+use Rattle.iscsi_rules.specs.declared.effect.Effect.TheVariants.{Enable}
+use Rattle.iscsi_rules.specs.declared.effect.Why.{Why}
+use Rattle.iscsi_rules.specs.declared.effect.Why.TheVariants.{Outside, Duplicate, Closed, Data}
+use Rattle.iscsi_rules.specs.declared.kind.Kind.{Kind}
+use Rattle.iscsi_rules.specs.declared.kind.Kind.TheVariants.{PassedOver, Unknown, Executes as ExecutesKind}
+use Rattle.iscsi_rules.specs.rules.Settings.{Setting}
+use Rattle.iscsi_rules.specs.rules.Trace.{Arrival, Command, Mark, Admits, Executes, Waits, Ignores, Trace, after_items, number_received, received, is_received, admits_at, held, waiting, live, is_closed}
+use Rattle.iscsi_rules.specs.rules.Execution.{exp_of, max_of, unfinished, rejected, ignored, reply_on}
+use Rattle.iscsi_rules.specs.rules.Management.{may_wait, refusal_of_function, MOST_WAITING, waiting_on}
+use Rattle.iscsi_rules.specs.rules.Items.{execution, waiting_item, immediate_item, function_item, item_of, is_waiting, functions, functions_at, turn_at, at_number, agenda}
+use Rattle.iscsi_rules.specs.rules.Agenda.{with_turns, numbered, kind_of, arrival_as, arrival_open, arrival}
+use Rattle.iscsi_rules.specs.rules.Run.{newly_enabled, effects_of_item}
+use Rattle.iscsi_rules.specs.promises.Flow.{HasOneMore}
+use Rattle.iscsi_rules.proofs.BoolLemmas.{and_second}
+use Rattle.iscsi_rules.proofs.CountLemmas.{one, count-cons}
+use Rattle.iscsi_rules.proofs.TraceLemmas.{after_items-append, live-quiet}
+use Rattle.iscsi_rules.proofs.HeldLemmas.{held-number, held-admits, held_before}
+use Rattle.iscsi_rules.proofs.ReplyRuns.{one_most}
+use Rattle.iscsi_rules.proofs.ReceivedItems.{function_receives_none, turn_receives_none, immediate_receives_one, may_immediate}
+use Rattle.iscsi_rules.proofs.FlowItems.{same_exp, exp_stays}
+use Rattle.iscsi_rules.proofs.Forms.{AtTurn, AtArrival, AfterWaiting, begun}
+use Rattle.iscsi_rules.proofs.FormItems.{Does, does_reply, does_function, does_after}
 use Rattle.iscsi_outbox_rules.specs.rules.Items.{tickets_left}
 use Rattle.iscsi_outbox_rules.proofs.EachLemmas.{EachOf, each-filter}
 use Rattle.iscsi_outbox_rules.proofs.ClosedParts.{effects_each}

@@ -6,15 +6,15 @@ use Rattle.std.proofs.lemmas.Bool.Decides.{nat_tests}
 use Rattle.std.proofs.lemmas.List.{append_assoc}
 use Rattle.std.proofs.lemmas.List.Elements.{filter_map-append, filter-append}
 use Rattle.std.proofs.lemmas.List.Sums.{sum_by-cons, sum_by-append}
-use Rattle.iscsi_history.specs.declared.effect.Effect.{Effect}
-use Rattle.iscsi_history.specs.declared.effect.Effect.TheVariants.{Deliver, Immediate, Wait, Void, Empty, Enter, Enable, Leave, Send, CloseConn, CloseSession, Ignore}
-use Rattle.iscsi_history.specs.declared.entry.Entry.{Entry}
-use Rattle.iscsi_history.specs.rules.Run.{run_of}
-use Rattle.iscsi_history.specs.promises.Lives.{ticket_entered, tickets_entered, names_ticket, life_of, is_life}
-use Rattle.iscsi_history.specs.promises.Order.{rank, never_falls, in_parts, AreInOrder}
-use Rattle.iscsi_history.proofs.BoolLemmas.{and_parts}
-use Rattle.iscsi_history.proofs.LifeTheorem.{starts_once}
-use Rattle.iscsi_history.proofs.OrderRuns.{keeps_order}
+use Rattle.iscsi_rules.specs.declared.effect.Effect.{Effect}
+use Rattle.iscsi_rules.specs.declared.effect.Effect.TheVariants.{Deliver, Immediate, Wait, Void, Empty, Enter, Enable, Leave, Send, CloseConn, CloseSession, Ignore}
+use Rattle.iscsi_rules.specs.declared.entry.Entry.{Entry}
+use Rattle.iscsi_rules.specs.rules.Run.{run_of}
+use Rattle.iscsi_rules.specs.promises.Lives.{ticket_entered, tickets_entered, names_ticket, life_of, is_life}
+use Rattle.iscsi_rules.specs.promises.Order.{rank, never_falls, in_parts, AreInOrder}
+use Rattle.iscsi_rules.proofs.BoolLemmas.{and_parts}
+use Rattle.iscsi_rules.proofs.LifeTheorem.{starts_once}
+use Rattle.iscsi_rules.proofs.OrderRuns.{keeps_order}
 use Rattle.iscsi_outbox_rules.specs.rules.Calls.{Opening, Call}
 use Rattle.iscsi_outbox_rules.specs.rules.Items.{ticket_left, tickets_left}
 use Rattle.iscsi_outbox_rules.specs.rules.Run.{opened}

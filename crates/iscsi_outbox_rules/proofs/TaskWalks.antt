@@ -1,16 +1,16 @@
 -- What each step of an event keeps, the event keeps, where the steps say what becomes of the commands.
 use Rattle.std.proofs.Common.{not, ◌≡◌, ℕ, ◌==◌, ◌+◌, ◌≤◌, cond, true, false, List, [], ◌∷◌, ◌++◌, map, filter_map, Option, Some, None, refl, sym, subst, ◌∙◌, arith, Bool, ap}
 use Rattle.std.proofs.lemmas.Bool.{cond_both, false≢true}
-use Rattle.iscsi_history.proofs.BoolLemmas.{not_true}
+use Rattle.iscsi_rules.proofs.BoolLemmas.{not_true}
 use Rattle.std.proofs.lemmas.List.{append_assoc, append-nil}
 use Rattle.iscsi_wire.specs.Fields.{connection_of}
 use Rattle.iscsi_wire.specs.Serial.{lift}
 use Rattle.iscsi_wire.specs.declared.reply.Reply.{Reply}
 use Rattle.iscsi_wire.specs.declared.request.Request.{Request}
-use Rattle.iscsi_history.specs.declared.effect.Effect.{Effect}
-use Rattle.iscsi_history.specs.declared.effect.Numbers.{Numbers}
-use Rattle.iscsi_history.specs.rules.Trace.{first_of}
-use Rattle.iscsi_history.specs.promises.Order.{in_parts}
+use Rattle.iscsi_rules.specs.declared.effect.Effect.{Effect}
+use Rattle.iscsi_rules.specs.declared.effect.Numbers.{Numbers}
+use Rattle.iscsi_rules.specs.rules.Trace.{first_of}
+use Rattle.iscsi_rules.specs.promises.Order.{in_parts}
 use Rattle.iscsi_outbox_rules.specs.rules.Calls.{Opening}
 use Rattle.iscsi_outbox_rules.specs.rules.Boxes.{Phase, Dormant, Fresh, Started, Completed, Running, Gone, Task, Answer, Box}
 use Rattle.iscsi_outbox_rules.specs.rules.Words.{contains, is_live_phase, is_left_phase}

@@ -7,15 +7,15 @@ use Rattle.std.proofs.lemmas.List.Elements.{filter_map-append}
 use Rattle.std.proofs.lemmas.List.Sums.{sum_by-cons, sum_by-append}
 use Rattle.iscsi_wire.specs.declared.request.Request.{Request}
 use Rattle.iscsi_wire.specs.Fields.{connection_of}
-use Rattle.iscsi_history.specs.declared.effect.Effect.{Effect}
-use Rattle.iscsi_history.specs.declared.effect.Effect.TheVariants.{Deliver, Immediate, Wait, Void, Empty, Enter, Enable, Leave, Send, CloseConn, CloseSession, Ignore}
-use Rattle.iscsi_history.specs.declared.entry.Entry.{Entry}
-use Rattle.iscsi_history.specs.rules.Run.{run_of}
-use Rattle.iscsi_history.specs.promises.Enabling.{effects_in}
-use Rattle.iscsi_history.specs.promises.Lives.{ticket_entered, tickets_entered}
-use Rattle.iscsi_history.specs.promises.Order.{is_request, onto_first, in_parts}
-use Rattle.iscsi_history.proofs.ListLemmas.{count_by-map}
-use Rattle.iscsi_history.proofs.LifeTheorem.{starts_once}
+use Rattle.iscsi_rules.specs.declared.effect.Effect.{Effect}
+use Rattle.iscsi_rules.specs.declared.effect.Effect.TheVariants.{Deliver, Immediate, Wait, Void, Empty, Enter, Enable, Leave, Send, CloseConn, CloseSession, Ignore}
+use Rattle.iscsi_rules.specs.declared.entry.Entry.{Entry}
+use Rattle.iscsi_rules.specs.rules.Run.{run_of}
+use Rattle.iscsi_rules.specs.promises.Enabling.{effects_in}
+use Rattle.iscsi_rules.specs.promises.Lives.{ticket_entered, tickets_entered}
+use Rattle.iscsi_rules.specs.promises.Order.{is_request, onto_first, in_parts}
+use Rattle.iscsi_rules.proofs.ListLemmas.{count_by-map}
+use Rattle.iscsi_rules.proofs.LifeTheorem.{starts_once}
 use Rattle.iscsi_outbox_rules.specs.rules.Calls.{Opening, Call}
 use Rattle.iscsi_outbox_rules.specs.rules.Boxes.{Task}
 use Rattle.iscsi_outbox_rules.specs.rules.Run.{opened}

@@ -2,7 +2,7 @@
 use Rattle.std.specs.Prelude.{◌≡◌, ℕ, true, false, List, [], ◌∷◌, filter_map, map, Option, Some, None, refl}
 use Rattle.iscsi_tasks.specs.Rules as Rules
 use Rattle.iscsi_wire.specs.declared.reply.Reply.TheVariants.{Nop}
-use Rattle.iscsi_history.specs.examples.Rows.{nop_now, setting, of_two}
+use Rattle.iscsi_rules.specs.examples.Rows.{nop_now, setting, of_two}
 use Rattle.iscsi_outbox_rules.specs.rules.Boxes.{Pdu as RulesPdu, Replies, Owns, Pings, Notices}
 use Rattle.iscsi_outbox_rules.specs.rules.Calls.{Opening}
 use Rattle.iscsi_outbox_rules.specs.examples.Rows.{Row, Said, Quiet, Goes, NoneGoes, NoneIsLeft, arrives, calls_of, joins, outbox, replies, said_by_join, said_by_put, said_by_stopped}

@@ -1,7 +1,7 @@
 -- A line of the common form, with its end.
 use Rattle.std.proofs.Common.{◌≡◌, ℕ, ◌+◌, ◌≤◌, false, List, [], ◌++◌, length, take, drop, Some, refl, ap, ◌∙◌, arith, length-take, append_assoc, Result}
 use Rattle.std.specs.Prelude.{ok_or, nat_lt}
-use Rattle.iscsi_history.specs.declared.event.Event.{Event}
+use Rattle.iscsi_rules.specs.declared.event.Event.{Event}
 use Rattle.iscsi_recording.specs.Grammar.{line_of}
 use Rattle.iscsi_recording.specs.Recorded.{Recorded, view, read_line, read_lines, lines_of}
 use Rattle.iscsi_recording.specs.Recorded as recorded

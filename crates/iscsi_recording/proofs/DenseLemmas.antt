@@ -2,8 +2,8 @@
 use Rattle.std.proofs.Common.{◌≡◌, ℕ, zero, suc, ◌*◌, ◌≤◌, ◌<◌, ◌∙◌, ◌==◌, if◌then◌else◌, ◌-◌, true, false, List, [], ◌∷◌, ◌++◌, length, take, drop, slice_index, replicate, refl, ap, ap₂, sym, subst, arith, length-append, length-drop, lit≤}
 use Rattle.std.proofs.lemmas.List.{take-append-le, drop-append-le, take_all, drop_all}
 use Rattle.byteorder.specs.Numbers.{big_number-reads_back}
-use Rattle.iscsi_history.specs.declared.event.Event.{Event}
-use Rattle.iscsi_history.specs.declared.event.Event.TheVariants.{Arrive, Done}
+use Rattle.iscsi_rules.specs.declared.event.Event.{Event}
+use Rattle.iscsi_rules.specs.declared.event.Event.TheVariants.{Arrive, Done}
 use Rattle.iscsi_recording.specs.Dense.{bytes_of, first_size, event_in, events_of, IsDense, Fits}
 
 -- a completion and an arrival, and the bytes that they stand in

@@ -3,9 +3,9 @@ use Rattle.std.proofs.Common.{◌≡◌, ℕ, ◌+◌, ◌-◌, ◌<◌, ◌≤�
 use Rattle.std.specs.Prelude.{◌==◌, ◌&&◌, ◌||◌, not, nat_lt, ok_or, option_and_then}
 use Rattle.std.specs.List.{list_all}
 use Rattle.std.proofs.lemmas.List.Folds.{list_any-append, list_all-append}
-use Rattle.iscsi_history.specs.declared.event.Event.{Event}
-use Rattle.iscsi_history.specs.rules.Settings.{is_known, are_distinct}
-use Rattle.iscsi_history.specs.rules.Agenda.{belongs}
+use Rattle.iscsi_rules.specs.declared.event.Event.{Event}
+use Rattle.iscsi_rules.specs.rules.Settings.{is_known, are_distinct}
+use Rattle.iscsi_rules.specs.rules.Agenda.{belongs}
 use Rattle.iscsi_recording.specs.Grammar.{line_of}
 use Rattle.iscsi_recording.specs.declared.line.Line.{Line}
 use Rattle.iscsi_recording.specs.declared.line.Line.TheVariants as line

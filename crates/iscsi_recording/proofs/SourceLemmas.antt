@@ -1,6 +1,6 @@
 -- Events that come one after another: those before, the next one, and those after it.
 use Rattle.std.proofs.Common.{◌≡◌, List, [], ◌∷◌, ◌++◌, sym, ap, ◌∙◌, append-nil, append_assoc}
-use Rattle.iscsi_history.specs.declared.event.Event.{Event}
+use Rattle.iscsi_rules.specs.declared.event.Event.{Event}
 
 -- the next one comes after those before it
 pub with_next : (all before rest after : List Event) (e : Event) → all ≡ before ++ rest → rest ≡ e ∷ after → all ≡ before ++ e ∷ after

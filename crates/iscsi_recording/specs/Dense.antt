@@ -1,8 +1,8 @@
 -- Events that stand one after another in few bytes.
 use Rattle.std.specs.Prelude.{◌≡◌, ℕ, zero, suc, ◌≤◌, ◌<◌, ◌^◌, ◌==◌, if◌then◌else◌, List, [], ◌∷◌, ◌++◌, length, take, drop, slice_index}
 use Rattle.byteorder.specs.Endian.{big_bytes, big_number}
-use Rattle.iscsi_history.specs.declared.event.Event.{Event}
-use Rattle.iscsi_history.specs.declared.event.Event.TheVariants.{Arrive, Done}
+use Rattle.iscsi_rules.specs.declared.event.Event.{Event}
+use Rattle.iscsi_rules.specs.declared.event.Event.TheVariants.{Arrive, Done}
 
 -- the bytes of an event: its kind, and then its parts, numbers with their highest byte first
 abbrev pub bytes_of : Event → List ℕ

@@ -1,7 +1,7 @@
 -- What stands at the front of bytes of which more may come.
 use Rattle.std.specs.Prelude.{◌≡◌, ℕ, ◌^◌, ◌<◌, ◌≤◌, true, false, List, length, take, slice_index, Some}
 use Rattle.std.specs.List.{list_any}
-use Rattle.iscsi_history.specs.declared.event.Event.{Event}
+use Rattle.iscsi_rules.specs.declared.event.Event.{Event}
 use Rattle.iscsi_recording.specs.Fields.{digits_after, decimal_of}
 use Rattle.iscsi_recording.specs.Grammar.{line_of}
 use Rattle.iscsi_recording.specs.Recorded.{Recorded}

@@ -1,9 +1,9 @@
 -- What a recording says, line by line.
 use Rattle.std.specs.Prelude.{◌≡◌, ℕ, ◌+◌, ◌≤◌, ◌==◌, ◌||◌, not, nat_lt, Bool, true, false, if◌then◌else◌, List, [], ◌∷◌, ◌++◌, length, Option, Some, None, ok_or, option_and_then, Result, Ok, Err, ⊤}
 use Rattle.std.specs.List.{list_all}
-use Rattle.iscsi_history.specs.declared.event.Event.{Event}
-use Rattle.iscsi_history.specs.declared.event.Event.TheVariants.{Arrive, Done}
-use Rattle.iscsi_history.specs.rules.Settings.{is_known, are_distinct}
+use Rattle.iscsi_rules.specs.declared.event.Event.{Event}
+use Rattle.iscsi_rules.specs.declared.event.Event.TheVariants.{Arrive, Done}
+use Rattle.iscsi_rules.specs.rules.Settings.{is_known, are_distinct}
 use Rattle.iscsi_recording.specs.Grammar.{line_of}
 use Rattle.iscsi_recording.specs.declared.line.Line.{Line}
 use Rattle.iscsi_recording.specs.declared.line.Line.TheVariants as line

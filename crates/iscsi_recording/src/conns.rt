@@ -1,7 +1,7 @@
 //! The connections of a recording.
 
 ghost use Rattle.std.specs.Prelude.{◌≡◌, ◌==◌, [], ◌∷◌, ◌++◌, length, OnOk, OnErr};
-ghost use Rattle.iscsi_history.specs.rules.Settings.{is_known};
+ghost use Rattle.iscsi_rules.specs.rules.Settings.{is_known};
 
 use std::alloc::{AllocError, Global};
 use std::marker::Model;

@@ -1,9 +1,9 @@
 //! Events that come one after another.
 
 ghost use Rattle.std.specs.Prelude.{◌≡◌, [], ◌∷◌, List, true, false};
-ghost use Rattle.iscsi_history.specs.declared.event.Event.{Event};
+ghost use Rattle.iscsi_rules.specs.declared.event.Event.{Event};
 
-use iscsi_history::Event;
+use iscsi_rules::Event;
 
 /// An event, before the first one comes.
 pub const NO_EVENT: Event = Event::Done {

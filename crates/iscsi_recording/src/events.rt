@@ -6,7 +6,7 @@ ghost use Rattle.iscsi_recording.specs.Dense.{bytes_of, Fits, first_size, event_
 use crate::bytes::Bytes;
 use crate::event_source::EventSource;
 use byteorder::{BigEndian, ByteOrder};
-use iscsi_history::Event;
+use iscsi_rules::Event;
 use std::alloc::{AllocError, Global};
 use std::marker::Model;
 
@@ -39,7 +39,7 @@ impl Drop for Events {
 
 impl Model for Events {
     ghost use Rattle.std.specs.Prelude.{List};
-    ghost use Rattle.iscsi_history.specs.declared.event.Event.{Event as SpecEvent};
+    ghost use Rattle.iscsi_rules.specs.declared.event.Event.{Event as SpecEvent};
 
     ghost Value = { List SpecEvent };
 
@@ -247,7 +247,7 @@ pub struct Cursor<'a> {
 
 impl<'a> Model for Cursor<'a> {
     ghost use Rattle.std.specs.Prelude.{List};
-    ghost use Rattle.iscsi_history.specs.declared.event.Event.{Event as SpecEvent};
+    ghost use Rattle.iscsi_rules.specs.declared.event.Event.{Event as SpecEvent};
 
     ghost Value = { List SpecEvent };
 

@@ -1,6 +1,6 @@
 //! What one line of a recording says.
 
-use iscsi_history::Event;
+use iscsi_rules::Event;
 
 /// What one line of a recording says.
 #[derive(Clone, Copy)]

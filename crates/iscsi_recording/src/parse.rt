@@ -11,7 +11,7 @@ ghost use Rattle.iscsi_recording.specs.Fronts.{FirstSays};
 use crate::eight::{TICKET_DIGITS, common_ticket};
 use crate::fronts::cid_first;
 use crate::line::Line;
-use iscsi_history::Event;
+use iscsi_rules::Event;
 
 #[inline(always)]
 fn first_blank(bytes: &[u8]) -> Option<usize>

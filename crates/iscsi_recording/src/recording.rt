@@ -11,7 +11,7 @@ use crate::events::Events;
 use crate::fault::ReplayFault;
 use crate::line::Line;
 use crate::parse::{arrival, completion, first_arrival, first_completion, parse_line};
-use iscsi_history::Event;
+use iscsi_rules::Event;
 use std::alloc::Global;
 
 /// The most lines of a recording.

@@ -10,11 +10,11 @@ use Rattle.std.proofs.lemmas.List.Elements.{All-nil, All-cons, All-append}
 use Rattle.hex.specs.Hex.{IsBytes, decode_sized}
 use Rattle.hex.specs.declared.error.FromHexError.{FromHexError}
 use Rattle.hex.proofs.HexLemmas.{decode_sized-ok, decode_sized-twice, decode_of-ok}
-use Rattle.iscsi_history.specs.declared.event.Event.{Event}
-use Rattle.iscsi_history.specs.declared.event.Event.TheVariants.{Arrive, Done}
-use Rattle.iscsi_history.specs.rules.Settings.{is_known}
+use Rattle.iscsi_rules.specs.declared.event.Event.{Event}
+use Rattle.iscsi_rules.specs.declared.event.Event.TheVariants.{Arrive, Done}
+use Rattle.iscsi_rules.specs.rules.Settings.{is_known}
 use Rattle.iscsi_report.specs.Lines.{report_from}
-use Rattle.iscsi_history.specs.rules.Run.{run_of}
+use Rattle.iscsi_rules.specs.rules.Run.{run_of}
 use Rattle.iscsi_recording.specs.declared.line.Line.{Line}
 use Rattle.iscsi_recording.specs.declared.line.Line.TheVariants as line
 use Rattle.iscsi_recording.specs.declared.fault.ReplayFault.{ReplayFault}

@@ -3,14 +3,14 @@ use Rattle.std.proofs.Common.{◌≡◌, ◌<◌, ◌≤◌, ◌&&◌, Bool, tru
 use Rattle.std.specs.Prelude.{Result, Err}
 use Rattle.std.specs.List.{list_all}
 use Rattle.std.proofs.lemmas.List.Folds.{list_all-append}
-use Rattle.iscsi_history.proofs.BoolLemmas.{and_first, and_second}
-use Rattle.iscsi_history.specs.declared.event.Event.{Event}
-use Rattle.iscsi_history.specs.declared.event.Event.TheVariants.{Arrive, Done}
+use Rattle.iscsi_rules.proofs.BoolLemmas.{and_first, and_second}
+use Rattle.iscsi_rules.specs.declared.event.Event.{Event}
+use Rattle.iscsi_rules.specs.declared.event.Event.TheVariants.{Arrive, Done}
 use Rattle.iscsi_session.specs.declared.fault.SessionFault.{SessionFault}
 use Rattle.iscsi_session.specs.declared.fault.SessionFault.TheVariants.{NoMemory}
-use Rattle.iscsi_history.specs.rules.Settings.{Setting, is_valid}
+use Rattle.iscsi_rules.specs.rules.Settings.{Setting, is_valid}
 use Rattle.iscsi_session.specs.promises.Refusals.{RefusesAs, refusal_of, refusal_of_options}
-use Rattle.iscsi_history.specs.rules.Agenda.{belongs}
+use Rattle.iscsi_rules.specs.rules.Agenda.{belongs}
 use Rattle.iscsi_recording.specs.Recorded.{belongs_to}
 
 -- where nothing is refused, a refusal is want of memory

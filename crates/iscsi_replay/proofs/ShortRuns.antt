@@ -7,20 +7,20 @@ use Rattle.iscsi_wire.specs.declared.reply.Sense.{Sense}
 use Rattle.iscsi_wire.specs.declared.reply.Reply.{Reply}
 use Rattle.iscsi_wire.specs.declared.reply.Reply.TheVariants.{Scsi, Task, Logout, Nop, Reject}
 use Rattle.iscsi_wire.specs.Fields.{connection_of, header_of, itt}
-use Rattle.iscsi_history.specs.declared.effect.Effect.TheVariants.{Enable}
-use Rattle.iscsi_history.specs.declared.event.Event.{Event}
-use Rattle.iscsi_history.specs.declared.event.Event.TheVariants.{Arrive, Done}
-use Rattle.iscsi_history.specs.rules.Settings.{Setting}
-use Rattle.iscsi_history.specs.rules.Trace.{Arrival, Command, Mark, Admits, Delivers, Executes, Voids, Empties, Waits, Leaves, Enters, Sends, ClosesConn, ClosesSession, Ignores, Trace, after_items, shown, admits_at, held, waiting, waiting_by, waiting_through}
-use Rattle.iscsi_history.specs.rules.Execution.{sense_of_status}
-use Rattle.iscsi_history.specs.rules.Agenda.{items_of}
-use Rattle.iscsi_history.specs.rules.Run.{after_event, effects_of_mark, newly_enabled, effects_of_item, effects_of, entries_from, entry_of, run_of}
-use Rattle.iscsi_history.specs.promises.Answers.{Answers}
-use Rattle.iscsi_history.proofs.ElementLemmas.{In, in-append, in-cons, in-filter, first-in}
-use Rattle.iscsi_history.proofs.HeldLemmas.{admitted_of_held}
-use Rattle.iscsi_history.proofs.Forms.{Start, AtTurn, AtArrival, AfterWaiting, start_mark, marks_done, Form, Ignored, Rejected, Received, Postponed, Completed, Executed, marks_of_form, Starts, IsFormed}
-use Rattle.iscsi_history.proofs.FormRuns.{IsDue, StandsAt, Stands, Turns, TurnsOf, Brings, event_stands}
-use Rattle.iscsi_history.proofs.DeedLemmas.{each_is, each_done}
+use Rattle.iscsi_rules.specs.declared.effect.Effect.TheVariants.{Enable}
+use Rattle.iscsi_rules.specs.declared.event.Event.{Event}
+use Rattle.iscsi_rules.specs.declared.event.Event.TheVariants.{Arrive, Done}
+use Rattle.iscsi_rules.specs.rules.Settings.{Setting}
+use Rattle.iscsi_rules.specs.rules.Trace.{Arrival, Command, Mark, Admits, Delivers, Executes, Voids, Empties, Waits, Leaves, Enters, Sends, ClosesConn, ClosesSession, Ignores, Trace, after_items, shown, admits_at, held, waiting, waiting_by, waiting_through}
+use Rattle.iscsi_rules.specs.rules.Execution.{sense_of_status}
+use Rattle.iscsi_rules.specs.rules.Agenda.{items_of}
+use Rattle.iscsi_rules.specs.rules.Run.{after_event, effects_of_mark, newly_enabled, effects_of_item, effects_of, entries_from, entry_of, run_of}
+use Rattle.iscsi_rules.specs.promises.Answers.{Answers}
+use Rattle.iscsi_rules.proofs.ElementLemmas.{In, in-append, in-cons, in-filter, first-in}
+use Rattle.iscsi_rules.proofs.HeldLemmas.{admitted_of_held}
+use Rattle.iscsi_rules.proofs.Forms.{Start, AtTurn, AtArrival, AfterWaiting, start_mark, marks_done, Form, Ignored, Rejected, Received, Postponed, Completed, Executed, marks_of_form, Starts, IsFormed}
+use Rattle.iscsi_rules.proofs.FormRuns.{IsDue, StandsAt, Stands, Turns, TurnsOf, Brings, event_stands}
+use Rattle.iscsi_rules.proofs.DeedLemmas.{each_is, each_done}
 use Rattle.iscsi_replay.specs.Again.{IsRecordableEvent}
 use Rattle.iscsi_recording.proofs.FieldLemmas.{decimal_length}
 use Rattle.iscsi_recording.proofs.EffectLemmas.{IsShortReply, IsShortEffect}

@@ -7,13 +7,13 @@ use Rattle.std.proofs.lemmas.Bool.Decides.{nat_tests}
 use Rattle.std.proofs.lemmas.List.{get_or-map, length-map, map-append}
 use Rattle.std.proofs.lemmas.List.Quantifiers.{position-Some}
 use Rattle.std.proofs.lemmas.Bool.{eqb-true, false≢true}
-use Rattle.iscsi_history.proofs.ListLemmas.{IsSome-position}
+use Rattle.iscsi_rules.proofs.ListLemmas.{IsSome-position}
 use mathlib.Core.List.{IsPrefix}
-use Rattle.iscsi_history.proofs.BoolLemmas.{and_first, and_second}
-use Rattle.iscsi_history.specs.declared.event.Event.{Event}
-use Rattle.iscsi_history.specs.declared.event.Event.TheVariants.{Arrive, Done}
-use Rattle.iscsi_history.specs.rules.Settings.{Setting, is_known, are_distinct}
-use Rattle.iscsi_history.specs.rules.Run.{run_of}
+use Rattle.iscsi_rules.proofs.BoolLemmas.{and_first, and_second}
+use Rattle.iscsi_rules.specs.declared.event.Event.{Event}
+use Rattle.iscsi_rules.specs.declared.event.Event.TheVariants.{Arrive, Done}
+use Rattle.iscsi_rules.specs.rules.Settings.{Setting, is_known, are_distinct}
+use Rattle.iscsi_rules.specs.rules.Run.{run_of}
 use Rattle.iscsi_threads.specs.declared.fault.LoopFault.{LoopFault}
 use Rattle.iscsi_threads.specs.declared.fault.LoopFault.TheVariants as loop
 use Rattle.iscsi_threads.specs.Full as served

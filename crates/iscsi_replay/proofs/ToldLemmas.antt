@@ -3,7 +3,7 @@ use Rattle.std.proofs.Common.{◌≡◌, ◌∙◌, ℕ, Bool, true, false, List
 use Rattle.std.specs.Prelude.{IfSome, OnOk, IsErrOf}
 use Rattle.std.proofs.lemmas.Bool.{false≢true}
 use Rattle.clap.specs.Words.{Row, Text, fault_of, matches_of}
-use Rattle.iscsi_history.specs.rules.Settings.{is_within}
+use Rattle.iscsi_rules.specs.rules.Settings.{is_within}
 use Rattle.iscsi_settings.specs.Command.{replay_app, IsNumberIn, HasValues, SettingsAre}
 use Rattle.iscsi_settings.specs.Limits.{are_valid}
 use Rattle.iscsi_recording.specs.Order.{ReadsInOrder}

@@ -2,8 +2,8 @@
 use Rattle.std.specs.Prelude.{◌≡◌, ℕ, ◌^◌, ◌<◌, ◌≤◌, List, ◌++◌, length, codes, decimal, Result, Ok, Err, ⊤}
 use Rattle.std.specs.List.{All, flat_map}
 use Rattle.hex.specs.Hex.{IsBytes}
-use Rattle.iscsi_history.specs.declared.event.Event.{Event}
-use Rattle.iscsi_history.specs.declared.event.Event.TheVariants.{Arrive, Done}
+use Rattle.iscsi_rules.specs.declared.event.Event.{Event}
+use Rattle.iscsi_rules.specs.declared.event.Event.TheVariants.{Arrive, Done}
 use Rattle.iscsi_report.specs.Lines.{eight_digits}
 use Rattle.iscsi_recording.specs.Recorded.{Recorded, IsSound, lines_of, read_of}
 use Rattle.iscsi_replay.specs.Replayed.{report_of}

@@ -1,11 +1,11 @@
 -- What a replay answers, and what it writes.
 use Rattle.std.specs.Prelude.{◌≡◌, ℕ, List, Option, Result, Ok, Err, IfSome, IsOk, ⊤}
 use Rattle.std.specs.Io.KnownBytes.{Appends, Keeps, IsAtEnd}
-use Rattle.iscsi_history.specs.rules.Settings.{Setting}
-use Rattle.iscsi_history.specs.declared.event.Event.{Event}
-use Rattle.iscsi_history.specs.declared.entry.Entry.{Entry}
-use Rattle.iscsi_history.specs.promises.Promises.{KeepsPromises}
-use Rattle.iscsi_history.specs.rules.Run.{run_of}
+use Rattle.iscsi_rules.specs.rules.Settings.{Setting}
+use Rattle.iscsi_rules.specs.declared.event.Event.{Event}
+use Rattle.iscsi_rules.specs.declared.entry.Entry.{Entry}
+use Rattle.iscsi_rules.specs.promises.Promises.{KeepsPromises}
+use Rattle.iscsi_rules.specs.rules.Run.{run_of}
 use Rattle.iscsi_report.specs.Lines.{report_from}
 use Rattle.iscsi_recording.specs.Recorded.{Recorded, read_of}
 use Rattle.iscsi_recording.specs.Writing.{AppendsFront}

@@ -3,11 +3,11 @@ use Rattle.std.specs.Prelude.{◌≡◌, ◌⊎◌, ℕ, ◌<◌, ◌≤◌, tru
 use Rattle.std.specs.declared.alloc.Global.{Global}
 use Rattle.std.specs.Io.KnownBytes.{Appends, Keeps}
 use mathlib.Core.List.{IsPrefix}
-use Rattle.iscsi_history.specs.rules.Settings.{Setting}
-use Rattle.iscsi_history.specs.rules.Trace.{live}
-use Rattle.iscsi_history.specs.rules.Run.{run_of, trace_of}
-use Rattle.iscsi_history.specs.promises.Promises.{KeepsPromises}
-use Rattle.iscsi_history.specs.declared.event.Event.{Event}
+use Rattle.iscsi_rules.specs.rules.Settings.{Setting}
+use Rattle.iscsi_rules.specs.rules.Trace.{live}
+use Rattle.iscsi_rules.specs.rules.Run.{run_of, trace_of}
+use Rattle.iscsi_rules.specs.promises.Promises.{KeepsPromises}
+use Rattle.iscsi_rules.specs.declared.event.Event.{Event}
 use Rattle.iscsi_threads.specs.declared.fault.LoopFault.{LoopFault}
 use Rattle.iscsi_threads.specs.declared.fault.LoopFault.TheVariants as loop
 use Rattle.iscsi_threads.specs.Journal.{cids_in, part, done, are_sources}

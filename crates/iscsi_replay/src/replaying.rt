@@ -3,13 +3,13 @@
 ghost use Rattle.std.specs.Prelude.{◌≡◌, ◌≢◌, ◌↔◌, ◌⊎◌, ◌<◌, ◌≤◌, true, false, [], length, IfSome, OnOk, IfOk, IfErr, IsErrOf, MatchResult, Ok};
 ghost use Rattle.std.specs.List.{list_all};
 ghost use Rattle.std.specs.Io.KnownBytes.{Appends};
-ghost use Rattle.iscsi_history.specs.rules.Settings.{is_valid};
+ghost use Rattle.iscsi_rules.specs.rules.Settings.{is_valid};
 ghost use Rattle.iscsi_session.specs.private.Standing.{StandsFor};
 ghost use Rattle.iscsi_settings.specs.Limits.{are_valid};
 ghost use Rattle.iscsi_recording.specs.Recorded.{Recorded, view, read_of, belongs_to};
 ghost use Rattle.iscsi_recording.specs.Order.{ReadsInOrder};
-ghost use Rattle.iscsi_history.specs.promises.Promises.{KeepsPromises};
-ghost use Rattle.iscsi_history.specs.rules.Run.{run_of};
+ghost use Rattle.iscsi_rules.specs.promises.Promises.{KeepsPromises};
+ghost use Rattle.iscsi_rules.specs.rules.Run.{run_of};
 ghost use Rattle.iscsi_replay.specs.Replayed.{setting_with, report_by, Reported, KeepsWord, FrontReported, AnswersAs, ComesOfReading, IsReadWhole};
 ghost use Rattle.iscsi_recording.specs.Writing.{AppendsFront, AppendsBut};
 ghost use Rattle.iscsi_replay.specs.Again.{IsRecordable, IsReadAgain};

@@ -2,7 +2,7 @@
 
 ghost use Rattle.std.specs.Prelude.{◌≡◌, ◌≢◌, ◌↔◌, ◌⊎◌, ◌<◌, ◌==◌, true, false, [], map, position, replicate, vec_len, IfSome, OnOk, IfOk, IfErr, IsErrOf};
 ghost use Rattle.std.specs.List.{list_all};
-ghost use Rattle.iscsi_history.specs.rules.Settings.{are_distinct};
+ghost use Rattle.iscsi_rules.specs.rules.Settings.{are_distinct};
 ghost use Rattle.iscsi_threads.specs.Journal.{cids_in, parts};
 ghost use Rattle.iscsi_threads.specs.Ends.{grow};
 ghost use Rattle.iscsi_settings.specs.Limits.{are_valid};

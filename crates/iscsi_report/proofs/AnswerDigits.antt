@@ -9,8 +9,8 @@ use Rattle.iscsi_wire.specs.Replies.{bytes_4}
 use Rattle.iscsi_wire.specs.declared.reply.Sense.{Sense}
 use Rattle.iscsi_wire.specs.declared.reply.Reply.{Reply}
 use Rattle.iscsi_wire.specs.declared.reply.Reply.TheVariants.{Scsi, Task}
-use Rattle.iscsi_history.specs.declared.effect.Effect.TheVariants.{Send}
-use Rattle.iscsi_history.specs.declared.effect.Numbers.{Numbers}
+use Rattle.iscsi_rules.specs.declared.effect.Effect.TheVariants.{Send}
+use Rattle.iscsi_rules.specs.declared.effect.Numbers.{Numbers}
 use Rattle.iscsi_report.specs.Lines.{eight_digits, effect_line}
 
 -- the bytes of a number, of which the lowest came first

@@ -1,14 +1,14 @@
 -- Hexadecimal digits of bytes in two parts.
 use Rattle.std.proofs.Common.{◌≡◌, ℕ, List, [], ◌∷◌, ◌++◌, ◌/◌, ◌%◌, slice_index, codes, refl, ◌+◌, ap, sym, ◌∙◌, append_assoc}
 use Rattle.hex.specs.Hex.{encode_with, lower_digits, encode_lower}
-use Rattle.iscsi_history.specs.declared.event.Event.{Event}
-use Rattle.iscsi_history.specs.declared.entry.Entry.{Entry}
-use Rattle.iscsi_history.specs.rules.Settings.{Setting}
-use Rattle.iscsi_history.specs.rules.Trace.{Trace}
-use Rattle.iscsi_history.specs.rules.Run.{after_event, entry_of, entries_from, run_of, next_entry}
+use Rattle.iscsi_rules.specs.declared.event.Event.{Event}
+use Rattle.iscsi_rules.specs.declared.entry.Entry.{Entry}
+use Rattle.iscsi_rules.specs.rules.Settings.{Setting}
+use Rattle.iscsi_rules.specs.rules.Trace.{Trace}
+use Rattle.iscsi_rules.specs.rules.Run.{after_event, entry_of, entries_from, run_of, next_entry}
 use Rattle.iscsi_report.specs.Lines.{event_line, entry_lines, report_from}
 use Rattle.std.proofs.lemmas.List.{append-nil}
-use Rattle.iscsi_history.proofs.RunLemmas.{run_of-push}
+use Rattle.iscsi_rules.proofs.RunLemmas.{run_of-push}
 
 -- the digits of a byte, and those of two with fixed ones between them
 pub pair : (b x y : ℕ) → x ≡ slice_index lower_digits (b / 16) → y ≡ slice_index lower_digits (b % 16) → x ∷ y ∷ [] ≡ encode_lower (b ∷ [])

@@ -13,7 +13,7 @@ use crate::line::{
 };
 use crate::tens::Tens;
 use crate::vector::digits_of_four;
-use iscsi_history::{Effect, Numbers, Why};
+use iscsi_rules::{Effect, Numbers, Why};
 use iscsi_tasks::Attr;
 use iscsi_wire::{Pdu, Reply, Request};
 

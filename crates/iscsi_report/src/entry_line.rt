@@ -10,7 +10,7 @@ use crate::effect_line::{
 };
 use crate::event_line::{write_arrival, write_completion};
 use crate::tens::Tens;
-use iscsi_history::{Effect, Event, Numbers};
+use iscsi_rules::{Effect, Event, Numbers};
 
 /// Writes the lines of an event that ended with these numbers, and of its effects.
 #[inline(always)]

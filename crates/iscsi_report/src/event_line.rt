@@ -6,7 +6,7 @@ ghost use Rattle.iscsi_report.specs.Lines.{event_line};
 use crate::decimal::put_small_and_blank;
 use crate::line::{put_byte, put_header, put_text};
 use crate::tens::Tens;
-use iscsi_history::Event;
+use iscsi_rules::Event;
 
 /// Writes the line of an event.
 #[inline(always)]

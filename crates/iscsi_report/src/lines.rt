@@ -7,7 +7,7 @@ use crate::effect_line::write_effect;
 use crate::entry_line::write_entry;
 use crate::event_line::write_event;
 use crate::tens::Tens;
-use iscsi_history::{Effect, Event, Numbers};
+use iscsi_rules::{Effect, Event, Numbers};
 use std::alloc::{AllocError, Global};
 use std::marker::Model;
 

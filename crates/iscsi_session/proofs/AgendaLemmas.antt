@@ -11,53 +11,53 @@ use Rattle.iscsi_window.specs.declared.answer.Offer.TheVariants.{Held, Outside a
 use Rattle.iscsi_tasks.specs.declared.member.Member.{Member}
 use Rattle.iscsi_tasks.specs.Sets.{is_enabled_in}
 use Rattle.iscsi_window.specs.Windows.{number_expected, room_of, at_place, offer_to}
-use Rattle.iscsi_history.specs.declared.effect.Why.TheVariants.{Outside, Duplicate, Stale, Closed, Data}
-use Rattle.iscsi_history.specs.declared.event.Event.{Event}
-use Rattle.iscsi_history.specs.declared.event.Event.TheVariants.{Done}
-use Rattle.iscsi_history.specs.rules.Settings.{Setting, is_known}
-use Rattle.iscsi_history.specs.rules.Trace.{Arrival, Command, Mark, Admits, Trace, first_of, is_received, live, live_in, was_free, is_among, received, after_items, number_received, is_closed}
-use Rattle.iscsi_history.specs.rules.Execution.{exp_of, max_of, unfinished, ignored, completion, sense_of_status, rejected}
-use Rattle.iscsi_history.specs.rules.Agenda.{with_turns, numbered, arrival_of, command_of, items_of, belongs, kind_of, arrival_as, arrival_open, arrival}
-use Rattle.iscsi_history.specs.rules.Items.{agenda, item_of, function_item, functions_at, turn_at, immediate_item}
-use Rattle.iscsi_history.specs.rules.Run.{newly_enabled, effects_of, trace_of, effects_of_item, stat_sn_of}
+use Rattle.iscsi_rules.specs.declared.effect.Why.TheVariants.{Outside, Duplicate, Stale, Closed, Data}
+use Rattle.iscsi_rules.specs.declared.event.Event.{Event}
+use Rattle.iscsi_rules.specs.declared.event.Event.TheVariants.{Done}
+use Rattle.iscsi_rules.specs.rules.Settings.{Setting, is_known}
+use Rattle.iscsi_rules.specs.rules.Trace.{Arrival, Command, Mark, Admits, Trace, first_of, is_received, live, live_in, was_free, is_among, received, after_items, number_received, is_closed}
+use Rattle.iscsi_rules.specs.rules.Execution.{exp_of, max_of, unfinished, ignored, completion, sense_of_status, rejected}
+use Rattle.iscsi_rules.specs.rules.Agenda.{with_turns, numbered, arrival_of, command_of, items_of, belongs, kind_of, arrival_as, arrival_open, arrival}
+use Rattle.iscsi_rules.specs.rules.Items.{agenda, item_of, function_item, functions_at, turn_at, immediate_item}
+use Rattle.iscsi_rules.specs.rules.Run.{newly_enabled, effects_of, trace_of, effects_of_item, stat_sn_of}
 use Rattle.iscsi_session.specs.promises.Refusals.{refusal_of}
 use Rattle.iscsi_session.specs.private.Standing.{Core, place_of, kept, is_regular, member_of, Agrees, Settled, StandsFor, arrival_waiting}
 use Rattle.iscsi_session.specs.private.Steps.{find_ticket, comes_on, refusal_by, set_at, with_offered, enabled_of, enabled_in, covers_ticket, left_answered, completed, Step, Runs, Handles, HasNoMore, count_reply, is_among_open, Takes, replied, request_answered}
-use Rattle.iscsi_history.proofs.BoolLemmas.{and_both, not_flip}
-use Rattle.iscsi_history.proofs.ListLemmas.{list_any-map, is_known-cids, filter-swap, list_all-filter, find-passes, filtered_among, is_none}
+use Rattle.iscsi_rules.proofs.BoolLemmas.{and_both, not_flip}
+use Rattle.iscsi_rules.proofs.ListLemmas.{list_any-map, is_known-cids, filter-swap, list_all-filter, find-passes, filtered_among, is_none}
 use Rattle.iscsi_session.proofs.WindowParts.{WindowAgrees-quiet, with_held, Next, next_request, Passed, passed_at, WindowAgrees-passed}
-use Rattle.iscsi_history.proofs.MomentLemmas.{enables}
+use Rattle.iscsi_rules.proofs.MomentLemmas.{enables}
 use Rattle.iscsi_session.proofs.AgreeLemmas.{find_kept, lasting, Regular, regular_parts, regular_live, settled_expected, settled_max, Stepped, Stepped-ignored, step_ignored, Agrees-admitted, known_of, Agrees-untouched, RepliesAgree-sent}
-use Rattle.iscsi_history.proofs.NewlyLemmas.{newly-untouched, Untouched}
-use Rattle.iscsi_history.proofs.NumberLemmas.{wire-lift}
-use Rattle.iscsi_history.proofs.CommandItems.{first_passing, none_passing, ticket_alone, untouched-admits, completion_item, first_passes, quiet-completion}
+use Rattle.iscsi_rules.proofs.NewlyLemmas.{newly-untouched, Untouched}
+use Rattle.iscsi_rules.proofs.NumberLemmas.{wire-lift}
+use Rattle.iscsi_rules.proofs.CommandItems.{first_passing, none_passing, ticket_alone, untouched-admits, completion_item, first_passes, quiet-completion}
 use Rattle.iscsi_session.proofs.ExecutionLemmas.{covered_in, gone_tickets, Leaving, leaving-agrees, leaving-effects}
 use Rattle.iscsi_tasks.specs.declared.task.Task.{Task}
 use Rattle.iscsi_wire.specs.declared.reply.Reply.{Reply}
 use Rattle.iscsi_wire.specs.declared.reply.Reply.TheVariants.{Scsi, Reject}
 use Rattle.std.proofs.lemmas.List.Folds.{list_all-map}
 use Rattle.iscsi_window.specs.declared.held_request.HeldRequest.{HeldRequest}
-use Rattle.iscsi_history.specs.declared.effect.Effect.{Effect}
+use Rattle.iscsi_rules.specs.declared.effect.Effect.{Effect}
 use Rattle.iscsi_session.specs.declared.session.waiting.Waiting.{Waiting}
-use Rattle.iscsi_history.specs.rules.Management.{may_wait}
+use Rattle.iscsi_rules.specs.rules.Management.{may_wait}
 use Rattle.iscsi_session.specs.private.Deeds.{turn_of, turn_taken, next_waiting, function_taken, arrival_by, comes_next, immediate_taken}
-use Rattle.iscsi_history.proofs.TraceLemmas.{after_items-append}
-use Rattle.iscsi_history.proofs.Missing.{expected_past}
-use Rattle.iscsi_history.proofs.ReceivedItems.{turn_receives_none, function_receives_none, functions_receive_none, immediate_receives_one}
-use Rattle.iscsi_history.proofs.FlowItems.{agenda-halves, effects_of-append, same_exp, turns, turns-more}
+use Rattle.iscsi_rules.proofs.TraceLemmas.{after_items-append}
+use Rattle.iscsi_rules.proofs.Missing.{expected_past}
+use Rattle.iscsi_rules.proofs.ReceivedItems.{turn_receives_none, function_receives_none, functions_receive_none, immediate_receives_one}
+use Rattle.iscsi_rules.proofs.FlowItems.{agenda-halves, effects_of-append, same_exp, turns, turns-more}
 use Rattle.iscsi_session.proofs.WaitLemmas.{next_function, no_function}
 use Rattle.iscsi_session.proofs.ExecutionLemmas.{Follows}
 use Rattle.iscsi_session.proofs.ExecutionLemmas.{turned_core, turned_is, numbered_held}
 use Rattle.iscsi_session.proofs.FunctionLemmas.{turned-item, waited-item, immediate-item}
 use Rattle.iscsi_session.proofs.DeedLemmas.{stays_expected, executed_stays, function_stays, immediate_same}
-use Rattle.iscsi_history.specs.declared.effect.Effect.TheVariants.{Send}
-use Rattle.iscsi_history.specs.declared.kind.Kind.TheVariants.{PassedOver, Unknown, Executes as ExecutesKind}
-use Rattle.iscsi_history.specs.promises.Flow.{HasOneMore}
-use Rattle.iscsi_history.proofs.DeliveryLemmas.{IsQuiet}
+use Rattle.iscsi_rules.specs.declared.effect.Effect.TheVariants.{Send}
+use Rattle.iscsi_rules.specs.declared.kind.Kind.TheVariants.{PassedOver, Unknown, Executes as ExecutesKind}
+use Rattle.iscsi_rules.specs.promises.Flow.{HasOneMore}
+use Rattle.iscsi_rules.proofs.DeliveryLemmas.{IsQuiet}
 use Rattle.iscsi_session.proofs.WindowLemmas.{held_now, comes_alone, Delivered, delivered}
 use Rattle.std.specs.Prelude.{Vec}
 use Rattle.std.specs.declared.alloc.Global.{Global}
-use Rattle.iscsi_history.specs.declared.deed.Answer.TheVariants.{Reject as RejectAnswer}
+use Rattle.iscsi_rules.specs.declared.deed.Answer.TheVariants.{Reject as RejectAnswer}
 
 -- ==== an arrival, a completion, and an event as a whole
 

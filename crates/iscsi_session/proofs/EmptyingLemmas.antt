@@ -7,18 +7,18 @@ use Rattle.iscsi_window.specs.declared.held_request.HeldRequest.{HeldRequest}
 use Rattle.iscsi_wire.specs.Serial.{wire, number_of_first}
 use Rattle.iscsi_wire.specs.Fields.{connection_of}
 use Rattle.iscsi_window.specs.Windows.{Arrived, number_expected, is_asked, holds_from}
-use Rattle.iscsi_history.specs.declared.effect.Effect.{Effect}
-use Rattle.iscsi_history.specs.declared.effect.Effect.TheVariants.{Empty}
-use Rattle.iscsi_history.specs.rules.Settings.{Setting}
-use Rattle.iscsi_history.specs.rules.Trace.{Arrival, Command, Mark, Empties, Leaves, Trace, shown, received, contains, is_received, is_delivered, is_emptied, held, admitted}
-use Rattle.iscsi_history.specs.rules.Execution.{exp_of}
-use Rattle.iscsi_history.specs.promises.Executed.{delivers, request_at}
-use Rattle.iscsi_history.specs.rules.Logout.{all_held}
+use Rattle.iscsi_rules.specs.declared.effect.Effect.{Effect}
+use Rattle.iscsi_rules.specs.declared.effect.Effect.TheVariants.{Empty}
+use Rattle.iscsi_rules.specs.rules.Settings.{Setting}
+use Rattle.iscsi_rules.specs.rules.Trace.{Arrival, Command, Mark, Empties, Leaves, Trace, shown, received, contains, is_received, is_delivered, is_emptied, held, admitted}
+use Rattle.iscsi_rules.specs.rules.Execution.{exp_of}
+use Rattle.iscsi_rules.specs.promises.Executed.{delivers, request_at}
+use Rattle.iscsi_rules.specs.rules.Logout.{all_held}
 use Rattle.iscsi_session.specs.private.Standing.{place_of, WindowAgrees}
 use Rattle.iscsi_session.specs.private.Steps.{emptied_place, emptied_from}
-use Rattle.iscsi_history.proofs.HeldLemmas.{held-number, unreceived_unheld}
-use Rattle.iscsi_history.proofs.DeliveryLemmas.{IsQuiet, same_range}
-use Rattle.iscsi_history.proofs.EmptyingMarks.{EmptiesThese, SameNumbers, empties-these, held_from, held_from-none, held_from-parts, is_number_of, joined-same}
+use Rattle.iscsi_rules.proofs.HeldLemmas.{held-number, unreceived_unheld}
+use Rattle.iscsi_rules.proofs.DeliveryLemmas.{IsQuiet, same_range}
+use Rattle.iscsi_rules.proofs.EmptyingMarks.{EmptiesThese, SameNumbers, empties-these, held_from, held_from-none, held_from-parts, is_number_of, joined-same}
 use Rattle.iscsi_session.proofs.WindowParts.{expected_past_next}
 
 -- ---- the requests that are held at the numbers of a range

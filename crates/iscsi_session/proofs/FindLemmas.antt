@@ -9,21 +9,21 @@ use Rattle.iscsi_wire.specs.Serial.{lift, wire}
 use Rattle.iscsi_wire.specs.Fields.{itt, lun, unit_of, connection_of, is_immediate, rtt, cmd_sn, ref_cmd_sn}
 use Rattle.iscsi_window.specs.Windows.{Arrived, number_expected, is_unit, holds_command, find_held, at_place, place_in}
 use Rattle.iscsi_commands.specs.declared.live.Live.{Live}
-use Rattle.iscsi_history.specs.rules.Settings.{Setting, is_known}
-use Rattle.iscsi_history.specs.rules.Trace.{Arrival, Command, Trace, first_of, held, held_among, live, Mark, Delivers, Executes, waiting}
-use Rattle.iscsi_history.specs.rules.Execution.{exp_of, max_of}
-use Rattle.iscsi_history.specs.rules.Management.{is_to, held_command, live_with_tag}
+use Rattle.iscsi_rules.specs.rules.Settings.{Setting, is_known}
+use Rattle.iscsi_rules.specs.rules.Trace.{Arrival, Command, Trace, first_of, held, held_among, live, Mark, Delivers, Executes, waiting}
+use Rattle.iscsi_rules.specs.rules.Execution.{exp_of, max_of}
+use Rattle.iscsi_rules.specs.rules.Management.{is_to, held_command, live_with_tag}
 use Rattle.iscsi_session.specs.private.Standing.{Core, held_of, place_of, kept, WindowAgrees, arrival_waiting, Agrees, Settled}
 use Rattle.iscsi_session.specs.private.Deeds.{tagged_in, missing_at, missing_by, Fits}
-use Rattle.iscsi_history.proofs.HeldLemmas.{held-number, held_received, is_sought, none_below, admitted_of_held, held_command-below, held_command-held, held_command-none}
-use Rattle.iscsi_history.proofs.PlaceLemmas.{position-cons}
+use Rattle.iscsi_rules.proofs.HeldLemmas.{held-number, held_received, is_sought, none_below, admitted_of_held, held_command-below, held_command-held, held_command-none}
+use Rattle.iscsi_rules.proofs.PlaceLemmas.{position-cons}
 use Rattle.iscsi_window.specs.declared.answer.Place.{Place}
-use Rattle.iscsi_history.specs.declared.deed.Deed.{Deed}
-use Rattle.iscsi_history.specs.rules.Deeds.{facts_of}
-use Rattle.iscsi_history.specs.rules.Agenda.{arrival_of}
-use Rattle.iscsi_history.proofs.BoolLemmas.{and_parts, not_true}
+use Rattle.iscsi_rules.specs.declared.deed.Deed.{Deed}
+use Rattle.iscsi_rules.specs.rules.Deeds.{facts_of}
+use Rattle.iscsi_rules.specs.rules.Agenda.{arrival_of}
+use Rattle.iscsi_rules.proofs.BoolLemmas.{and_parts, not_true}
 use Rattle.iscsi_session.proofs.WindowParts.{Next, turned_window, WindowAgrees-turned, expected_past_next}
-use Rattle.iscsi_history.proofs.NumberLemmas.{last_number, within_window}
+use Rattle.iscsi_rules.proofs.NumberLemmas.{last_number, within_window}
 use Rattle.iscsi_session.proofs.AgreeLemmas.{settled_expected, settled_max, Agrees-waits}
 use Rattle.iscsi_session.proofs.DeedLemmas.{is_of_number, missing_parts}
 

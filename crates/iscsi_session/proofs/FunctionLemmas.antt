@@ -6,18 +6,18 @@ use Rattle.iscsi_wire.specs.Serial.{wire, lift, number_of_first}
 use Rattle.iscsi_wire.specs.Fields.{function, itt, rtt, cid, cmd_sn, connection_of, is_immediate, opcode, ref_cmd_sn}
 use Rattle.iscsi_window.specs.Windows.{number_expected, find_held, number_shown, room_of, at_place, with_place}
 use Rattle.iscsi_commands.specs.declared.live.Live.{Live}
-use Rattle.iscsi_history.specs.declared.effect.Effect.{Effect}
-use Rattle.iscsi_history.specs.rules.Settings.{Setting, is_known}
-use Rattle.iscsi_history.specs.rules.Trace.{Arrival, Command, Mark, Trace, live, live_in, Executes, Delivers, Voids, Empties, Waits, Leaves, admits_at, contains, is_received, held, waiting, waiting_by, waiting_through, sent_on}
-use Rattle.iscsi_history.specs.rules.Execution.{unit_named, exp_of, max_of, reply_of}
-use Rattle.iscsi_history.specs.rules.Management.{live_with_tag, held_command, may_wait, waiting_on, answer, is_before, refusal}
-use Rattle.iscsi_history.specs.rules.Deeds.{Facts, abort_deed, function_deed, deed_of, of_unit, facts_of, if_found, deed_marks}
+use Rattle.iscsi_rules.specs.declared.effect.Effect.{Effect}
+use Rattle.iscsi_rules.specs.rules.Settings.{Setting, is_known}
+use Rattle.iscsi_rules.specs.rules.Trace.{Arrival, Command, Mark, Trace, live, live_in, Executes, Delivers, Voids, Empties, Waits, Leaves, admits_at, contains, is_received, held, waiting, waiting_by, waiting_through, sent_on}
+use Rattle.iscsi_rules.specs.rules.Execution.{unit_named, exp_of, max_of, reply_of}
+use Rattle.iscsi_rules.specs.rules.Management.{live_with_tag, held_command, may_wait, waiting_on, answer, is_before, refusal}
+use Rattle.iscsi_rules.specs.rules.Deeds.{Facts, abort_deed, function_deed, deed_of, of_unit, facts_of, if_found, deed_marks}
 use Rattle.iscsi_session.specs.private.Standing.{Core, kept, CommandsAgree, SetsAgree, task_of, WindowAgrees, arrival_waiting, WaitingAgrees, Agrees, Settled}
 use Rattle.iscsi_session.specs.private.Deeds.{facts_by, refusal_by, live_by, deed_by, waits_by, arrival_by, Fits, position_by, carried, executed, turn_of, next_waiting, next_position, function_taken, immediate_taken}
-use Rattle.iscsi_history.proofs.BoolLemmas.{and_true, and_parts}
-use Rattle.iscsi_history.proofs.ListLemmas.{list_any-map, any_filter, any_same, count_by-map, list_all-filter, find-passes, find-found, filter-map}
-use Rattle.iscsi_history.proofs.NewlyLemmas.{Untouched, live_in-untouched, newly-untouched}
-use Rattle.iscsi_history.proofs.DeedTable.{named_below, never_waits}
+use Rattle.iscsi_rules.proofs.BoolLemmas.{and_true, and_parts}
+use Rattle.iscsi_rules.proofs.ListLemmas.{list_any-map, any_filter, any_same, count_by-map, list_all-filter, find-passes, find-found, filter-map}
+use Rattle.iscsi_rules.proofs.NewlyLemmas.{Untouched, live_in-untouched, newly-untouched}
+use Rattle.iscsi_rules.proofs.DeedTable.{named_below, never_waits}
 use Rattle.iscsi_session.proofs.AgreeLemmas.{CommandsAgree-untouched}
 use Rattle.iscsi_session.proofs.AgreeLemmas.{SetsAgree-untouched}
 use Rattle.iscsi_session.proofs.FindLemmas.{tagged_in-is}
@@ -31,33 +31,33 @@ use Rattle.std.proofs.lemmas.List.Folds.{list_all-append}
 use Rattle.std.proofs.lemmas.List.Elements.{filter_map-append}
 use Rattle.iscsi_window.specs.declared.held_request.HeldRequest.{HeldRequest}
 use Rattle.iscsi_tasks.specs.Sets.{is_covered}
-use Rattle.iscsi_history.specs.declared.effect.Effect.TheVariants.{Deliver, Immediate}
+use Rattle.iscsi_rules.specs.declared.effect.Effect.TheVariants.{Deliver, Immediate}
 use Rattle.iscsi_session.specs.declared.session.waiting.Waiting.{Waiting}
-use Rattle.iscsi_history.specs.rules.Agenda.{arrival_of}
-use Rattle.iscsi_history.specs.rules.Items.{execution, waiting_item, immediate_item, item_of, function_item}
-use Rattle.iscsi_history.specs.rules.Run.{effects_of_mark}
-use Rattle.iscsi_history.proofs.TraceLemmas.{filter-same}
-use Rattle.iscsi_history.proofs.DeliveryLemmas.{IsQuiet, received-quiet, held-quiet}
-use Rattle.iscsi_history.proofs.HeldLemmas.{held-number, admitted_of_held}
+use Rattle.iscsi_rules.specs.rules.Agenda.{arrival_of}
+use Rattle.iscsi_rules.specs.rules.Items.{execution, waiting_item, immediate_item, item_of, function_item}
+use Rattle.iscsi_rules.specs.rules.Run.{effects_of_mark}
+use Rattle.iscsi_rules.proofs.TraceLemmas.{filter-same}
+use Rattle.iscsi_rules.proofs.DeliveryLemmas.{IsQuiet, received-quiet, held-quiet}
+use Rattle.iscsi_rules.proofs.HeldLemmas.{held-number, admitted_of_held}
 use Rattle.iscsi_session.proofs.WindowParts.{Next, turned_window, WindowAgrees-quiet}
 use Rattle.iscsi_session.proofs.AgreeLemmas.{RepliesAgree-sent}
 use Rattle.iscsi_session.proofs.AgreeLemmas.{settled_expected, settled_max, Agrees-untouched, Agrees-waits}
-use Rattle.iscsi_history.proofs.ClosingItems.{ClosesNone, closes-more}
-use Rattle.iscsi_history.proofs.ReceivedItems.{no_abort_task, may_immediate}
-use Rattle.iscsi_history.proofs.NumberLemmas.{position_eq, position_lt, wire-lift}
-use Rattle.iscsi_history.proofs.EmptyingMarks.{quiet_executes}
+use Rattle.iscsi_rules.proofs.ClosingItems.{ClosesNone, closes-more}
+use Rattle.iscsi_rules.proofs.ReceivedItems.{no_abort_task, may_immediate}
+use Rattle.iscsi_rules.proofs.NumberLemmas.{position_eq, position_lt, wire-lift}
+use Rattle.iscsi_rules.proofs.EmptyingMarks.{quiet_executes}
 use Rattle.iscsi_session.proofs.ExecutionLemmas.{covered_in, leaving-item}
 use Rattle.iscsi_session.proofs.WindowParts.{inside_bounds, WindowAgrees-voided, WindowAgrees-emptied, VoidedAt, voided_at, emptied_at}
 use Rattle.iscsi_session.proofs.ExecutionLemmas.{turned_core, numbered_held, turn-begun, number_next, event_next}
 use Rattle.iscsi_wire.specs.declared.reply.Reply.TheVariants.{Task as TaskReply}
 use Rattle.iscsi_tasks.specs.declared.cover.Cover.TheVariants.{All as AllOfThem, Below}
-use Rattle.iscsi_history.specs.declared.deed.Answer.{Answer}
-use Rattle.iscsi_history.specs.declared.deed.Answer.TheVariants.{Respond}
-use Rattle.iscsi_history.specs.declared.deed.Deed.{Deed}
-use Rattle.iscsi_history.specs.declared.deed.Deed.TheVariants.{Nothing, Wait, Reply, Enter, Void, Empty, Abort, AbortEarlier, AbortAll, CloseConn, CloseSession}
+use Rattle.iscsi_rules.specs.declared.deed.Answer.{Answer}
+use Rattle.iscsi_rules.specs.declared.deed.Answer.TheVariants.{Respond}
+use Rattle.iscsi_rules.specs.declared.deed.Deed.{Deed}
+use Rattle.iscsi_rules.specs.declared.deed.Deed.TheVariants.{Nothing, Wait, Reply, Enter, Void, Empty, Abort, AbortEarlier, AbortAll, CloseConn, CloseSession}
 use Rattle.iscsi_session.specs.private.Steps.{count_reply, and_then, after_effect, waiting_in, request_answered, number_by, event_by, covers_ticket}
-use Rattle.iscsi_history.proofs.ApartLemmas.{apart-filter}
-use Rattle.iscsi_history.proofs.CommandItems.{ticket_alone}
+use Rattle.iscsi_rules.proofs.ApartLemmas.{apart-filter}
+use Rattle.iscsi_rules.proofs.CommandItems.{ticket_alone}
 use Rattle.iscsi_session.proofs.DeedLemmas.{fits_deed, fits_function, is_of_number, missing_parts, is_whole, whole_function}
 use Rattle.iscsi_session.proofs.DeedLemmas.{immediate_is}
 

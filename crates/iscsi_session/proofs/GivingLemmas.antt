@@ -3,7 +3,7 @@ use Rattle.std.proofs.Common.{◌≡◌, ℕ, ◌+◌, ◌||◌, cond, Bool, tru
 use Rattle.std.proofs.lemmas.List.Sums.{sum_by-cons}
 use Rattle.iscsi_tasks.specs.declared.member.Member.{Member}
 use Rattle.iscsi_tasks.specs.Sets.{is_new, next_in, given_in}
-use Rattle.iscsi_history.specs.declared.effect.Effect.TheVariants.{Enable}
+use Rattle.iscsi_rules.specs.declared.effect.Effect.TheVariants.{Enable}
 use Rattle.iscsi_session.specs.private.Steps.{as_given, enable_effects}
 use Rattle.std.proofs.lemmas.Bool.Decides.{nat_tests}
 

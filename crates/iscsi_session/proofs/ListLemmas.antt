@@ -4,10 +4,10 @@ use Rattle.std.specs.List.{list_all}
 use Rattle.std.proofs.lemmas.List.Folds.{list_all-append}
 use Rattle.iscsi_window.specs.declared.held_request.HeldRequest.{HeldRequest}
 use Rattle.iscsi_commands.specs.declared.live.Live.{Live}
-use Rattle.iscsi_history.specs.rules.Settings.{is_known}
+use Rattle.iscsi_rules.specs.rules.Settings.{is_known}
 use Rattle.iscsi_session.specs.private.Standing.{are_known, is_place_known}
 use Rattle.iscsi_session.specs.private.Steps.{without_ticket, count_reply}
-use Rattle.iscsi_history.proofs.ListLemmas.{is_known-cids, list_all-filter, list_all-same}
+use Rattle.iscsi_rules.proofs.ListLemmas.{is_known-cids, list_all-filter, list_all-same}
 use Rattle.std.proofs.lemmas.Bool.Decides.{nat_tests}
 
 -- one more that passes

@@ -4,18 +4,18 @@ use Rattle.std.proofs.lemmas.List.{length-map, length-replicate}
 use Rattle.iscsi_wire.specs.Serial.{wire}
 use Rattle.iscsi_window.specs.Windows.{number_expected, opened}
 use Rattle.iscsi_tasks.specs.Sets.{opened as opened_set}
-use Rattle.iscsi_history.specs.declared.event.Event.{Event}
-use Rattle.iscsi_history.specs.rules.Settings.{Setting}
-use Rattle.iscsi_history.specs.rules.Trace.{Trace, first_of, held, live}
-use Rattle.iscsi_history.specs.rules.Run.{trace_of}
+use Rattle.iscsi_rules.specs.declared.event.Event.{Event}
+use Rattle.iscsi_rules.specs.rules.Settings.{Setting}
+use Rattle.iscsi_rules.specs.rules.Trace.{Trace, first_of, held, live}
+use Rattle.iscsi_rules.specs.rules.Run.{trace_of}
 use Rattle.iscsi_session.specs.promises.Bounds.{held_count, effect_bound_of}
 use Rattle.iscsi_session.specs.private.Standing.{Core, Settled, StandsFor, place_of, is_held, stat_sn_on, kept, arrival_waiting}
-use Rattle.iscsi_history.proofs.EnabledItems.{EnabledSoFar-none}
-use Rattle.iscsi_history.proofs.HeldLemmas.{unreceived_unheld}
-use Rattle.iscsi_history.proofs.ClosingItems.{all_open}
-use Rattle.iscsi_history.proofs.CountLemmas.{count_places}
-use Rattle.iscsi_history.proofs.PlaceLemmas.{nothing_at}
-use Rattle.iscsi_history.proofs.SetLemmas.{set_opened}
+use Rattle.iscsi_rules.proofs.EnabledItems.{EnabledSoFar-none}
+use Rattle.iscsi_rules.proofs.HeldLemmas.{unreceived_unheld}
+use Rattle.iscsi_rules.proofs.ClosingItems.{all_open}
+use Rattle.iscsi_rules.proofs.CountLemmas.{count_places}
+use Rattle.iscsi_rules.proofs.PlaceLemmas.{nothing_at}
+use Rattle.iscsi_rules.proofs.SetLemmas.{set_opened}
 use Rattle.iscsi_session.proofs.AgreeLemmas.{settled_expected}
 use Rattle.std.proofs.lemmas.Bool.Decides.{nat_tests}
 

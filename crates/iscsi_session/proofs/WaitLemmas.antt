@@ -5,14 +5,14 @@ use Rattle.std.proofs.lemmas.List.Elements.{All-weaker}
 use Rattle.iscsi_wire.specs.Serial.{number_of_first}
 use Rattle.iscsi_slots.proofs.SortedLemmas.{find_nowhere}
 use Rattle.iscsi_session.specs.declared.session.waiting.Waiting.{Waiting}
-use Rattle.iscsi_history.specs.rules.Settings.{Setting}
-use Rattle.iscsi_history.specs.rules.Trace.{Arrival, Trace, waiting}
-use Rattle.iscsi_history.specs.rules.Items.{function_item, functions_at}
+use Rattle.iscsi_rules.specs.rules.Settings.{Setting}
+use Rattle.iscsi_rules.specs.rules.Trace.{Arrival, Trace, waiting}
+use Rattle.iscsi_rules.specs.rules.Items.{function_item, functions_at}
 use Rattle.iscsi_session.specs.private.Standing.{arrival_waiting}
-use Rattle.iscsi_history.proofs.ListLemmas.{filter-map}
-use Rattle.iscsi_history.proofs.PlaceLemmas.{position-cons}
-use Rattle.iscsi_history.proofs.TraceLemmas.{filter-same}
-use Rattle.iscsi_history.proofs.WaitingItems.{first_function, waits_itself}
+use Rattle.iscsi_rules.proofs.ListLemmas.{filter-map}
+use Rattle.iscsi_rules.proofs.PlaceLemmas.{position-cons}
+use Rattle.iscsi_rules.proofs.TraceLemmas.{filter-same}
+use Rattle.iscsi_rules.proofs.WaitingItems.{first_function, waits_itself}
 
 -- the functions that a session finds for the next number are those of the number
 number_test : (first turned : ℕ) (w : Waiting) → ((arrival_waiting first w).number == number_of_first first + turned) ≡ (w.turn == turned)

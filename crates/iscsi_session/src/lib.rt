@@ -14,7 +14,7 @@ mod response;
 mod session;
 
 pub use fault::SessionFault;
-pub use iscsi_history::{Effect, Effects, Entry, Event, Log, Numbers, Why};
+pub use iscsi_rules::{Effect, Effects, Entry, Event, Log, Numbers, Why};
 pub use iscsi_tasks::Attr;
 pub use log::run;
 pub use options::Options;

@@ -2,14 +2,14 @@
 
 ghost use Rattle.std.specs.Prelude.{◌≡◌, IfOk};
 ghost use Rattle.iscsi_session.specs.promises.Settings.{setting_of};
-ghost use Rattle.iscsi_history.specs.rules.Run.{run_of};
-ghost use Rattle.iscsi_history.specs.promises.Promises.{KeepsPromises};
+ghost use Rattle.iscsi_rules.specs.rules.Run.{run_of};
+ghost use Rattle.iscsi_rules.specs.promises.Promises.{KeepsPromises};
 ghost use Rattle.iscsi_session.specs.promises.Refusals.{RunRefusesAs, refusal_of_options, first_refusal};
 
 use crate::fault::SessionFault;
 use crate::options::Options;
 use crate::session::Session;
-use iscsi_history::{Effects, Entry, Event, Log};
+use iscsi_rules::{Effects, Entry, Event, Log};
 use std::alloc::Global;
 
 /// Opens a session and takes the events, one after the other.

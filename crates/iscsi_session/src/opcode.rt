@@ -1,10 +1,10 @@
 //! The opcodes, and what becomes of a request by its own.
 
 ghost use Rattle.std.specs.Prelude.{◌≡◌};
-ghost use Rattle.iscsi_history.specs.rules.Agenda.{kind_of as kind_named};
+ghost use Rattle.iscsi_rules.specs.rules.Agenda.{kind_of as kind_named};
 ghost use Rattle.iscsi_session.specs.private.Codes.{opcode_named};
 
-use iscsi_history::Kind;
+use iscsi_rules::Kind;
 use iscsi_wire::Request;
 
 /// What a PDU of an initiator is by its opcode (RFC 7143 section 11.2.1.2).

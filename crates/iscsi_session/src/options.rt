@@ -2,7 +2,7 @@
 
 ghost use Rattle.std.specs.Prelude.{◌≡◌, IfOk};
 ghost use Rattle.iscsi_session.specs.promises.Settings.{setting_of};
-ghost use Rattle.iscsi_history.specs.rules.Settings.{is_known as known_in, are_distinct as distinct_in, is_valid as valid_setting, are_sizes_valid as valid_sizes, is_within as within};
+ghost use Rattle.iscsi_rules.specs.rules.Settings.{is_known as known_in, are_distinct as distinct_in, is_valid as valid_setting, are_sizes_valid as valid_sizes, is_within as within};
 
 use std::alloc::{AllocError, Global};
 

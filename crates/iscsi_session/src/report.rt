@@ -4,8 +4,8 @@ ghost use Rattle.std.specs.Prelude.{◌≡◌, ◌+◌, ◌≤◌, ◌++◌, vec
 ghost use Rattle.iscsi_report.specs.Lines.{event_line, effect_line};
 
 use crate::fault::SessionFault;
-use iscsi_history::{Effect, Event, Numbers};
 pub use iscsi_report::LONGEST_LINE;
+use iscsi_rules::{Effect, Event, Numbers};
 
 /// Appends the line of an event. `NoMemory` changes nothing, and doesn't come where there is room for a line.
 pub fn put_event(event: &Event, out: &mut Vec<u8>) -> Result<(), SessionFault>

@@ -1,6 +1,6 @@
 -- The limits of settings.
 use Rattle.std.specs.Prelude.{◌&&◌, Bool}
-use Rattle.iscsi_history.specs.rules.Settings.{is_within}
+use Rattle.iscsi_rules.specs.rules.Settings.{is_within}
 use Rattle.iscsi_settings.specs.declared.settings.Settings.{Settings}
 
 -- every setting is within its limits

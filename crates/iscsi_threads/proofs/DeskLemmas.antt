@@ -15,9 +15,9 @@ use Rattle.iscsi_wire.specs.declared.request.Request.{Request}
 use Rattle.iscsi_tasks.specs.declared.task.Attr.{Attr}
 use Rattle.iscsi_tasks.specs.declared.task.Attr.TheVariants.{Simple}
 use Rattle.iscsi_tasks.proofs.PlaceLemmas.{place_is, no_place, position_of, position_none}
-use Rattle.iscsi_history.specs.declared.effect.Effect.{Effect}
-use Rattle.iscsi_history.specs.declared.effect.Effect.TheVariants.{Enter, Enable, Leave}
-use Rattle.iscsi_history.specs.promises.Lives.{tickets_entered}
+use Rattle.iscsi_rules.specs.declared.effect.Effect.{Effect}
+use Rattle.iscsi_rules.specs.declared.effect.Effect.TheVariants.{Enter, Enable, Leave}
+use Rattle.iscsi_rules.specs.promises.Lives.{tickets_entered}
 use Rattle.iscsi_threads.specs.declared.job.Job.{Job}
 use Rattle.iscsi_threads.specs.Desks.{Known, is_for, without, job_for, entered, after_effect, job_at, listed, jobs_from, known_after, InOrderOfTickets, EnterAbove}
 

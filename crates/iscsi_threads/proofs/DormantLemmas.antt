@@ -1,11 +1,11 @@
 -- The next event's commands have tickets above those of the jobs that wait.
 use Rattle.std.specs.Prelude.{◌≡◌, List, [], ◌∷◌, ◌++◌}
 use Rattle.std.proofs.Common.{sym, subst, arith}
-use Rattle.iscsi_history.specs.declared.event.Event.{Event}
-use Rattle.iscsi_history.specs.rules.Settings.{Setting}
-use Rattle.iscsi_history.specs.rules.Run.{run_of, next_entry}
-use Rattle.iscsi_history.specs.promises.Enabling.{effects_in}
-use Rattle.iscsi_history.proofs.LifeTheorem.{starts_once}
+use Rattle.iscsi_rules.specs.declared.event.Event.{Event}
+use Rattle.iscsi_rules.specs.rules.Settings.{Setting}
+use Rattle.iscsi_rules.specs.rules.Run.{run_of, next_entry}
+use Rattle.iscsi_rules.specs.promises.Enabling.{effects_in}
+use Rattle.iscsi_rules.proofs.LifeTheorem.{starts_once}
 use Rattle.iscsi_threads.specs.Desks.{Known, nothing, known_after, EnterAbove}
 use Rattle.iscsi_threads.proofs.DeskLemmas.{after_above}
 use Rattle.iscsi_threads.proofs.Turning.{effects_run}

@@ -8,11 +8,11 @@ use Rattle.std.proofs.lemmas.List.Elements.{filter-append}
 use Rattle.std.proofs.lemmas.List.Folds.{find-append}
 use Rattle.iscsi_wire.specs.declared.request.Request.{Request}
 use Rattle.iscsi_tasks.specs.declared.task.Attr.{Attr}
-use Rattle.iscsi_history.specs.declared.effect.Effect.{Effect}
-use Rattle.iscsi_history.specs.declared.effect.Effect.TheVariants.{Deliver, Immediate, Enter, Enable, Leave}
-use Rattle.iscsi_history.specs.promises.Enabling.{is_enable}
-use Rattle.iscsi_history.specs.promises.Lives.{names_ticket, life_of, ends_in, goes_on_in, is_life}
-use Rattle.iscsi_history.proofs.PlaceLemmas.{position-cons}
+use Rattle.iscsi_rules.specs.declared.effect.Effect.{Effect}
+use Rattle.iscsi_rules.specs.declared.effect.Effect.TheVariants.{Deliver, Immediate, Enter, Enable, Leave}
+use Rattle.iscsi_rules.specs.promises.Enabling.{is_enable}
+use Rattle.iscsi_rules.specs.promises.Lives.{names_ticket, life_of, ends_in, goes_on_in, is_life}
+use Rattle.iscsi_rules.proofs.PlaceLemmas.{position-cons}
 use Rattle.iscsi_threads.specs.declared.job.Job.{Job}
 use Rattle.iscsi_threads.specs.Desks.{Known, nothing, is_for, without, job_for, entered, after_effect, job_at, listed, jobs_from, known_after}
 use Rattle.iscsi_threads.specs.Journal.{jobs_of}

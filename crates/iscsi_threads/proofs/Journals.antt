@@ -5,8 +5,8 @@ use Rattle.std.proofs.Common.{ap, sym, ◌∙◌, arith, get_or, append_assoc, a
 use Rattle.std.proofs.lemmas.Bool.{cases_lt}
 use Rattle.std.proofs.lemmas.List.{length-map, set_past}
 use Rattle.std.proofs.lemmas.Bool.Decides.{nat_tests}
-use Rattle.iscsi_history.specs.declared.event.Event.{Event}
-use Rattle.iscsi_history.specs.declared.event.Event.TheVariants.{Arrive, Done}
+use Rattle.iscsi_rules.specs.declared.event.Event.{Event}
+use Rattle.iscsi_rules.specs.declared.event.Event.TheVariants.{Arrive, Done}
 use Rattle.iscsi_threads.specs.declared.job.Job.{Job}
 use Rattle.iscsi_threads.specs.Ports.{Answer}
 use Rattle.iscsi_threads.specs.Ends.{grow, put_jobs, Polled}

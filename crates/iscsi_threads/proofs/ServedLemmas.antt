@@ -13,8 +13,8 @@ use mathlib.Core.List.{IsPrefix}
 use Rattle.iscsi_threads.specs.declared.port.Port.{Port}
 use Rattle.iscsi_threads.specs.declared.port.UnitPort.{UnitPort}
 use Rattle.iscsi_threads.specs.declared.session_loop.Loop.{Loop}
-use Rattle.iscsi_history.specs.rules.Settings.{Setting}
-use Rattle.iscsi_history.specs.rules.Run.{run_of}
+use Rattle.iscsi_rules.specs.rules.Settings.{Setting}
+use Rattle.iscsi_rules.specs.rules.Run.{run_of}
 use Rattle.iscsi_threads.specs.declared.finish.Ended.{Ended}
 use Rattle.iscsi_threads.specs.declared.serving.End.{End}
 use Rattle.iscsi_threads.specs.declared.serving.End.TheVariants.{Quiet, Full}

@@ -4,9 +4,9 @@ use Rattle.std.specs.List.{remove, range_with_len}
 use Rattle.iscsi_wire.specs.declared.request.Request.{Request}
 use Rattle.iscsi_wire.specs.Fields.{itt, cdb}
 use Rattle.iscsi_tasks.specs.declared.task.Attr.{Attr}
-use Rattle.iscsi_history.specs.declared.effect.Effect.{Effect}
-use Rattle.iscsi_history.specs.declared.effect.Effect.TheVariants.{Deliver, Immediate, Enter, Enable, Leave}
-use Rattle.iscsi_history.specs.promises.Lives.{tickets_entered}
+use Rattle.iscsi_rules.specs.declared.effect.Effect.{Effect}
+use Rattle.iscsi_rules.specs.declared.effect.Effect.TheVariants.{Deliver, Immediate, Enter, Enable, Leave}
+use Rattle.iscsi_rules.specs.promises.Lives.{tickets_entered}
 use Rattle.iscsi_threads.specs.declared.job.Job.{Job}
 use Rattle.iscsi_threads.specs.declared.desk.Desk.{Desk}
 

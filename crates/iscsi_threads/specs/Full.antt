@@ -2,9 +2,9 @@
 use Rattle.std.specs.Prelude.{◌≡◌, ℕ, ◌<◌, true, List, length, map, slice_index, slice_index_or, Vec}
 use Rattle.std.specs.declared.alloc.Global.{Global}
 use mathlib.Core.List.{IsPrefix}
-use Rattle.iscsi_history.specs.declared.event.Event.{Event}
-use Rattle.iscsi_history.specs.rules.Settings.{Setting}
-use Rattle.iscsi_history.specs.rules.Run.{run_of}
+use Rattle.iscsi_rules.specs.declared.event.Event.{Event}
+use Rattle.iscsi_rules.specs.rules.Settings.{Setting}
+use Rattle.iscsi_rules.specs.rules.Run.{run_of}
 use Rattle.iscsi_threads.specs.Journal.{cids_of, part, done, are_sources}
 use Rattle.iscsi_threads.specs.Jobs.{jobs}
 use Rattle.iscsi_threads.specs.Outcomes.{ticket_of}

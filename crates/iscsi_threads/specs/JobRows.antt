@@ -6,9 +6,9 @@ use Rattle.iscsi_wire.specs.Fields.{request_of}
 use Rattle.iscsi_tasks.specs.declared.task.Attr.{Attr}
 use Rattle.iscsi_tasks.specs.declared.task.Attr.TheVariants.{Simple, Ordered, Head}
 use Rattle.iscsi_tasks.specs.Rules as Rules
-use Rattle.iscsi_history.specs.declared.effect.Effect.TheVariants.{Deliver, Enter, Enable, Leave, Send}
-use Rattle.iscsi_history.specs.rules.Settings.{Setting}
-use Rattle.iscsi_history.specs.examples.Rows.{Row, Worked, command_to, function_now, management, setting, turn, at_once, is_held, done, entered}
+use Rattle.iscsi_rules.specs.declared.effect.Effect.TheVariants.{Deliver, Enter, Enable, Leave, Send}
+use Rattle.iscsi_rules.specs.rules.Settings.{Setting}
+use Rattle.iscsi_rules.specs.examples.Rows.{Row, Worked, command_to, function_now, management, setting, turn, at_once, is_held, done, entered}
 use Rattle.iscsi_threads.specs.declared.job.Job.{Job}
 use Rattle.iscsi_threads.specs.Jobs.{jobs}
 

@@ -1,11 +1,11 @@
 -- What a contract sees of a loop.
 use Rattle.std.specs.Prelude.{◌≡◌, ℕ, List, [], ◌∷◌, ◌++◌, length, map, replicate}
 use Rattle.std.specs.declared.alloc.Global.{Global}
-use Rattle.iscsi_history.specs.declared.event.Event.{Event}
-use Rattle.iscsi_history.specs.declared.effect.Effect.{Effect}
-use Rattle.iscsi_history.specs.rules.Settings.{Setting}
+use Rattle.iscsi_rules.specs.declared.event.Event.{Event}
+use Rattle.iscsi_rules.specs.declared.effect.Effect.{Effect}
+use Rattle.iscsi_rules.specs.rules.Settings.{Setting}
 use Rattle.iscsi_session.specs.promises.Settings.{setting_of}
-use Rattle.iscsi_history.specs.rules.Run.{next_entry}
+use Rattle.iscsi_rules.specs.rules.Run.{next_entry}
 use Rattle.iscsi_threads.specs.Rings.{Ring}
 use Rattle.iscsi_threads.specs.Ports.{posted, taken, answered, port_ring, unit_rings}
 use Rattle.iscsi_threads.specs.Outlets.{inlet_ring, outlet_rings}

@@ -2,11 +2,11 @@
 use Rattle.std.specs.Prelude.{◌≡◌, ℕ, ◌<◌, ◌≤◌, Bool, true, false, IsTrue, List, [], ◌++◌, length, map, slice_index, slice_index_or, Vec, vec_capacity, ⊤}
 use Rattle.std.specs.declared.alloc.Global.{Global}
 use mathlib.Core.List.{IsPrefix}
-use Rattle.iscsi_history.specs.declared.event.Event.{Event}
-use Rattle.iscsi_history.specs.rules.Settings.{Setting}
-use Rattle.iscsi_history.specs.rules.Trace.{live}
-use Rattle.iscsi_history.specs.rules.Run.{run_of, trace_of}
-use Rattle.iscsi_history.specs.promises.Promises.{KeepsPromises}
+use Rattle.iscsi_rules.specs.declared.event.Event.{Event}
+use Rattle.iscsi_rules.specs.rules.Settings.{Setting}
+use Rattle.iscsi_rules.specs.rules.Trace.{live}
+use Rattle.iscsi_rules.specs.rules.Run.{run_of, trace_of}
+use Rattle.iscsi_rules.specs.promises.Promises.{KeepsPromises}
 use Rattle.iscsi_threads.specs.declared.port.Port.{Port}
 use Rattle.iscsi_threads.specs.declared.port.UnitPort.{UnitPort}
 use Rattle.iscsi_threads.specs.declared.session_loop.Loop.{Loop}

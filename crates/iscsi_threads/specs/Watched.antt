@@ -1,8 +1,8 @@
 -- Which rings are marked, and which one is looked at next: for private contracts.
 use Rattle.std.specs.Prelude.{◌≡◌, ◌≢◌, ℕ, ◌+◌, ◌-◌, ◌/◌, ◌%◌, List, slice_index, if◌then◌else◌, nat_lt}
 use Rattle.std.specs.Int.{bit_at}
-use Rattle.iscsi_history.specs.declared.event.Event.{Event}
-use Rattle.iscsi_history.specs.declared.event.Event.TheVariants.{Arrive, Done}
+use Rattle.iscsi_rules.specs.declared.event.Event.{Event}
+use Rattle.iscsi_rules.specs.declared.event.Event.TheVariants.{Arrive, Done}
 
 -- the mark of the ring with this number, in words of 64 bits
 abbrev pub mark : List ℕ → ℕ → ℕ

@@ -94,7 +94,7 @@ fn note_each(desk: &mut Desk, fresh: &mut VecDeque<Job>, effects: &[Effect])
 impl Desk {
     ghost use Rattle.std.specs.Prelude.{◌≡◌, ◌≤◌, ◌+◌, find};
     ghost use Rattle.std.specs.VecDeque.{deque_len, deque_capacity};
-    ghost use Rattle.iscsi_history.specs.declared.effect.Effect.{Effect};
+    ghost use Rattle.iscsi_rules.specs.declared.effect.Effect.{Effect};
     ghost use Rattle.iscsi_threads.specs.Desks.{is_for, without, entered, seen, after_effect, job_at, InOrderOfTickets};
 
     // Takes out the job of this ticket.

@@ -1,7 +1,7 @@
 //! The loop's ends of all rings.
 
 ghost use Rattle.std.specs.Prelude.{◌≡◌, ◌+◌, ◌<◌, ◌≤◌, ℕ, List, ◌∷◌, false, IsTrue, map, length, vec_len, if◌then◌else◌, nat_lt, IfSome, IfNone, MatchOption, OnOk, IfErr};
-ghost use Rattle.iscsi_history.specs.declared.event.Event.TheVariants.{Arrive, Done};
+ghost use Rattle.iscsi_rules.specs.declared.event.Event.TheVariants.{Arrive, Done};
 ghost use Rattle.std.specs.VecDeque.{deque_len};
 ghost use Rattle.iscsi_threads.specs.declared.job.Job.{Job};
 ghost use Rattle.iscsi_threads.specs.Ports.{Answer};

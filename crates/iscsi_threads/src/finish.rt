@@ -245,8 +245,8 @@ fn hand_back(core: Loop, ports: Vec<Port>, units: Vec<UnitPort>) -> Unfinished
 
 impl Loop {
     ghost use Rattle.std.specs.Prelude.{◌≡◌, IfOk, IfErr};
-    ghost use Rattle.iscsi_history.specs.rules.Run.{run_of};
-    ghost use Rattle.iscsi_history.specs.promises.Promises.{KeepsPromises};
+    ghost use Rattle.iscsi_rules.specs.rules.Run.{run_of};
+    ghost use Rattle.iscsi_rules.specs.promises.Promises.{KeepsPromises};
     ghost use Rattle.iscsi_threads.specs.declared.fault.LoopFault.{LoopFault};
     ghost use Rattle.iscsi_threads.specs.Loops.{Belong, journal, setting};
     ghost use Rattle.iscsi_threads.specs.Outcomes.{EndedAs, Finished};

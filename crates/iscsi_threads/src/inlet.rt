@@ -20,7 +20,7 @@ impl Drop for Inlet {
 
 impl Inlet {
     ghost use Rattle.std.specs.Prelude.{◌≡◌, ◌++◌, ◌∷◌, [], ℕ, List, IfSome, IfNone};
-    ghost use Rattle.iscsi_history.specs.declared.event.Event.TheVariants.{Arrive};
+    ghost use Rattle.iscsi_rules.specs.declared.event.Event.TheVariants.{Arrive};
     ghost use Rattle.iscsi_threads.specs.Outlets.{got, inlet_ring};
 
     /// Takes a header, and writes the event of its arrival on this connection. Whether the ring has more.

@@ -1,7 +1,7 @@
 //! A loop and the ends of its rings.
 
 ghost use Rattle.std.specs.Prelude.{◌≡◌, ◌≢◌, ◌<◌, ◌≤◌, [], replicate, map, vec_len, IfOk, Err, IfErr, true, false};
-ghost use Rattle.iscsi_history.specs.rules.Settings.{is_valid};
+ghost use Rattle.iscsi_rules.specs.rules.Settings.{is_valid};
 ghost use Rattle.iscsi_session.specs.promises.Settings.{setting_of};
 ghost use Rattle.iscsi_threads.specs.Ports.{posted, taken, answered, port_ring, unit_rings};
 ghost use Rattle.iscsi_threads.specs.Outlets.{given, heard, outlet_rings, got, inlet_ring};

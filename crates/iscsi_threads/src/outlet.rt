@@ -30,7 +30,7 @@ impl Outlet {
     ghost use Rattle.std.specs.Prelude.{◌≡◌, ℕ, ◌<◌, ◌+◌, ◌++◌, ◌∷◌, [], false, IsTrue, OnOk, IfSome, IfNone, IfErr};
     ghost use Rattle.std.specs.VecDeque.{deque_len};
     ghost use Rattle.iscsi_threads.specs.declared.job.Job.{Job};
-    ghost use Rattle.iscsi_history.specs.declared.event.Event.TheVariants.{Done};
+    ghost use Rattle.iscsi_rules.specs.declared.event.Event.TheVariants.{Done};
     ghost use Rattle.iscsi_threads.specs.Ports.{Answer};
     ghost use Rattle.iscsi_threads.specs.Outlets.{given, heard, outlet_rings, SameOutlet};
 

@@ -1,7 +1,7 @@
 //! All threads of a session.
 
 ghost use Rattle.std.specs.Prelude.{◌≡◌, ◌≢◌, ◌≤◌, ◌<◌, ◌==◌, ◌&&◌, [], ℕ, Bool, List, true, false, map, length, IfOk, IfErr, IsOk, IsErrOf, OnErr, Err, vec_len, vec_capacity, slice_index_or};
-ghost use Rattle.iscsi_history.specs.rules.Settings.{is_valid};
+ghost use Rattle.iscsi_rules.specs.rules.Settings.{is_valid};
 ghost use Rattle.iscsi_session.specs.promises.Settings.{setting_of};
 ghost use Rattle.iscsi_threads.specs.Ports.{posted, port_ring};
 ghost use Rattle.iscsi_threads.specs.Outlets.{inlet_ring};

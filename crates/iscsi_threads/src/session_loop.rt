@@ -3,8 +3,8 @@
 ghost use Rattle.std.specs.Prelude.{◌≡◌, ◌≤◌, ◌<◌, ℕ, true, map, length, vec_len};
 ghost use Rattle.iscsi_session.specs.promises.Settings.{setting_of};
 ghost use Rattle.iscsi_session.specs.private.Standing.{StandsFor};
-ghost use Rattle.iscsi_history.specs.rules.Run.{run_of};
-ghost use Rattle.iscsi_history.specs.promises.Enabling.{effects_in};
+ghost use Rattle.iscsi_rules.specs.rules.Run.{run_of};
+ghost use Rattle.iscsi_rules.specs.promises.Enabling.{effects_in};
 ghost use Rattle.iscsi_threads.specs.Outlets.{given, heard, got};
 ghost use Rattle.iscsi_threads.specs.Desks.{seen, nothing, known_after};
 ghost use Rattle.iscsi_threads.specs.Ends.{put_jobs};

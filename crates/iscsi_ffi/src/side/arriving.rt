@@ -1,7 +1,7 @@
 //! A request arrives.
 
 ghost use Rattle.std.specs.Prelude.{◌≡◌, ◌+◌, ◌≤◌, List, [], ◌∷◌, ◌++◌, nat_lt, true, false, Some};
-ghost use Rattle.iscsi_history.specs.rules.Settings.{is_known};
+ghost use Rattle.iscsi_rules.specs.rules.Settings.{is_known};
 ghost use Rattle.iscsi_ffi_rules.specs.rules.Calls.{Arrives, Call, Interface};
 ghost use Rattle.iscsi_ffi_rules.specs.rules.Run.{tag_heard, word_at};
 ghost use Rattle.iscsi_ffi_steps.specs.Steps.{Going, Side as Sides, arrive, arriving, going, is_held_first, refusal_of};
@@ -15,7 +15,7 @@ use crate::side::Side;
 use crate::side::events::following;
 use byteorder::{BigEndian, ByteOrder};
 use iscsi_ffi_rules::Refusal;
-use iscsi_history::{Effect, Event};
+use iscsi_rules::{Effect, Event};
 use iscsi_wire::Request;
 
 /// The tag of no task, and of no transfer (RFC 7143 section 11.2.1.8).

@@ -5,7 +5,7 @@ ghost use Rattle.iscsi_outbox_steps.specs.State.{may_take};
 ghost use Rattle.iscsi_ffi.specs.Asked.{is_asked, may_join, numbers_shown};
 
 use crate::side::Side;
-use iscsi_history::Numbers;
+use iscsi_rules::Numbers;
 
 impl Side {
     /// ExpCmdSN as the last event left it, and the last MaxCmdSN that was shown (RFC 7143 section 4.2.2.1): what a Login Response

@@ -11,7 +11,7 @@ ghost use Rattle.iscsi_ffi.specs.Standing.{Begun};
 use crate::answer::Answer;
 use crate::side::Side;
 use iscsi_ffi_commands::{Command, Stage};
-use iscsi_history::Event;
+use iscsi_rules::Event;
 
 /// TASK ABORTED (SAM-5 section 5.3.1).
 const TASK_ABORTED: u8 = 0x40;

@@ -1,13 +1,13 @@
 //! Events of the session.
 
 ghost use Rattle.std.specs.Prelude.{◌≡◌, ◌+◌, ◌<◌, true, length};
-ghost use Rattle.iscsi_history.specs.rules.Agenda.{belongs};
+ghost use Rattle.iscsi_rules.specs.rules.Agenda.{belongs};
 ghost use Rattle.iscsi_ffi_rules.specs.rules.Calls.{Interface};
 ghost use Rattle.iscsi_ffi_steps.specs.Steps.{Going, happening, happens, withholding};
 ghost use Rattle.iscsi_ffi.specs.Standing.{Begun};
 
 use crate::side::Side;
-use iscsi_history::Event;
+use iscsi_rules::Event;
 
 impl Side {
     /// An event happens, and then what is withheld is completed. `own`: the place of the request that arrives in it, if it isn't held.

@@ -12,7 +12,7 @@ use crate::answer::Answer;
 use crate::side::Side;
 use crate::side::arriving::{transfer_tag, word_at};
 use byteorder::{BigEndian, ByteOrder};
-use iscsi_history::Event;
+use iscsi_rules::Event;
 
 impl Side {
     /// A header arrived on a connection that isn't given to `arrive`: what it says to have arrived is heard.

@@ -1,7 +1,7 @@
 //! A side is opened.
 
 ghost use Rattle.std.specs.Prelude.{◌≡◌, ◌+◌, ◌*◌, ◌≤◌, [], true, false, length, IfErr, IfOk};
-ghost use Rattle.iscsi_history.specs.rules.Settings.{is_valid as is_valid_setting};
+ghost use Rattle.iscsi_rules.specs.rules.Settings.{is_valid as is_valid_setting};
 ghost use Rattle.iscsi_session.specs.promises.Settings.{setting_of};
 ghost use Rattle.iscsi_host.specs.Serving.{Serves};
 ghost use Rattle.iscsi_ffi_desk.specs.Options.{is_valid as is_valid_desk, opened};

@@ -2,7 +2,7 @@
 
 ghost use Rattle.std.specs.Prelude.{◌≡◌, ℕ, [], ◌∷◌, true};
 ghost use Rattle.iscsi_wire.specs.declared.reply.Reply.{Reply};
-ghost use Rattle.iscsi_history.specs.declared.effect.Effect.TheVariants.{Deliver, Enable, Enter, Leave, Send};
+ghost use Rattle.iscsi_rules.specs.declared.effect.Effect.TheVariants.{Deliver, Enable, Enter, Leave, Send};
 ghost use Rattle.iscsi_ffi_steps.specs.Walk.{on_effects};
 ghost use Rattle.iscsi_ffi_steps.specs.Steps.{walk_from};
 

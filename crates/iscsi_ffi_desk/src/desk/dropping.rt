@@ -1,7 +1,7 @@
 //! What goes out on a connection no more, and the functions that a Logout drops.
 
 ghost use Rattle.std.specs.Prelude.{◌≡◌, ◌<◌, length};
-ghost use Rattle.iscsi_history.specs.declared.effect.Effect.TheVariants.{CloseConn, CloseSession};
+ghost use Rattle.iscsi_rules.specs.declared.effect.Effect.TheVariants.{CloseConn, CloseSession};
 ghost use Rattle.iscsi_requests.specs.Conns.{of_conn};
 ghost use Rattle.iscsi_ffi_steps.specs.Walk.{conns_closed, drop_each_function, drop_functions_on, drop_noted, drop_replies, drop_waiting};
 ghost use Rattle.iscsi_ffi_steps.specs.Steps.{drop_unwritten};

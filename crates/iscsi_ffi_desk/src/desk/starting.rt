@@ -1,7 +1,7 @@
 //! What starts, and which resets other sessions' commands wait for.
 
 ghost use Rattle.std.specs.Prelude.{◌≡◌, ◌≤◌, [], ◌∷◌, ◌++◌, drop, filter_map, length, take};
-ghost use Rattle.iscsi_history.specs.rules.Execution.{unit_named};
+ghost use Rattle.iscsi_rules.specs.rules.Execution.{unit_named};
 ghost use Rattle.iscsi_outbox_rules.specs.rules.Items.{ticket_enabled};
 ghost use Rattle.iscsi_ffi_commands.specs.Commands.{is_clearing};
 ghost use Rattle.iscsi_ffi_steps.specs.State.{inserted, is_withheld, withhold};
@@ -13,7 +13,7 @@ use crate::desk::walking::is_marked;
 use crate::items::{executing, is_request, is_reset_done};
 use iscsi_ffi_commands::{Command, Stage};
 use iscsi_ffi_rules::Action;
-use iscsi_history::Effect;
+use iscsi_rules::Effect;
 use iscsi_tasks::Attr;
 use iscsi_wire::{Request, unit_of};
 

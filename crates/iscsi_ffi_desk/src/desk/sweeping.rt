@@ -7,7 +7,7 @@ ghost use Rattle.iscsi_outbox_steps.specs.Steps.{as_list, counted_from};
 ghost use Rattle.iscsi_ffi_steps.specs.Walk.{keeps, sweep, touched_by};
 
 use crate::desk::Desk;
-use iscsi_history::Effect;
+use iscsi_rules::Effect;
 
 impl Desk {
     /// On the connections that the effects of an event sent something on or closed, what doesn't wait any more is dropped.

@@ -6,7 +6,7 @@ ghost use Rattle.iscsi_ffi_steps.specs.Steps.{takes};
 ghost use Rattle.iscsi_ffi_desk.specs.Calls.{with_outbox};
 
 use crate::desk::Desk;
-use iscsi_history::{Effect, Numbers};
+use iscsi_rules::{Effect, Numbers};
 
 impl Desk {
     /// Takes the effects of one event of the session, all of them, and its numbers. `own`: the place of the request that arrives in

@@ -1,8 +1,8 @@
 //! What the effects of an event make of the requests, one effect after the other.
 
 ghost use Rattle.std.specs.Prelude.{◌≡◌, Some, true};
-ghost use Rattle.iscsi_history.specs.declared.effect.Why.{Why};
-ghost use Rattle.iscsi_history.specs.declared.effect.Effect.TheVariants.{Ignore};
+ghost use Rattle.iscsi_rules.specs.declared.effect.Why.{Why};
+ghost use Rattle.iscsi_rules.specs.declared.effect.Effect.TheVariants.{Ignore};
 ghost use Rattle.iscsi_outbox_steps.specs.State.{place_of};
 ghost use Rattle.iscsi_ffi_commands.specs.Commands.{is_going, is_marked};
 ghost use Rattle.iscsi_ffi_steps.specs.Walk.{answering, conn_of, deliver, empty, end_item, enter, function_on, immediate, leave, may_wait, on_effect, on_effects, send, send_as, take_out, told_to_stop, wait};
@@ -14,7 +14,7 @@ use crate::course::Course;
 use crate::desk::Desk;
 use iscsi_ffi_commands::{Command, Stage};
 use iscsi_ffi_rules::{Action, StopReason};
-use iscsi_history::Effect;
+use iscsi_rules::Effect;
 use iscsi_tasks::Attr;
 use iscsi_wire::Request;
 

@@ -3,7 +3,7 @@ use Rattle.std.specs.Prelude.{List, [], ◌∷◌, refl, None}
 use Rattle.iscsi_wire.specs.declared.reply.Reply.TheVariants.{Scsi, Task}
 use Rattle.iscsi_tasks.specs.declared.task.Attr.TheVariants.{Simple}
 use Rattle.iscsi_tasks.specs.Rules as Rules
-use Rattle.iscsi_history.specs.examples.Rows.{command, command_to, function_now, management, setting}
+use Rattle.iscsi_rules.specs.examples.Rows.{command, command_to, function_now, management, setting}
 use Rattle.iscsi_ffi_rules.specs.declared.action.Action.TheVariants.{Start, Stop, Ready, Forget}
 use Rattle.iscsi_ffi_rules.specs.declared.action.StopReason.TheVariants.{Cleared}
 use Rattle.iscsi_ffi_rules.specs.examples.Rows.{interface, Worked, Row, joins, arrives, stops, is_reset, replies, is_written, starts}

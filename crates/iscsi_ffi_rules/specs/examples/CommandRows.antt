@@ -2,7 +2,7 @@
 use Rattle.std.specs.Prelude.{List, [], ◌∷◌, refl, None}
 use Rattle.iscsi_wire.specs.declared.reply.Reply.TheVariants.{Scsi, Task}
 use Rattle.iscsi_tasks.specs.Rules as Rules
-use Rattle.iscsi_history.specs.examples.Rows.{NO_TAG, command, function_now, nop_now, setting}
+use Rattle.iscsi_rules.specs.examples.Rows.{NO_TAG, command, function_now, nop_now, setting}
 use Rattle.iscsi_ffi_rules.specs.declared.action.Action.TheVariants.{Stop, Ready, Forget}
 use Rattle.iscsi_ffi_rules.specs.declared.action.StopReason.TheVariants.{Aborted}
 use Rattle.iscsi_ffi_rules.specs.examples.Rows.{interface, Worked, Row, joins, arrives, completes, stops, is_stale, replies, none_goes, is_written, starts}

@@ -1,7 +1,7 @@
 -- Worked lists: connections that are lost or closed, and the target's own PDUs.
 use Rattle.std.specs.Prelude.{List, [], ◌∷◌, refl, Some, None}
 use Rattle.iscsi_tasks.specs.Rules as Rules
-use Rattle.iscsi_history.specs.examples.Rows.{command, logout_now, of_two, setting}
+use Rattle.iscsi_rules.specs.examples.Rows.{command, logout_now, of_two, setting}
 use Rattle.iscsi_outbox_rules.specs.rules.Boxes.{Notices, Owns}
 use Rattle.iscsi_outbox_rules.specs.examples.Rows.{data_of, message}
 use Rattle.iscsi_ffi_rules.specs.declared.action.Action.TheVariants.{Stop, Ready, Close, Forget}

@@ -2,7 +2,7 @@
 use Rattle.std.specs.Prelude.{true, List, [], ◌∷◌, refl, None}
 use Rattle.iscsi_wire.specs.declared.reply.Reply.TheVariants.{Scsi, Task, Logout}
 use Rattle.iscsi_tasks.specs.Rules as Rules
-use Rattle.iscsi_history.specs.examples.Rows.{command, function_now, logout_now, setting}
+use Rattle.iscsi_rules.specs.examples.Rows.{command, function_now, logout_now, setting}
 use Rattle.iscsi_ffi_rules.specs.declared.action.Action.TheVariants.{Stop, Reset, Ready, Close, Forget}
 use Rattle.iscsi_ffi_rules.specs.declared.action.StopReason.TheVariants.{Aborted, LoggedOut}
 use Rattle.iscsi_ffi_rules.specs.declared.refusal.Refusal.TheVariants.{Exhausted, UnknownConnection}

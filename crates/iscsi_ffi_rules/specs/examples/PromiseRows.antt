@@ -1,7 +1,7 @@
 -- What the promises speak of, computed of worked lists.
 use Rattle.std.specs.Prelude.{◌≡◌, List, [], ◌∷◌, map, take, refl}
 use Rattle.iscsi_tasks.specs.Rules as Rules
-use Rattle.iscsi_history.specs.examples.Rows.{of_two, setting}
+use Rattle.iscsi_rules.specs.examples.Rows.{of_two, setting}
 use Rattle.iscsi_ffi_rules.specs.rules.Calls.{Call}
 use Rattle.iscsi_ffi_rules.specs.examples.Rows.{interface, Row}
 use Rattle.iscsi_ffi_rules.specs.examples.CommandRows.{one_command_rows, held_rows}

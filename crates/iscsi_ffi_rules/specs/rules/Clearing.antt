@@ -3,7 +3,7 @@ use Rattle.std.specs.Prelude.{ℕ, ◌&&◌, ◌||◌, not, Bool, true, false, f
 use Rattle.std.specs.List.{list_any}
 use Rattle.iscsi_tasks.specs.declared.task.Attr.{Attr}
 use Rattle.iscsi_tasks.specs.declared.task.Attr.TheVariants.{Simple, Ordered, Head}
-use Rattle.iscsi_history.specs.rules.Trace.{Command, first_of, live, live_in, was_free}
+use Rattle.iscsi_rules.specs.rules.Trace.{Command, first_of, live, live_in, was_free}
 use Rattle.iscsi_outbox_rules.specs.rules.Words.{contains}
 use Rattle.iscsi_ffi_rules.specs.rules.Sides.{Side}
 

@@ -1,7 +1,7 @@
 -- Which requests are needed still: nothing of any other one is.
 use Rattle.std.specs.Prelude.{ℕ, ◌-◌, ◌==◌, ◌&&◌, ◌||◌, not, Bool, true, false, List, [], ◌∷◌, length, filter, count_by, Option, Some, None, is_some, if◌then◌else◌}
 use Rattle.std.specs.List.{find, list_any}
-use Rattle.iscsi_history.specs.rules.Trace.{Arrival, Command, Mark, Admits, Trace, shown, held, waiting, live, entered}
+use Rattle.iscsi_rules.specs.rules.Trace.{Arrival, Command, Mark, Admits, Trace, shown, held, waiting, live, entered}
 use Rattle.iscsi_outbox_rules.specs.declared.own_pdu.OwnPdu.TheVariants.{OfCommand, OfConnection}
 use Rattle.iscsi_outbox_rules.specs.rules.Boxes.{Pdu, Replies, Owns, Pings, Notices, Outgoing, Handed, Answer, Link, Box}
 use Rattle.iscsi_outbox_rules.specs.rules.Words.{is_running, unwritten}

@@ -3,10 +3,10 @@ use Rattle.std.specs.Prelude.{ℕ, ◌+◌, ◌*◌, ◌/◌, ◌%◌, ◌==◌,
 use Rattle.std.specs.List.{find}
 use Rattle.iscsi_wire.specs.Fields.{big_endian_from}
 use Rattle.iscsi_wire.specs.Replies.{NO_TAG}
-use Rattle.iscsi_history.specs.declared.event.Event.TheVariants.{Arrive, Done}
-use Rattle.iscsi_history.specs.rules.Settings.{Setting, is_known}
-use Rattle.iscsi_history.specs.rules.Trace.{Command, entered, is_closed, live_in}
-use Rattle.iscsi_history.specs.rules.Agenda.{command_of}
+use Rattle.iscsi_rules.specs.declared.event.Event.TheVariants.{Arrive, Done}
+use Rattle.iscsi_rules.specs.rules.Settings.{Setting, is_known}
+use Rattle.iscsi_rules.specs.rules.Trace.{Command, entered, is_closed, live_in}
+use Rattle.iscsi_rules.specs.rules.Agenda.{command_of}
 use Rattle.iscsi_outbox_rules.specs.declared.own_pdu.OwnPdu.{OwnPdu}
 use Rattle.iscsi_outbox_rules.specs.declared.own_pdu.OwnPdu.TheVariants.{OfCommand, OfConnection}
 use Rattle.iscsi_outbox_rules.specs.declared.own_pdu.PutRefusal.{PutRefusal}

@@ -9,7 +9,7 @@ ghost use Rattle.iscsi_outbox.specs.Words.{gives_no_more, gives_pdu};
 use crate::outbox::Outbox;
 use crate::outbox::settling::is_running;
 use iscsi_arrivals::Arrivals;
-use iscsi_history::Numbers;
+use iscsi_rules::Numbers;
 
 impl Outbox {
     /// What is kept of a connection, by its place.

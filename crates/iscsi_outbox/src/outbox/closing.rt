@@ -8,7 +8,7 @@ ghost use Rattle.iscsi_outbox.specs.Walks.{close_where};
 
 use crate::items::closes_any;
 use crate::outbox::Outbox;
-use iscsi_history::Effect;
+use iscsi_rules::Effect;
 use iscsi_wire::Request;
 
 impl Outbox {

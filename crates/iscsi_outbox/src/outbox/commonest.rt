@@ -2,7 +2,7 @@
 
 ghost use Rattle.std.specs.Prelude.{◌≡◌, ℕ, [], ◌∷◌, None};
 ghost use Rattle.iscsi_tasks.specs.declared.task.Attr.{Attr};
-ghost use Rattle.iscsi_history.specs.declared.effect.Effect.TheVariants.{Deliver, Enable, Enter, Leave, Send};
+ghost use Rattle.iscsi_rules.specs.declared.effect.Effect.TheVariants.{Deliver, Enable, Enter, Leave, Send};
 ghost use Rattle.iscsi_outbox_steps.specs.Steps.{placed, send_placed};
 ghost use Rattle.iscsi_outbox.specs.Walks.{after_event};
 

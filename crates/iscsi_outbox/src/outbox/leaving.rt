@@ -8,8 +8,8 @@ ghost use Rattle.iscsi_outbox.specs.Walks.{entered_one, is_in, is_numbered_of};
 
 use crate::outbox::Outbox;
 use crate::outbox::own::is_live;
-use iscsi_history::Effect;
 use iscsi_outbox_state::Left;
+use iscsi_rules::Effect;
 use iscsi_tracked::{Command, Entering, Phase};
 use iscsi_wire::Request;
 

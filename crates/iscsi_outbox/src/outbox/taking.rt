@@ -1,7 +1,7 @@
 //! The effects of an event.
 
 ghost use Rattle.std.specs.Prelude.{◌≡◌};
-ghost use Rattle.iscsi_history.specs.promises.Order.{in_parts};
+ghost use Rattle.iscsi_rules.specs.promises.Order.{in_parts};
 ghost use Rattle.iscsi_outbox_law.specs.Called.{KeepsAllPromises, KeepsToRules};
 ghost use Rattle.iscsi_outbox_rules.specs.rules.Calls.{Takes};
 ghost use Rattle.iscsi_outbox_steps.specs.Steps.{after_item, after_items, taken};
@@ -10,7 +10,7 @@ ghost use Rattle.iscsi_outbox.specs.Walks.{after_event, numbered_by};
 use crate::items::{executing, first_reply, is_request};
 use crate::lifted::lifted;
 use crate::outbox::Outbox;
-use iscsi_history::{Effect, Numbers};
+use iscsi_rules::{Effect, Numbers};
 
 /// So far numbers that don't wrap are told: below 2^63.
 const END: u64 = 1 << 63;

@@ -2,7 +2,7 @@
 use Rattle.std.specs.Prelude.{List, [], ◌∷◌, refl, None}
 use Rattle.iscsi_wire.specs.declared.reply.Reply.TheVariants.{Scsi, Task, Nop}
 use Rattle.iscsi_tasks.specs.Rules as Rules
-use Rattle.iscsi_history.specs.examples.Rows.{command, command_to, nop_now, function_now, setting, of_two}
+use Rattle.iscsi_rules.specs.examples.Rows.{command, command_to, nop_now, function_now, setting, of_two}
 use Rattle.iscsi_outbox_rules.specs.declared.own_pdu.PutRefusal.TheVariants.{Gone}
 use Rattle.iscsi_outbox_rules.specs.rules.Calls.{Stops}
 use Rattle.iscsi_outbox_rules.specs.rules.Boxes.{Owns, Pings}

@@ -2,7 +2,7 @@
 use Rattle.std.specs.Prelude.{List, [], ◌∷◌, refl}
 use Rattle.iscsi_wire.specs.declared.reply.Reply.TheVariants.{Task, Nop, Logout}
 use Rattle.iscsi_tasks.specs.Rules as Rules
-use Rattle.iscsi_history.specs.examples.Rows.{command, nop_now, function_now, logout_now, of_two}
+use Rattle.iscsi_rules.specs.examples.Rows.{command, nop_now, function_now, logout_now, of_two}
 use Rattle.iscsi_outbox_rules.specs.declared.own_pdu.PutRefusal.TheVariants.{Closed}
 use Rattle.iscsi_outbox_rules.specs.rules.Calls.{Joins}
 use Rattle.iscsi_outbox_rules.specs.rules.Boxes.{Owns}

@@ -2,7 +2,7 @@
 use Rattle.std.specs.Prelude.{List, [], ◌∷◌, refl, false}
 use Rattle.iscsi_wire.specs.declared.reply.Reply.TheVariants.{Task, Nop}
 use Rattle.iscsi_tasks.specs.Rules as Rules
-use Rattle.iscsi_history.specs.examples.Rows.{nop_now, function_now, of_two}
+use Rattle.iscsi_rules.specs.examples.Rows.{nop_now, function_now, of_two}
 use Rattle.iscsi_outbox_rules.specs.rules.Boxes.{Owns, Pings}
 use Rattle.iscsi_outbox_rules.specs.examples.Rows.{outbox, Worked, arrives, joins, is_lost, is_written, acknowledges, answers_ping, goes, replies, none_goes, message, puts, Row}
 

@@ -3,7 +3,7 @@ use Rattle.std.specs.Prelude.{List, ◌≡◌, [], ◌∷◌, replicate, refl, t
 use Rattle.iscsi_wire.specs.declared.reply.Reply.TheVariants.{Task, Nop}
 use Rattle.iscsi_wire.specs.Replies.{NO_TAG}
 use Rattle.iscsi_tasks.specs.Rules as Rules
-use Rattle.iscsi_history.specs.examples.Rows.{command, nop, function_now, setting}
+use Rattle.iscsi_rules.specs.examples.Rows.{command, nop, function_now, setting}
 use Rattle.iscsi_outbox_rules.specs.declared.own_pdu.OwnPdu.TheVariants.{OfCommand, OfConnection}
 use Rattle.iscsi_outbox_rules.specs.declared.own_pdu.PutRefusal.TheVariants.{Unfit, Gone, Full}
 use Rattle.iscsi_outbox_rules.specs.rules.Calls.{Clears}

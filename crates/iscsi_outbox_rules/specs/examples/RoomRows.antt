@@ -3,8 +3,8 @@ use Rattle.std.specs.Prelude.{◌≡◌, ℕ, ◌+◌, ◌*◌, nat_le, List, []
 use Rattle.std.specs.List.{range_with_len, flat_map}
 use Rattle.iscsi_wire.specs.declared.reply.Reply.TheVariants.{Nop}
 use Rattle.iscsi_tasks.specs.Rules as Rules
-use Rattle.iscsi_history.specs.declared.event.Event.TheVariants.{Arrive}
-use Rattle.iscsi_history.specs.examples.Rows.{nop, nop_now, immediate_command, setting, of_two}
+use Rattle.iscsi_rules.specs.declared.event.Event.TheVariants.{Arrive}
+use Rattle.iscsi_rules.specs.examples.Rows.{nop, nop_now, immediate_command, setting, of_two}
 use Rattle.iscsi_outbox_rules.specs.rules.Calls.{Opening, Joins}
 use Rattle.iscsi_outbox_rules.specs.rules.Boxes.{Notices}
 use Rattle.iscsi_outbox_rules.specs.rules.Words.{may_take, replies_waiting, numbered_waiting, numbered_room}

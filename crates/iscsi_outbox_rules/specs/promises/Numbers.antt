@@ -1,8 +1,8 @@
 -- Numbers: StatSN in sequence, ExpCmdSN and MaxCmdSN of the moment, and never back (RFC 7143 section 4.2.2).
 use Rattle.std.specs.Prelude.{◌≡◌, ◌≤◌, ◌<◌, ◌^◌, ℕ, ◌+◌, ◌-◌, Bool, true, false, List, [], ◌∷◌, ◌++◌, length, map, filter_map, Option, Some, None, if◌then◌else◌}
 use Rattle.iscsi_wire.specs.Serial.{wire, lift, number_of_first}
-use Rattle.iscsi_history.specs.declared.effect.Numbers.{Numbers as SessionNumbers}
-use Rattle.iscsi_history.specs.rules.Trace.{first_of}
+use Rattle.iscsi_rules.specs.declared.effect.Numbers.{Numbers as SessionNumbers}
+use Rattle.iscsi_rules.specs.rules.Trace.{first_of}
 use Rattle.iscsi_outbox_rules.specs.rules.Calls.{Opening, Call, Takes, Joins, Puts, Stops, Nexts, Writes, Hears, Loses, Clears}
 use Rattle.iscsi_outbox_rules.specs.rules.Boxes.{Pdu, Replies, Owns, Pings, Notices, Handed}
 use Rattle.iscsi_outbox_rules.specs.rules.Own.{own_takes}

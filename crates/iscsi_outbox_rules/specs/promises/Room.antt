@@ -4,14 +4,14 @@ use Rattle.std.specs.List.{list_any}
 use Rattle.iscsi_wire.specs.declared.request.Request.{Request}
 use Rattle.iscsi_wire.specs.Serial.{lift}
 use Rattle.iscsi_wire.specs.Fields.{connection_of, is_immediate, cmd_sn, request_of, opcode}
-use Rattle.iscsi_history.specs.declared.effect.Effect.{Effect}
-use Rattle.iscsi_history.specs.declared.event.Event.{Event}
-use Rattle.iscsi_history.specs.declared.event.Event.TheVariants.{Arrive, Done}
-use Rattle.iscsi_history.specs.rules.Settings.{is_known, are_distinct}
-use Rattle.iscsi_history.specs.rules.Trace.{Trace, Command, live}
-use Rattle.iscsi_history.specs.rules.Execution.{exp_of}
-use Rattle.iscsi_history.specs.rules.Run.{entry_of, after_event}
-use Rattle.iscsi_history.specs.promises.Order.{in_parts}
+use Rattle.iscsi_rules.specs.declared.effect.Effect.{Effect}
+use Rattle.iscsi_rules.specs.declared.event.Event.{Event}
+use Rattle.iscsi_rules.specs.declared.event.Event.TheVariants.{Arrive, Done}
+use Rattle.iscsi_rules.specs.rules.Settings.{is_known, are_distinct}
+use Rattle.iscsi_rules.specs.rules.Trace.{Trace, Command, live}
+use Rattle.iscsi_rules.specs.rules.Execution.{exp_of}
+use Rattle.iscsi_rules.specs.rules.Run.{entry_of, after_event}
+use Rattle.iscsi_rules.specs.promises.Order.{in_parts}
 use Rattle.iscsi_outbox_rules.specs.rules.Calls.{Opening, Call, Takes}
 use Rattle.iscsi_outbox_rules.specs.rules.Boxes.{Task, Link, Box}
 use Rattle.iscsi_outbox_rules.specs.rules.Words.{is_live_phase, most_at_once, numbered_room, replies_waiting, numbered_waiting, owing, may_take}

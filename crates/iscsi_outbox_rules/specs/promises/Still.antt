@@ -2,8 +2,8 @@
 -- and nothing of one is on its way on another connection (RFC 7143 section 4.2.3.3, SAM-5 section 7).
 use Rattle.std.specs.Prelude.{◌≡◌, ◌≢◌, ℕ, ◌==◌, Bool, true, false, List, ◌∷◌, ◌++◌, Some, None, Contains}
 use Rattle.std.specs.List.{list_any}
-use Rattle.iscsi_history.specs.declared.effect.Effect.{Effect}
-use Rattle.iscsi_history.specs.declared.effect.Effect.TheVariants.{Enable, Leave}
+use Rattle.iscsi_rules.specs.declared.effect.Effect.{Effect}
+use Rattle.iscsi_rules.specs.declared.effect.Effect.TheVariants.{Enable, Leave}
 use Rattle.iscsi_outbox_rules.specs.rules.Calls.{Opening, Stops}
 use Rattle.iscsi_outbox_rules.specs.rules.Boxes.{Handed, Aim, AtConns}
 use Rattle.iscsi_outbox_rules.specs.rules.Run.{Stopped}

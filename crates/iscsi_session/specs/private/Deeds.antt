@@ -11,15 +11,15 @@ use Rattle.iscsi_window.specs.Windows.{HasRoom, number_expected, room_of, place_
 use Rattle.iscsi_tasks.specs.declared.cover.Cover.TheVariants.{All as AllOfThem, Below}
 use Rattle.iscsi_tasks.specs.Sets.{is_covered}
 use Rattle.iscsi_commands.specs.declared.live.Live.{Live}
-use Rattle.iscsi_history.specs.declared.effect.Effect.TheVariants.{Deliver, Immediate, Wait as Waits}
-use Rattle.iscsi_history.specs.declared.deed.Answer.{Answer}
-use Rattle.iscsi_history.specs.declared.deed.Answer.TheVariants.{Respond}
-use Rattle.iscsi_history.specs.declared.deed.Deed.{Deed}
-use Rattle.iscsi_history.specs.declared.deed.Deed.TheVariants.{Nothing, Wait, Reply, Enter, Void, Empty, Abort, AbortEarlier, AbortAll, CloseConn, CloseSession}
-use Rattle.iscsi_history.specs.rules.Settings.{is_known}
-use Rattle.iscsi_history.specs.rules.Execution.{unit_named}
-use Rattle.iscsi_history.specs.rules.Management.{MOST_WAITING, may_wait, refusal, by_its_number}
-use Rattle.iscsi_history.specs.rules.Deeds.{Facts, of_unit, function_deed, deed_of}
+use Rattle.iscsi_rules.specs.declared.effect.Effect.TheVariants.{Deliver, Immediate, Wait as Waits}
+use Rattle.iscsi_rules.specs.declared.deed.Answer.{Answer}
+use Rattle.iscsi_rules.specs.declared.deed.Answer.TheVariants.{Respond}
+use Rattle.iscsi_rules.specs.declared.deed.Deed.{Deed}
+use Rattle.iscsi_rules.specs.declared.deed.Deed.TheVariants.{Nothing, Wait, Reply, Enter, Void, Empty, Abort, AbortEarlier, AbortAll, CloseConn, CloseSession}
+use Rattle.iscsi_rules.specs.rules.Settings.{is_known}
+use Rattle.iscsi_rules.specs.rules.Execution.{unit_named}
+use Rattle.iscsi_rules.specs.rules.Management.{MOST_WAITING, may_wait, refusal, by_its_number}
+use Rattle.iscsi_rules.specs.rules.Deeds.{Facts, of_unit, function_deed, deed_of}
 use Rattle.iscsi_session.specs.declared.session.waiting.Waiting.{Waiting}
 use Rattle.iscsi_session.specs.private.Standing.{Core, is_held}
 use Rattle.iscsi_session.specs.private.Steps.{Step, unchanged, and_then, after_effect, set_at, is_set_full, is_tag_kept, is_crowded_by, waiting_in, number_by, request_answered, command_entered, covers_ticket, aborted, number_voided, number_emptied, is_among_open, logged_out}

@@ -6,8 +6,8 @@ use Rattle.iscsi_window.specs.Received.{Arrived}
 use Rattle.iscsi_tasks.specs.Sets.{Members}
 use Rattle.iscsi_commands.specs.declared.live.Live.{Live}
 use Rattle.iscsi_session.specs.declared.session.waiting.Waiting.{Waiting}
-use Rattle.iscsi_history.specs.rules.Settings.{is_known}
-use Rattle.iscsi_history.specs.rules.Management.{may_wait}
+use Rattle.iscsi_rules.specs.rules.Settings.{is_known}
+use Rattle.iscsi_rules.specs.rules.Management.{may_wait}
 use Rattle.iscsi_session.specs.private.Standing.{are_known, is_place_known, Match, are_ascending, are_within}
 use Rattle.iscsi_session.specs.private.Steps.{is_numbered, AreCounted, waiting_in}
 

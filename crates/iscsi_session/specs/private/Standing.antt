@@ -10,18 +10,18 @@ pub use Rattle.iscsi_window.specs.Received.{is_held}
 use Rattle.iscsi_tasks.specs.declared.task.Task.{Task}
 use Rattle.iscsi_tasks.specs.declared.member.Member.{Member}
 use Rattle.iscsi_tasks.specs.Sets.{Members, opened}
-use Rattle.iscsi_history.specs.declared.event.Event.{Event}
+use Rattle.iscsi_rules.specs.declared.event.Event.{Event}
 use Rattle.iscsi_commands.specs.declared.live.Live.{Live}
 use Rattle.iscsi_session.specs.declared.session.waiting.Waiting.{Waiting}
-use Rattle.iscsi_history.specs.rules.Settings.{Setting, is_known}
-use Rattle.iscsi_history.specs.rules.Trace.{Arrival, Command, Trace, has, shown, waiting, held, admitted, is_received, is_delivered, is_emptied, entered, live, live_in, was_free, is_among, leaves_ticket, are_apart}
-use Rattle.iscsi_history.specs.rules.Execution.{unfinished}
-use Rattle.iscsi_history.specs.rules.Management.{may_wait}
-use Rattle.iscsi_history.specs.rules.Logout.{is_open}
-use Rattle.iscsi_history.specs.rules.Agenda.{belongs}
-use Rattle.iscsi_history.specs.rules.Run.{trace_of, stat_sn_of}
-use Rattle.iscsi_history.specs.promises.Executed.{executed_below, delivers}
-use Rattle.iscsi_history.specs.promises.Enabling.{EnabledSoFar}
+use Rattle.iscsi_rules.specs.rules.Settings.{Setting, is_known}
+use Rattle.iscsi_rules.specs.rules.Trace.{Arrival, Command, Trace, has, shown, waiting, held, admitted, is_received, is_delivered, is_emptied, entered, live, live_in, was_free, is_among, leaves_ticket, are_apart}
+use Rattle.iscsi_rules.specs.rules.Execution.{unfinished}
+use Rattle.iscsi_rules.specs.rules.Management.{may_wait}
+use Rattle.iscsi_rules.specs.rules.Logout.{is_open}
+use Rattle.iscsi_rules.specs.rules.Agenda.{belongs}
+use Rattle.iscsi_rules.specs.rules.Run.{trace_of, stat_sn_of}
+use Rattle.iscsi_rules.specs.promises.Executed.{executed_below, delivers}
+use Rattle.iscsi_rules.specs.promises.Enabling.{EnabledSoFar}
 pub use Rattle.iscsi_connections.specs.Connected.{stat_sn_on}
 
 -- what a session keeps

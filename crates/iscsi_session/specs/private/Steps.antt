@@ -19,18 +19,18 @@ pub use Rattle.iscsi_tasks.specs.Marked.{covered_tickets}
 use Rattle.iscsi_commands.specs.declared.live.Live.{Live}
 pub use Rattle.iscsi_commands.specs.Commands.{find_ticket, without_ticket}
 pub use Rattle.iscsi_connections.specs.Connected.{count_reply, counted_on, is_among_open, still_open}
-use Rattle.iscsi_history.specs.declared.effect.Why.TheVariants.{Stale}
-use Rattle.iscsi_history.specs.declared.effect.Effect.{Effect}
-use Rattle.iscsi_history.specs.declared.effect.Effect.TheVariants.{Enter, Enable, Leave, Send, Ignore, Void, Empty, CloseConn, CloseSession}
-use Rattle.iscsi_history.specs.declared.effect.Numbers.{Numbers}
-use Rattle.iscsi_history.specs.declared.event.Event.{Event}
-use Rattle.iscsi_history.specs.declared.event.Event.TheVariants.{Arrive, Done}
-use Rattle.iscsi_history.specs.declared.deed.Answer.{Answer}
-use Rattle.iscsi_history.specs.declared.deed.Answer.TheVariants.{Respond, LogOut}
-use Rattle.iscsi_history.specs.rules.Settings.{Setting, is_known}
-use Rattle.iscsi_history.specs.rules.Trace.{Mark, Trace, after_items, received}
-use Rattle.iscsi_history.specs.rules.Run.{effects_of}
-use Rattle.iscsi_history.specs.rules.Execution.{sense_of_status, attr_of, reply_of, MOST_IMMEDIATE}
+use Rattle.iscsi_rules.specs.declared.effect.Why.TheVariants.{Stale}
+use Rattle.iscsi_rules.specs.declared.effect.Effect.{Effect}
+use Rattle.iscsi_rules.specs.declared.effect.Effect.TheVariants.{Enter, Enable, Leave, Send, Ignore, Void, Empty, CloseConn, CloseSession}
+use Rattle.iscsi_rules.specs.declared.effect.Numbers.{Numbers}
+use Rattle.iscsi_rules.specs.declared.event.Event.{Event}
+use Rattle.iscsi_rules.specs.declared.event.Event.TheVariants.{Arrive, Done}
+use Rattle.iscsi_rules.specs.declared.deed.Answer.{Answer}
+use Rattle.iscsi_rules.specs.declared.deed.Answer.TheVariants.{Respond, LogOut}
+use Rattle.iscsi_rules.specs.rules.Settings.{Setting, is_known}
+use Rattle.iscsi_rules.specs.rules.Trace.{Mark, Trace, after_items, received}
+use Rattle.iscsi_rules.specs.rules.Run.{effects_of}
+use Rattle.iscsi_rules.specs.rules.Execution.{sense_of_status, attr_of, reply_of, MOST_IMMEDIATE}
 use Rattle.iscsi_session.specs.declared.fault.SessionFault.{SessionFault}
 use Rattle.iscsi_session.specs.declared.fault.SessionFault.TheVariants.{UnknownConnection, Exhausted}
 use Rattle.iscsi_session.specs.declared.session.waiting.Waiting.{Waiting}

@@ -1,9 +1,9 @@
 -- How many effects an event may give.
 use Rattle.std.specs.Prelude.{ℕ, ◌+◌, ◌*◌, length, is_some, count_by}
 use Rattle.std.specs.List.{range_with_len}
-use Rattle.iscsi_history.specs.rules.Settings.{Setting}
-use Rattle.iscsi_history.specs.rules.Trace.{Trace, waiting, held, live}
-use Rattle.iscsi_history.specs.rules.Execution.{exp_of}
+use Rattle.iscsi_rules.specs.rules.Settings.{Setting}
+use Rattle.iscsi_rules.specs.rules.Trace.{Trace, waiting, held, live}
+use Rattle.iscsi_rules.specs.rules.Execution.{exp_of}
 
 -- how many requests are held
 abbrev pub held_count : Setting → Trace → ℕ

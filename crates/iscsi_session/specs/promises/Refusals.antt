@@ -1,10 +1,10 @@
 -- Which events and options a session refuses, and why.
 use Rattle.std.specs.Prelude.{◌≡◌, ℕ, ◌+◌, not, nat_lt, List, [], ◌∷◌, length, Option, Some, None, Result, Ok, Err, ⊤, ◌⊎◌, if◌then◌else◌}
-use Rattle.iscsi_history.specs.declared.event.Event.{Event}
+use Rattle.iscsi_rules.specs.declared.event.Event.{Event}
 use Rattle.iscsi_session.specs.declared.fault.SessionFault.{SessionFault}
 use Rattle.iscsi_session.specs.declared.fault.SessionFault.TheVariants.{BadOptions, NoMemory, UnknownConnection, Exhausted}
-use Rattle.iscsi_history.specs.rules.Settings.{Setting, is_valid}
-use Rattle.iscsi_history.specs.rules.Agenda.{belongs}
+use Rattle.iscsi_rules.specs.rules.Settings.{Setting, is_valid}
+use Rattle.iscsi_rules.specs.rules.Agenda.{belongs}
 
 -- why the event is refused after so many events
 abbrev pub refusal_after : Setting → ℕ → Event → Option SessionFault

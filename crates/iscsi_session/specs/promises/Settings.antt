@@ -1,6 +1,6 @@
 -- The options of a session, and their limits.
 use Rattle.iscsi_session.specs.declared.options.Options.{Options}
-use Rattle.iscsi_history.specs.rules.Settings.{Setting}
+use Rattle.iscsi_rules.specs.rules.Settings.{Setting}
 
 abbrev pub setting_of : Options → Setting
 setting_of o = record {

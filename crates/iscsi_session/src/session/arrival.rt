@@ -4,19 +4,19 @@ ghost use Rattle.std.specs.Prelude.{false, ◌-◌, ◌*◌, ◌≡◌, ℕ, ◌
 ghost use Rattle.std.specs.List.{list_all};
 ghost use Rattle.iscsi_wire.specs.Fields.{connection_of, is_immediate, opcode};
 ghost use Rattle.iscsi_window.specs.Windows.{HasRoom, at_place, offer_to, number_expected};
-ghost use Rattle.iscsi_history.specs.rules.Settings.{Setting, is_known as known_in};
-ghost use Rattle.iscsi_history.specs.rules.Trace.{Trace};
-ghost use Rattle.iscsi_history.specs.promises.Flow.{HasOneMore};
-ghost use Rattle.iscsi_history.specs.rules.Execution.{exp_of};
-ghost use Rattle.iscsi_history.specs.rules.Agenda.{arrival, arrival_open, arrival_of, numbered};
-ghost use Rattle.iscsi_history.specs.rules.Items.{agenda, functions_at};
+ghost use Rattle.iscsi_rules.specs.rules.Settings.{Setting, is_known as known_in};
+ghost use Rattle.iscsi_rules.specs.rules.Trace.{Trace};
+ghost use Rattle.iscsi_rules.specs.promises.Flow.{HasOneMore};
+ghost use Rattle.iscsi_rules.specs.rules.Execution.{exp_of};
+ghost use Rattle.iscsi_rules.specs.rules.Agenda.{arrival, arrival_open, arrival_of, numbered};
+ghost use Rattle.iscsi_rules.specs.rules.Items.{agenda, functions_at};
 ghost use Rattle.iscsi_session.specs.private.Standing.{Agrees, Settled, is_held};
 ghost use Rattle.iscsi_session.specs.private.Steps.{KeepsPace, after_effect, Takes, Runs, Handles, HasNoMore, with_offered, owed};
 ghost use Rattle.iscsi_session.specs.private.Deeds.{executed, turn_taken, comes_next};
 
 use crate::opcode::kind_of;
 use crate::session::Session;
-use iscsi_history::{Effect, Kind, Why};
+use iscsi_rules::{Effect, Kind, Why};
 use iscsi_window::{HeldRequest, Offer};
 use iscsi_wire::Request;
 

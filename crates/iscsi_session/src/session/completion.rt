@@ -2,8 +2,8 @@
 
 ghost use Rattle.std.specs.Prelude.{IfSome, MatchOption, ℕ, ◌≡◌, ◌==◌, ◌&&◌, ◌+◌, ◌<◌, ◌≤◌, true, false, if◌then◌else◌, length, nat_lt, vec_len, vec_capacity};
 ghost use Rattle.std.specs.List.{list_all};
-ghost use Rattle.iscsi_history.specs.rules.Settings.{is_known as known_in};
-ghost use Rattle.iscsi_history.specs.rules.Execution.{sense_of_status};
+ghost use Rattle.iscsi_rules.specs.rules.Settings.{is_known as known_in};
+ghost use Rattle.iscsi_rules.specs.rules.Execution.{sense_of_status};
 ghost use Rattle.iscsi_session.specs.private.Steps.{counted_on, unchanged, Takes, enabled_in, finished, commands_left, covers_ticket, sets_left, completed, owed};
 
 use crate::session::Session;
@@ -11,7 +11,7 @@ use crate::session::leaving::end_command;
 use crate::session::sets::CHECK_CONDITION;
 use iscsi_commands::{Live, LiveCommands, Placed};
 use iscsi_connections::Connections;
-use iscsi_history::{Effect, Why};
+use iscsi_rules::{Effect, Why};
 use iscsi_tasks::LinkedTaskSet;
 use iscsi_window::EventWindow;
 use iscsi_wire::{Reply, Sense};

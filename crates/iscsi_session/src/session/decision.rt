@@ -2,10 +2,10 @@
 
 ghost use Rattle.std.specs.Prelude.{true, Some, None, ◌≡◌, ◌<◌, length};
 ghost use Rattle.iscsi_wire.specs.Fields.{connection_of, is_immediate, function as function_of};
-ghost use Rattle.iscsi_history.specs.rules.Settings.{is_known as known_in};
-ghost use Rattle.iscsi_history.specs.rules.Execution.{unit_named as unit_of_lun};
-ghost use Rattle.iscsi_history.specs.rules.Management.{may_wait as may_wait_named, is_supported as supported_at};
-ghost use Rattle.iscsi_history.specs.rules.Deeds.{command_deed, abort_deed, query_deed, unit_deed, function_deed, logout_deed, nop_deed};
+ghost use Rattle.iscsi_rules.specs.rules.Settings.{is_known as known_in};
+ghost use Rattle.iscsi_rules.specs.rules.Execution.{unit_named as unit_of_lun};
+ghost use Rattle.iscsi_rules.specs.rules.Management.{may_wait as may_wait_named, is_supported as supported_at};
+ghost use Rattle.iscsi_rules.specs.rules.Deeds.{command_deed, abort_deed, query_deed, unit_deed, function_deed, logout_deed, nop_deed};
 ghost use Rattle.iscsi_session.specs.private.Codes.{reason_code, response_code, logout_response_code};
 ghost use Rattle.iscsi_session.specs.private.Steps.{is_tag_kept, is_crowded_by};
 ghost use Rattle.iscsi_session.specs.private.Deeds.{refusal_by, tagged_in, missing_by, facts_by, deed_by, managed_by, waits_by, arrival_by};
@@ -19,7 +19,7 @@ use crate::session::Session;
 use crate::session::sets::{is_full, unit_named};
 use crate::session::waiting::MOST;
 use iscsi_commands::Live;
-use iscsi_history::{Answer, Deed};
+use iscsi_rules::{Answer, Deed};
 use iscsi_window::Place;
 use iscsi_wire::{Request, distance};
 

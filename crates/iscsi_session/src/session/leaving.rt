@@ -5,13 +5,13 @@ ghost use Rattle.std.specs.List.{AllPairs};
 ghost use Rattle.iscsi_tasks.specs.Sets.{opened, is_covered};
 ghost use Rattle.iscsi_session.specs.private.Standing.{are_ascending, are_known, tickets_of, tickets_in};
 ghost use Rattle.iscsi_session.specs.private.Steps.{set_staying, covered_tickets, find_ticket, without_ticket, Appends, Takes, unit_told, AreCounted, is_numbered, finished_by, leave_each, commands_left, without_tickets, covers_ticket, has_covered, owed};
-ghost use Rattle.iscsi_history.specs.declared.effect.Effect.{Effect};
+ghost use Rattle.iscsi_rules.specs.declared.effect.Effect.{Effect};
 
 use crate::session::completion::finish;
 use crate::session::{Session, sets};
 use iscsi_commands::{Live, LiveCommands};
 use iscsi_connections::Connections;
-use iscsi_history::Effect;
+use iscsi_rules::Effect;
 use iscsi_tasks::{Cover, LinkedTaskSet};
 use iscsi_window::EventWindow;
 

@@ -8,7 +8,7 @@ ghost use Rattle.iscsi_session.specs.private.Steps.{is_among_open, Takes, units_
 
 use crate::closing::LogoutResponse;
 use crate::session::Session;
-use iscsi_history::{Answer, Effect};
+use iscsi_rules::{Answer, Effect};
 use iscsi_tasks::Cover;
 use iscsi_wire::Request;
 use std::alloc::Global;

@@ -5,7 +5,7 @@ ghost use Rattle.std.specs.List.{list_all};
 ghost use Rattle.iscsi_wire.specs.Fields.{connection_of, is_immediate};
 ghost use Rattle.iscsi_window.specs.Windows.{IsInside, place_in, held_at};
 ghost use Rattle.iscsi_tasks.specs.Sets.{is_covered};
-ghost use Rattle.iscsi_history.specs.rules.Settings.{is_known as known_in};
+ghost use Rattle.iscsi_rules.specs.rules.Settings.{is_known as known_in};
 ghost use Rattle.iscsi_session.specs.private.Standing.{is_held};
 ghost use Rattle.iscsi_session.specs.private.Steps.{KeepsPace, Takes, covers_ticket, aborted, number_voided, number_emptied, owed};
 ghost use Rattle.iscsi_session.specs.private.Deeds.{arrival_by, Fits, IsReady, most_emptied, next_waiting, function_taken, done_at_once, immediate_taken};
@@ -14,7 +14,7 @@ use crate::response::Response;
 use crate::session::Session;
 use crate::session::execution::copy_of;
 use crate::session::waiting::Waiting;
-use iscsi_history::{Answer, Deed, Effect};
+use iscsi_rules::{Answer, Deed, Effect};
 use iscsi_tasks::Cover;
 use iscsi_wire::Request;
 

@@ -2,10 +2,10 @@
 
 ghost use Rattle.std.specs.Prelude.{false, ◌≡◌, ◌+◌, ◌<◌, ◌≤◌, length, count_by, replicate, slice_index_or, slice_set, Some, IfSome, vec_len, vec_capacity};
 ghost use Rattle.iscsi_tasks.specs.Sets.{opened, IsNewest, entered_to, is_new, next_in, given_by};
-ghost use Rattle.iscsi_history.specs.rules.Execution.{unit_named};
+ghost use Rattle.iscsi_rules.specs.rules.Execution.{unit_named};
 ghost use Rattle.iscsi_session.specs.private.Steps.{Appends, all_given, enable_effects, enable_effect, is_set_full};
 
-use iscsi_history::Effect;
+use iscsi_rules::Effect;
 use iscsi_tasks::{LinkedTaskSet, Task};
 use iscsi_wire::{Request, unit_of};
 use std::alloc::Global;

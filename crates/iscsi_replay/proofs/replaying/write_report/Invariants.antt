@@ -1,6 +1,6 @@
 use Rattle.std.proofs.Common.{◌≡◌, ◌++◌, List, length, false}
-use Rattle.iscsi_history.specs.declared.event.Event.{Event}
-use Rattle.iscsi_history.specs.promises.Flow.{FlowsThrough}
+use Rattle.iscsi_rules.specs.declared.event.Event.{Event}
+use Rattle.iscsi_rules.specs.promises.Flow.{FlowsThrough}
 use Rattle.iscsi_session.specs.private.Standing.{StandsFor}
 use Rattle.iscsi_replay.specs.Replayed.{setting_with, report_by}
 use Rattle.iscsi_recording.specs.Writing.{AppendsBut}

@@ -1,5 +1,5 @@
 use Rattle.std.proofs.Common.{◌≡◌, ◌++◌, List, length, map}
-use Rattle.iscsi_history.specs.declared.event.Event.{Event}
+use Rattle.iscsi_rules.specs.declared.event.Event.{Event}
 use Rattle.iscsi_threads.specs.Journal.{cids_in, parts}
 use Rattle.iscsi_replay.specs.Threaded.{headers}
 use Rattle.iscsi_replay.proofs.threading.lists_of.Given as goal

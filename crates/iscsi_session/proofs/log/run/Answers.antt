@@ -3,16 +3,16 @@ use Rattle.std.specs.Prelude.{Result, Ok, Err, OnOk, is_err}
 use Rattle.std.proofs.lemmas.Grind.{common_steps}
 use Rattle.std.proofs.lemmas.List.{take_more, take_all}
 use Rattle.std.proofs.lemmas.Result.{err_from_is_err_and}
-use Rattle.iscsi_history.specs.declared.effect.Numbers.{Numbers}
-use Rattle.iscsi_history.specs.declared.event.Event.{Event}
-use Rattle.iscsi_history.specs.rules.Settings.{Setting}
+use Rattle.iscsi_rules.specs.declared.effect.Numbers.{Numbers}
+use Rattle.iscsi_rules.specs.declared.event.Event.{Event}
+use Rattle.iscsi_rules.specs.rules.Settings.{Setting}
 use Rattle.iscsi_session.specs.promises.Settings.{setting_of}
-use Rattle.iscsi_history.specs.rules.Run.{run_of}
-use Rattle.iscsi_history.specs.promises.Flow.{FlowsThrough}
+use Rattle.iscsi_rules.specs.rules.Run.{run_of}
+use Rattle.iscsi_rules.specs.promises.Flow.{FlowsThrough}
 use Rattle.iscsi_session.specs.promises.Refusals.{refusal_of, refusal_of_options, first_refusal}
 use Rattle.iscsi_session.specs.private.Standing.{StandsFor}
-use Rattle.iscsi_history.proofs.RunLemmas.{run_of-push}
-use Rattle.iscsi_history.proofs.FlowItems.{FlowsThrough-push}
+use Rattle.iscsi_rules.proofs.RunLemmas.{run_of-push}
+use Rattle.iscsi_rules.proofs.FlowItems.{FlowsThrough-push}
 use Rattle.iscsi_session.proofs.RefusalLemmas.{taken_none, refused_cases, refusal_more, refusal_here, options_refused, event_refused, run_taken}
 use Rattle.iscsi_session.proofs.PromiseLemmas.{promises_kept}
 use Rattle.iscsi_session.proofs.log.run.Goals as goal

@@ -1,8 +1,8 @@
 use Rattle.std.proofs.Common.{◌≡◌, take, drop}
-use Rattle.iscsi_history.specs.rules.Settings.{Setting}
+use Rattle.iscsi_rules.specs.rules.Settings.{Setting}
 use Rattle.iscsi_session.specs.promises.Settings.{setting_of}
-use Rattle.iscsi_history.specs.rules.Run.{run_of}
-use Rattle.iscsi_history.specs.promises.Flow.{FlowsThrough}
+use Rattle.iscsi_rules.specs.rules.Run.{run_of}
+use Rattle.iscsi_rules.specs.promises.Flow.{FlowsThrough}
 use Rattle.iscsi_session.specs.promises.Refusals.{first_refusal}
 use Rattle.iscsi_session.specs.private.Standing.{StandsFor}
 use Rattle.iscsi_session.proofs.log.run.Given as goal

@@ -6,14 +6,14 @@ use Rattle.iscsi_tasks.specs.Sets.{opened as opened_set}
 use Rattle.iscsi_connections.specs.Connected.{Connected}
 use Rattle.iscsi_session.specs.promises.Settings.{setting_of}
 use Rattle.iscsi_session.specs.private.Standing.{is_place_known, tickets_of}
-use Rattle.iscsi_history.specs.rules.Settings.{Setting, is_valid}
+use Rattle.iscsi_rules.specs.rules.Settings.{Setting, is_valid}
 use Rattle.iscsi_session.specs.private.Invariant.{HasRooms, IsWithinLimits, IsSessionSound}
 use Rattle.iscsi_session.proofs.CountLemmas.{AreCounted-opened}
 use Rattle.iscsi_session.proofs.OpenLemmas.{Settled-opened}
 use Rattle.iscsi_session.proofs.session.make_on.Goals as goal
-use Rattle.iscsi_history.proofs.SetLemmas.{set_opened}
-use Rattle.iscsi_history.proofs.CountLemmas.{none_counted}
-use Rattle.iscsi_history.proofs.PlaceLemmas.{all_none}
+use Rattle.iscsi_rules.proofs.SetLemmas.{set_opened}
+use Rattle.iscsi_rules.proofs.CountLemmas.{none_counted}
+use Rattle.iscsi_rules.proofs.PlaceLemmas.{all_none}
 use Rattle.std.proofs.lemmas.List.{length-replicate as so_many}
 
 -- a session that was opened is sound

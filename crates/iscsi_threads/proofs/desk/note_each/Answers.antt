@@ -1,7 +1,7 @@
 use Rattle.std.proofs.Common.{◌≡◌, ◌+◌, ◌<◌, List, ◌++◌, ◌∷◌, [], ◌∙◌, ap, sym, subst, rules, arith, length, take, drop, get_or, append-nil, append_assoc}
 use Rattle.std.proofs.lemmas.List.{take_more, drop_more}
-use Rattle.iscsi_history.specs.declared.effect.Effect.{Effect}
-use Rattle.iscsi_history.specs.declared.effect.Effect.TheVariants.{Deliver}
+use Rattle.iscsi_rules.specs.declared.effect.Effect.{Effect}
+use Rattle.iscsi_rules.specs.declared.effect.Effect.TheVariants.{Deliver}
 use Rattle.iscsi_threads.specs.declared.job.Job.{Job}
 use Rattle.iscsi_threads.specs.Desks.{Known, seen, listed, job_at, jobs_from, known_after, EnterAbove}
 use Rattle.iscsi_threads.proofs.DeskLemmas.{known_after-append, jobs_from-append, rest_above}

@@ -1,6 +1,6 @@
 use Rattle.std.proofs.Common.{◌≡◌, ◌∙◌, ap, sym, subst, rules, arith, length, vec_len, []}
 use Rattle.std.proofs.lemmas.List.{length-map, length-replicate}
-use Rattle.iscsi_history.specs.rules.Settings.{Setting, is_valid}
+use Rattle.iscsi_rules.specs.rules.Settings.{Setting, is_valid}
 use Rattle.iscsi_session.specs.promises.Settings.{setting_of}
 use Rattle.iscsi_threads.specs.declared.serving.End.{End}
 use Rattle.iscsi_threads.specs.declared.serving.End.TheVariants.{Full}

@@ -1,5 +1,5 @@
 use Rattle.std.proofs.Common.{◌≡◌, sym, subst}
-use Rattle.iscsi_history.specs.rules.Settings.{Setting}
+use Rattle.iscsi_rules.specs.rules.Settings.{Setting}
 use Rattle.iscsi_session.specs.promises.Settings.{setting_of}
 use Rattle.iscsi_threads.specs.Loops.{setting}
 use Rattle.iscsi_threads.specs.Serving.{Ran}

@@ -1,5 +1,5 @@
 use Rattle.std.proofs.Common.{◌≡◌, ◌∙◌, ℕ, None, true, false, refl, sym, ap, subst}
-use Rattle.iscsi_history.specs.declared.event.Event.TheVariants.{Done}
+use Rattle.iscsi_rules.specs.declared.event.Event.TheVariants.{Done}
 use Rattle.iscsi_ffi_commands.specs.Commands.{is_going}
 use Rattle.iscsi_ffi_steps.specs.Steps.{Answered, Going, going, happens}
 use Rattle.iscsi_ffi.specs.Answers.{answer_of}

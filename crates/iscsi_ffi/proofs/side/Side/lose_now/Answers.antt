@@ -1,6 +1,6 @@
 use Rattle.std.proofs.Common.{◌≡◌, ◌∙◌, ℕ, List, Some, None, true, false, sym, ap, subst}
 use Rattle.iscsi_arrivals.specs.Counts.{Counts}
-use Rattle.iscsi_history.specs.declared.event.Event.TheVariants.{Arrive}
+use Rattle.iscsi_rules.specs.declared.event.Event.TheVariants.{Arrive}
 use Rattle.iscsi_outbox_steps.specs.State.{State, link_at, place_of}
 use Rattle.iscsi_ffi_steps.specs.Walk.{Doing}
 use Rattle.iscsi_ffi_steps.specs.Steps.{Going, going, happens}

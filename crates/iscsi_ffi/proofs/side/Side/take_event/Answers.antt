@@ -1,6 +1,6 @@
 use Rattle.std.proofs.Common.{◌∙◌, List, sym, ap, subst}
-use Rattle.iscsi_history.specs.declared.effect.Effect.{Effect}
-use Rattle.iscsi_history.specs.declared.effect.Numbers.{Numbers}
+use Rattle.iscsi_rules.specs.declared.effect.Effect.{Effect}
+use Rattle.iscsi_rules.specs.declared.effect.Numbers.{Numbers}
 use Rattle.iscsi_ffi_steps.specs.Steps.{takes}
 use Rattle.iscsi_ffi.specs.Standing.{Begun, Sided}
 use Rattle.iscsi_ffi.specs.contracts.side.Side.{the_view}

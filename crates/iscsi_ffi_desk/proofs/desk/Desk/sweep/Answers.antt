@@ -1,6 +1,6 @@
 use Rattle.std.proofs.Common.{List, [], ℕ, get_or, ap, ◌∙◌}
-use Rattle.iscsi_history.specs.declared.effect.Effect.{Effect}
-use Rattle.iscsi_history.specs.declared.effect.Effect.TheVariants.{Deliver}
+use Rattle.iscsi_rules.specs.declared.effect.Effect.{Effect}
+use Rattle.iscsi_rules.specs.declared.effect.Effect.TheVariants.{Deliver}
 use Rattle.iscsi_ffi_steps.specs.Walk.{Doing, touched_by}
 use Rattle.iscsi_ffi_desk.proofs.DropLemmas.{sweep_more, sweep_outbox}
 use Rattle.iscsi_ffi_desk.proofs.desk.Desk.sweep.Goals as goal

@@ -1,6 +1,6 @@
 use Rattle.std.proofs.Common.{◌≡◌, ◌≤◌}
 use Rattle.std.specs.List.{flat_map}
-use Rattle.iscsi_history.specs.promises.Order.{in_parts}
+use Rattle.iscsi_rules.specs.promises.Order.{in_parts}
 use Rattle.iscsi_ffi_steps.specs.Steps.{reset_in}
 use Rattle.iscsi_ffi_steps.specs.Walk.{tell_all}
 use Rattle.iscsi_ffi_desk.proofs.TellLemmas.{resets_left}

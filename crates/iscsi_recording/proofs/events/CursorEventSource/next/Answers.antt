@@ -1,6 +1,6 @@
 use Rattle.std.proofs.Common.{◌-◌, List, take, drop, ◌∷◌, ◌∙◌, sym, ap, ap₂}
 use Rattle.iscsi_recording.specs.Dense.{events_of, event_in}
-use Rattle.iscsi_history.specs.declared.event.Event.{Event}
+use Rattle.iscsi_rules.specs.declared.event.Event.{Event}
 use Rattle.iscsi_recording.proofs.DenseLemmas.{next_of}
 use Rattle.iscsi_recording.proofs.events.CursorEventSource.next.Goals as goal
 

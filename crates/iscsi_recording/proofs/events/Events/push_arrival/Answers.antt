@@ -1,6 +1,6 @@
 use Rattle.std.proofs.Common.{arith, add-one}
-use Rattle.iscsi_history.specs.declared.event.Event.{Event}
-use Rattle.iscsi_history.specs.declared.event.Event.TheVariants.{Arrive}
+use Rattle.iscsi_rules.specs.declared.event.Event.{Event}
+use Rattle.iscsi_rules.specs.declared.event.Event.TheVariants.{Arrive}
 use Rattle.iscsi_recording.specs.Dense.{bytes_of}
 use Rattle.iscsi_recording.proofs.DenseLemmas.{count_short, dense_more, events_more, one_of}
 use Rattle.iscsi_recording.proofs.events.Events.push_arrival.Goals as goal

@@ -1,7 +1,7 @@
 use Rattle.std.proofs.Common.{◌≡◌, ◌∙◌, ap, sym, subst, refl, true, false, List}
 use Rattle.iscsi_wire.specs.Fields.{connection_of}
-use Rattle.iscsi_history.specs.rules.Trace.{Mark}
-use Rattle.iscsi_history.specs.promises.Flow.{HasOneMore}
+use Rattle.iscsi_rules.specs.rules.Trace.{Mark}
+use Rattle.iscsi_rules.specs.promises.Flow.{HasOneMore}
 use Rattle.iscsi_session.specs.private.Standing.{Core}
 use Rattle.iscsi_session.specs.private.Steps.{is_among_open, Handles}
 use Rattle.iscsi_session.proofs.AgreeLemmas.{handled, known_of}

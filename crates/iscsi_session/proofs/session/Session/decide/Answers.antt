@@ -2,7 +2,7 @@ use Rattle.std.proofs.Common.{◌≡◌, ◌==◌, ◌∙◌, ⊎_elim, cond, Bo
 use Rattle.std.proofs.lemmas.Bool.{false≢true, eqb-true}
 use Rattle.iscsi_wire.specs.declared.request.Request.{Request}
 use Rattle.iscsi_wire.specs.Fields.{opcode}
-use Rattle.iscsi_history.specs.rules.Deeds.{command_deed}
+use Rattle.iscsi_rules.specs.rules.Deeds.{command_deed}
 use Rattle.iscsi_session.specs.declared.opcode.Opcode.{Opcode}
 use Rattle.iscsi_session.specs.declared.opcode.Opcode.TheVariants.{NopOut, ScsiCommand, TaskManagement, Text, DataOut, Logout, Snack, Unknown}
 use Rattle.iscsi_session.specs.private.Codes.{opcode_named}

@@ -6,7 +6,7 @@ use Rattle.iscsi_tasks.specs.Sets.{Members}
 use Rattle.iscsi_commands.specs.declared.live.Live.{Live}
 use Rattle.iscsi_session.specs.private.Standing.{Match}
 use Rattle.iscsi_session.specs.private.Deeds.{facts_by}
-use Rattle.iscsi_history.specs.rules.Deeds.{of_unit}
+use Rattle.iscsi_rules.specs.rules.Deeds.{of_unit}
 use Rattle.iscsi_session.proofs.session.Session.decide_to.Goals as goal
 use Rattle.iscsi_session.proofs.session.Session.decide_to.Goals.{In-QueryTask, In-QueryTaskSet}
 use Rattle.std.proofs.lemmas.Bool.Decides.{nat_tests}

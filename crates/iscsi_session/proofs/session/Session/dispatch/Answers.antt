@@ -1,9 +1,9 @@
 use Rattle.std.proofs.Common.{◌∙◌, ap, sym, subst, refl, List, arith}
-use Rattle.iscsi_history.specs.rules.Trace.{Mark}
-use Rattle.iscsi_history.specs.promises.Flow.{HasOneMore}
+use Rattle.iscsi_rules.specs.rules.Trace.{Mark}
+use Rattle.iscsi_rules.specs.promises.Flow.{HasOneMore}
 use Rattle.iscsi_session.specs.private.Standing.{Core}
 use Rattle.iscsi_session.specs.private.Steps.{Handles}
-use Rattle.iscsi_history.proofs.ReceivedItems.{is_numbered_arrival}
+use Rattle.iscsi_rules.proofs.ReceivedItems.{is_numbered_arrival}
 use Rattle.iscsi_session.proofs.AgreeLemmas.{handled, known_of}
 use Rattle.iscsi_session.proofs.AgendaLemmas.{passed_over, rejected_opcode, at_once}
 use Rattle.iscsi_session.proofs.DeedLemmas.{immediate_same}

@@ -1,13 +1,13 @@
 use Rattle.std.proofs.Common.{◌≡◌, ◌∙◌, ◌++◌, ap, sym, arith, None}
 use Rattle.std.proofs.lemmas.List.{append-nil}
 use Rattle.iscsi_window.specs.Windows.{number_expected}
-use Rattle.iscsi_history.specs.rules.Items.{functions_at}
+use Rattle.iscsi_rules.specs.rules.Items.{functions_at}
 use Rattle.iscsi_session.specs.private.Standing.{Core}
 use Rattle.iscsi_session.specs.private.Deeds.{next_waiting, function_taken}
 use Rattle.iscsi_session.proofs.AgendaLemmas.{functions-on, functions-done}
 use Rattle.iscsi_session.proofs.DeedLemmas.{function_stays, pace-function}
 use Rattle.iscsi_session.proofs.session.Session.execute_all_waiting.Goals as goal
-use Rattle.iscsi_history.proofs.ListLemmas.{is_none}
+use Rattle.iscsi_rules.proofs.ListLemmas.{is_none}
 use Rattle.std.proofs.lemmas.Bool.Decides.{nat_tests}
 
 pub loop-preserved : goal.loop-preserved

@@ -1,8 +1,8 @@
 use Rattle.std.proofs.Common.{◌≡◌, ◌≤◌, ◌+◌, ◌*◌, length, vec_len, vec_capacity}
 use Rattle.iscsi_window.specs.Windows.{number_expected}
-use Rattle.iscsi_history.specs.rules.Settings.{Setting}
-use Rattle.iscsi_history.specs.rules.Trace.{Trace}
-use Rattle.iscsi_history.specs.rules.Items.{functions_at}
+use Rattle.iscsi_rules.specs.rules.Settings.{Setting}
+use Rattle.iscsi_rules.specs.rules.Trace.{Trace}
+use Rattle.iscsi_rules.specs.rules.Items.{functions_at}
 use Rattle.iscsi_session.specs.private.Standing.{Agrees}
 use Rattle.iscsi_session.specs.private.Steps.{KeepsPace, owed}
 use Rattle.iscsi_session.proofs.AgendaLemmas.{Leads, left_functions}

@@ -4,18 +4,18 @@ use Rattle.std.proofs.lemmas.Int.{ints, to_z_pos}
 use Rattle.iscsi_wire.specs.Serial.{number_of_first}
 use Rattle.iscsi_window.specs.Windows.{number_expected}
 use Rattle.iscsi_slots.specs.Queued.{Queued, queued}
-use Rattle.iscsi_history.specs.rules.Management.{may_wait}
-use Rattle.iscsi_history.specs.rules.Deeds.{function_deed}
-use Rattle.iscsi_history.specs.declared.deed.Deed.{Deed}
+use Rattle.iscsi_rules.specs.rules.Management.{may_wait}
+use Rattle.iscsi_rules.specs.rules.Deeds.{function_deed}
+use Rattle.iscsi_rules.specs.declared.deed.Deed.{Deed}
 use Rattle.iscsi_wire.specs.declared.request.Request.{Request}
 use Rattle.iscsi_session.specs.private.Standing.{Core, is_held}
 use Rattle.iscsi_session.specs.private.Steps.{after_effect, owed}
 use Rattle.iscsi_session.specs.private.Deeds.{facts_by, carried, next_waiting, next_position, function_taken}
-use Rattle.iscsi_history.specs.declared.effect.Effect.TheVariants.{Immediate}
+use Rattle.iscsi_rules.specs.declared.effect.Effect.TheVariants.{Immediate}
 use Rattle.iscsi_session.specs.declared.session.waiting.Waiting.{Waiting}
 use Rattle.iscsi_session.specs.contracts.session.Session.{the_view}
-use Rattle.iscsi_history.proofs.ListLemmas.{find-passes}
-use Rattle.iscsi_history.proofs.CountLemmas.{fewer_left}
+use Rattle.iscsi_rules.proofs.ListLemmas.{find-passes}
+use Rattle.iscsi_rules.proofs.CountLemmas.{fewer_left}
 use Rattle.iscsi_session.proofs.DeedLemmas.{Whole, whole, whole_function, fits_function, carried_stays}
 use Rattle.iscsi_session.proofs.SoundLemmas.{fewer_sound}
 use Rattle.iscsi_session.proofs.session.Session.execute_next_waiting.Goals as goal

@@ -1,7 +1,7 @@
 use Rattle.std.proofs.Common.{◌≡◌, ◌<◌, ◌-◌, ◌+◌, ◌⊎◌, ⊎_elim, ap, sym, subst, arith, count_by, is_some, true}
 use Rattle.iscsi_wire.specs.Fields.{connection_of}
 use Rattle.iscsi_window.specs.Windows.{Arrived}
-use Rattle.iscsi_history.specs.rules.Settings.{is_known}
+use Rattle.iscsi_rules.specs.rules.Settings.{is_known}
 use Rattle.iscsi_session.specs.private.Standing.{Core, is_held}
 use Rattle.iscsi_session.proofs.WindowLemmas.{Grown, held_or_same, grown_sound}
 use Rattle.iscsi_session.proofs.SoundLemmas.{window_sound, same_sound}

@@ -1,8 +1,8 @@
 use Rattle.std.proofs.Common.{◌≤◌, ◌∙◌, sym, arith, count_by}
 use Rattle.std.proofs.lemmas.Bool.{false≢true}
 use Rattle.iscsi_wire.specs.declared.request.Request.{Request}
-use Rattle.iscsi_history.specs.declared.deed.Deed.{Deed}
-use Rattle.iscsi_history.specs.declared.deed.Deed.TheVariants.{CloseConn}
+use Rattle.iscsi_rules.specs.declared.deed.Deed.{Deed}
+use Rattle.iscsi_rules.specs.declared.deed.Deed.TheVariants.{CloseConn}
 use Rattle.iscsi_session.specs.private.Standing.{Core, is_held}
 use Rattle.iscsi_session.specs.private.Deeds.{Fits, most_emptied}
 use Rattle.iscsi_session.proofs.DeedLemmas.{fits_arrival, ready}

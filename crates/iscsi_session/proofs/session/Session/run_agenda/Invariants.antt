@@ -1,7 +1,7 @@
 use Rattle.std.proofs.Common.{◌≤◌, ◌≡◌, ◌+◌, ◌*◌, List, length, count_by, is_some, vec_len, vec_capacity}
-use Rattle.iscsi_history.specs.declared.effect.Effect.{Effect}
-use Rattle.iscsi_history.specs.rules.Settings.{Setting}
-use Rattle.iscsi_history.specs.rules.Trace.{Trace, Mark}
+use Rattle.iscsi_rules.specs.declared.effect.Effect.{Effect}
+use Rattle.iscsi_rules.specs.rules.Settings.{Setting}
+use Rattle.iscsi_rules.specs.rules.Trace.{Trace, Mark}
 use Rattle.iscsi_session.specs.private.Standing.{is_held}
 use Rattle.iscsi_session.specs.private.Steps.{KeepsPace, owed}
 use Rattle.iscsi_session.proofs.AgendaLemmas.{DueTurn}

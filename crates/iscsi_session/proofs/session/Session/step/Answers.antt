@@ -1,30 +1,30 @@
 use Rattle.std.proofs.Common.{◌≤◌, ◌≡◌, ◌∙◌, ◌+◌, ◌++◌, ap, sym, arith, List, [], ◌∷◌, length, length-append, Option}
 use Rattle.std.proofs.lemmas.List.{length_push}
-use Rattle.iscsi_history.specs.declared.effect.Effect.{Effect}
-use Rattle.iscsi_history.specs.declared.event.Event.{Event}
-use Rattle.iscsi_history.specs.rules.Settings.{Setting}
+use Rattle.iscsi_rules.specs.declared.effect.Effect.{Effect}
+use Rattle.iscsi_rules.specs.declared.event.Event.{Event}
+use Rattle.iscsi_rules.specs.rules.Settings.{Setting}
 use Rattle.iscsi_session.specs.declared.fault.SessionFault.{SessionFault}
-use Rattle.iscsi_history.specs.rules.Run.{trace_of, next_entry}
+use Rattle.iscsi_rules.specs.rules.Run.{trace_of, next_entry}
 use Rattle.iscsi_session.specs.promises.Refusals.{refusal_of}
 use Rattle.iscsi_session.specs.promises.Bounds.{effect_bound_of}
 use Rattle.iscsi_session.specs.private.Standing.{Core, StandsFor}
 use Rattle.iscsi_session.specs.private.Steps.{refusal_by, KeepsPace, Handles}
-use Rattle.iscsi_history.specs.promises.Flow.{Flows, HasOneMore}
-use Rattle.iscsi_history.specs.rules.Agenda.{items_of}
+use Rattle.iscsi_rules.specs.promises.Flow.{Flows, HasOneMore}
+use Rattle.iscsi_rules.specs.rules.Agenda.{items_of}
 use Rattle.iscsi_session.proofs.PromiseLemmas.{Flows-step}
-use Rattle.iscsi_history.proofs.RunLemmas.{trace_of-push}
+use Rattle.iscsi_rules.proofs.RunLemmas.{trace_of-push}
 use Rattle.iscsi_session.proofs.OwedLemmas.{owed_few}
 use Rattle.iscsi_session.proofs.AgreeLemmas.{settled_numbers}
 use Rattle.iscsi_session.proofs.AgendaLemmas.{Settled-counted, taken_by, refusal_is}
 use Rattle.iscsi_session.proofs.OpenLemmas.{bound_is}
 use Rattle.iscsi_session.proofs.SoundLemmas.{taken_sound}
-use Rattle.iscsi_history.proofs.AbortTheorem.{aborts_hold_in}
-use Rattle.iscsi_history.proofs.LifeTheorem.{starts_once}
-use Rattle.iscsi_history.proofs.AnswerTheorem.{answers_once_in}
-use Rattle.iscsi_history.proofs.NumberingLemmas.{counts_replies}
-use Rattle.iscsi_history.proofs.OrderRuns.{keeps_order}
-use Rattle.iscsi_history.proofs.MeaningTheorem.{means_what_it_says}
-use Rattle.iscsi_history.proofs.FlowItems.{belong_more}
+use Rattle.iscsi_rules.proofs.AbortTheorem.{aborts_hold_in}
+use Rattle.iscsi_rules.proofs.LifeTheorem.{starts_once}
+use Rattle.iscsi_rules.proofs.AnswerTheorem.{answers_once_in}
+use Rattle.iscsi_rules.proofs.NumberingLemmas.{counts_replies}
+use Rattle.iscsi_rules.proofs.OrderRuns.{keeps_order}
+use Rattle.iscsi_rules.proofs.MeaningTheorem.{means_what_it_says}
+use Rattle.iscsi_rules.proofs.FlowItems.{belong_more}
 use Rattle.iscsi_session.proofs.PromiseLemmas.{stands_delivers, stands_enables, stands_closes}
 use Rattle.iscsi_session.proofs.RefusalLemmas.{taken_belongs}
 use Rattle.iscsi_session.proofs.session.Session.step.Goals as goal

@@ -1,7 +1,7 @@
 use Rattle.std.proofs.Common.{refl, ◌≡◌, ℕ, ◌<◌, ◌∙◌, ◌++◌, List, ap, sym, subst, arith, length, map, append_assoc, true, get_or, vec_len}
 use Rattle.std.specs.List.{range_with_len}
 use Rattle.std.proofs.lemmas.List.{length-map, map-append}
-use Rattle.iscsi_history.specs.rules.Run.{run_of}
+use Rattle.iscsi_rules.specs.rules.Run.{run_of}
 use Rattle.iscsi_session.specs.promises.Settings.{setting_of}
 use Rattle.iscsi_threads.specs.Ports.{Answer, port_ring, unit_rings, taken}
 use Rattle.iscsi_threads.specs.Outlets.{inlet_ring, outlet_rings, got, given, heard}

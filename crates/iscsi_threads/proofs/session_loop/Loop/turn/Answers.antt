@@ -1,12 +1,12 @@
 use Rattle.std.specs.Prelude.{refl}
 use Rattle.std.proofs.Common.{◌≡◌, ℕ, ◌+◌, ◌<◌, ◌≤◌, ◌∙◌, ap, sym, subst, rules, arith, List, [], ◌∷◌, ◌++◌, length, vec_len, vec_capacity, map, true}
 use Rattle.std.proofs.lemmas.List.{length-map}
-use Rattle.iscsi_history.specs.declared.event.Event.{Event}
-use Rattle.iscsi_history.specs.declared.effect.Effect.{Effect}
-use Rattle.iscsi_history.specs.rules.Settings.{Setting}
+use Rattle.iscsi_rules.specs.declared.event.Event.{Event}
+use Rattle.iscsi_rules.specs.declared.effect.Effect.{Effect}
+use Rattle.iscsi_rules.specs.rules.Settings.{Setting}
 use Rattle.iscsi_session.specs.promises.Settings.{setting_of}
-use Rattle.iscsi_history.specs.rules.Run.{trace_of, next_entry}
-use Rattle.iscsi_history.specs.rules.Agenda.{belongs}
+use Rattle.iscsi_rules.specs.rules.Run.{trace_of, next_entry}
+use Rattle.iscsi_rules.specs.rules.Agenda.{belongs}
 use Rattle.iscsi_session.specs.promises.Refusals.{refusal_of}
 use Rattle.iscsi_session.specs.promises.Bounds.{effect_bound_of}
 use Rattle.iscsi_threads.proofs.Journals.{heads_after, dones_after, source_of_polled, sources_snoc, range_length}
