@@ -1,6 +1,6 @@
 """A target and an initiator around the session and the outbox themselves, and what a reader of each transport sees.
 
-The program `iscsi_outbox_play` makes the calls; here are the units, the transports and the initiator, who has nothing but
+The program `check_outbox_play` makes the calls; here are the units, the transports and the initiator, who has nothing but
 the bytes that he reads. Each command has a tag of its own, and the Data-Ins of a command count in the word of their offset.
 """
 

@@ -12,9 +12,9 @@ CASES = TOP / "tests" / "cases"
 # The recordings of examples/, by their names.
 EXAMPLES = {path.stem: path for folder in ("examples", "examples/recordings") for path in (TOP / folder).glob("*.recording")}
 PROGRAM = TOP / "out" / "bin" / "iscsi_replay"
-DRIVER = TOP / "crates" / "iscsi_faults" / "out" / "iscsi_faults"
+DRIVER = TOP / "crates" / "check_faults" / "out" / "check_faults"
 # Where tests/faults leaves the injector.
-INJECTOR = TOP / "crates" / "iscsi_faults" / "out" / "injector.so"
+INJECTOR = TOP / "crates" / "check_faults" / "out" / "injector.so"
 # No run of these programs takes as long, unless a thread waits for ever.
 SECONDS = 60
 

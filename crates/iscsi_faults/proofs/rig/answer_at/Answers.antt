@@ -1,6 +1,0 @@
-use Rattle.iscsi_threads.specs.Ports.{unit_rings}
-use Rattle.iscsi_threads.proofs.Lists.{map_kept}
-use Rattle.iscsi_faults.proofs.rig.answer_at.Goals as goal
-
-pub returns : goal.returns
-returns c = map_kept unit_rings c.args.units.now.items c.args.unit _ _ c.index_mut.ensures.value c.answer.ensures.same
