@@ -1,7 +1,7 @@
 -- What the session's other parts see of the connections, after one of them changed.
 use Rattle.std.proofs.Common.{◌≡◌, ℕ, zero, suc, ◌<◌, List, [], ◌∷◌, length, map, get_or, set, Option, refl, ap, arith}
 use Rattle.std.proofs.lemmas.List.{get_or-map, length-map}
-use Rattle.iscsi_rules.proofs.ListLemmas.{map-map}
+use Rattle.iscsi_rules.proofs.general.ListLemmas.{map-map}
 use Rattle.iscsi_connections.specs.declared.connections.Connection.{Connection}
 use Rattle.iscsi_connections.specs.Connected.{Connected, opened, still_open}
 use Rattle.iscsi_connections.specs.Placed.{cid_and_stat_sn, cids_of, open_in, connected, new_connection, closed_in, ArePlaced}

@@ -9,7 +9,7 @@ use Rattle.iscsi_rules.specs.rules.Agenda.{belongs}
 use Rattle.iscsi_rules.specs.rules.Settings.{Setting}
 use Rattle.iscsi_rules.specs.rules.Trace.{Trace}
 use Rattle.iscsi_rules.specs.rules.Run.{after_event, entry_of, next_entry, numbers_of, run_of, trace_of}
-use Rattle.iscsi_rules.proofs.RunLemmas.{run_of-push, trace_of-push}
+use Rattle.iscsi_rules.proofs.traces.RunLemmas.{run_of-push, trace_of-push}
 use Rattle.iscsi_session.specs.declared.fault.SessionFault.{SessionFault}
 use Rattle.iscsi_session.specs.declared.fault.SessionFault.TheVariants.{UnknownConnection, Exhausted}
 use Rattle.iscsi_session.specs.promises.Refusals.{refusal_of}

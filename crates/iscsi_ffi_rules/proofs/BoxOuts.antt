@@ -20,9 +20,9 @@ use Rattle.iscsi_outbox_rules.specs.rules.Items.{executing, tickets_left, ticket
 use Rattle.iscsi_outbox_rules.specs.rules.Run.{Gives, phase_stopped, one_written, link_heard, arrived_by_stat_sn, arrived_by_ping, may_join, link_joined, link_lost, waits_for_clear, cleared, after_call}
 use Rattle.iscsi_outbox_rules.specs.promises.Deeds.{given_in, handed_by}
 use Rattle.iscsi_outbox_rules.specs.promises.Room.{is_other}
-use Rattle.iscsi_outbox_rules.proofs.EachLemmas.{EachOf, each-append, each-map, each-filter, each-first_of, each-at_link, each-drop_one}
-use Rattle.iscsi_outbox_rules.proofs.Chosen.{FromQueue, IsPing, IsNotice, Chosen, chosen_from}
-use Rattle.iscsi_outbox_rules.proofs.Cuts.{Handing, handed-next}
+use Rattle.iscsi_outbox_rules.proofs.general.EachLemmas.{EachOf, each-append, each-map, each-filter, each-first_of, each-at_link, each-drop_one}
+use Rattle.iscsi_outbox_rules.proofs.general.Chosen.{FromQueue, IsPing, IsNotice, Chosen, chosen_from}
+use Rattle.iscsi_outbox_rules.proofs.general.Cuts.{Handing, handed-next}
 use Rattle.iscsi_ffi_rules.specs.rules.Needs.{left_to_write}
 
 -- of a part of a list

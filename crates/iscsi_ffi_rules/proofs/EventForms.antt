@@ -15,11 +15,11 @@ use Rattle.iscsi_rules.specs.rules.Execution.{exp_of, max_of, ignored, completio
 use Rattle.iscsi_rules.specs.rules.Management.{may_wait, refusal_of_function, MOST_WAITING, waiting_on}
 use Rattle.iscsi_rules.specs.rules.Items.{execution, waiting_item, immediate_item, function_item, item_of, is_waiting, functions, functions_at, turn_at, at_number, agenda}
 use Rattle.iscsi_rules.specs.rules.Agenda.{with_turns, numbered, kind_of, arrival_as, arrival_open, arrival, arrival_of, command_of, items_of}
-use Rattle.iscsi_rules.proofs.ElementLemmas.{in-filter, first-in}
-use Rattle.iscsi_rules.proofs.HeldLemmas.{held-number}
-use Rattle.iscsi_rules.proofs.Forms.{Start, AtTurn, AtArrival, AfterWaiting, start_mark, Ignored, Rejected, Received, Postponed, Completed, Executed, Starts, HasForm}
-use Rattle.iscsi_rules.proofs.FormItems.{Does, does_reply, does_function, does_after}
-use Rattle.iscsi_outbox_rules.proofs.ClosedParts.{EachOn}
+use Rattle.iscsi_rules.proofs.general.ElementLemmas.{in-filter, first-in}
+use Rattle.iscsi_rules.proofs.traces.HeldLemmas.{held-number}
+use Rattle.iscsi_rules.proofs.items.Forms.{Start, AtTurn, AtArrival, AfterWaiting, start_mark, Ignored, Rejected, Received, Postponed, Completed, Executed, Starts, HasForm}
+use Rattle.iscsi_rules.proofs.items.FormItems.{Does, does_reply, does_function, does_after}
+use Rattle.iscsi_outbox_rules.proofs.closes.ClosedParts.{EachOn}
 
 module _ (o : Setting) (now : ℕ) where
   -- of these items after a trace each has one

@@ -3,9 +3,9 @@ use Rattle.std.proofs.Common.{◌≡◌, List, [], ◌∷◌, ◌++◌, length, 
 use Rattle.iscsi_rules.specs.declared.event.Event.{Event}
 use Rattle.iscsi_rules.specs.rules.Settings.{Setting}
 use Rattle.iscsi_rules.specs.rules.Run.{after_event, trace_of}
-use Rattle.iscsi_rules.proofs.Forms.{HaveForms}
-use Rattle.iscsi_rules.proofs.FormRuns.{trace_has_forms}
-use Rattle.iscsi_rules.proofs.RunLemmas.{trace_of-push}
+use Rattle.iscsi_rules.proofs.items.Forms.{HaveForms}
+use Rattle.iscsi_rules.proofs.items.FormRuns.{trace_has_forms}
+use Rattle.iscsi_rules.proofs.traces.RunLemmas.{trace_of-push}
 use Rattle.iscsi_outbox_rules.specs.rules.Calls.{Opening}
 use Rattle.iscsi_outbox_rules.specs.promises.Room.{Happens, Both, after_step, begun}
 

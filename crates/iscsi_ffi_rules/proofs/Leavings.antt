@@ -8,17 +8,17 @@ use Rattle.std.proofs.lemmas.List.Elements.{filter_map-append}
 use Rattle.iscsi_wire.specs.Fields.{connection_of}
 use Rattle.iscsi_rules.specs.rules.Settings.{Setting}
 use Rattle.iscsi_rules.specs.rules.Trace.{Command, Mark, Voids, Leaves, Empties, Enters, Sends, ClosesConn, ClosesSession, Trace, after_items, has, leaves_ticket, entered, live, is_among}
-use Rattle.iscsi_rules.proofs.AbortMarks.{none_viewed}
-use Rattle.iscsi_rules.proofs.BoolLemmas.{or_none}
-use Rattle.iscsi_rules.proofs.CountLemmas.{one, count-cons}
-use Rattle.iscsi_rules.proofs.ListLemmas.{count_by-map, fewer_counted}
-use Rattle.iscsi_rules.proofs.Forms.{Start, AtTurn, AtArrival, AfterWaiting, start_mark, if_some, marks_done, Form, Ignored, Rejected, Received, Postponed, Completed, Executed, marks_of_form, IsFormed, HasForm, HaveForms}
-use Rattle.iscsi_rules.proofs.LifeLemmas.{tickets_count}
-use Rattle.iscsi_rules.proofs.MomentLemmas.{left_unlive}
-use Rattle.iscsi_rules.proofs.NumberingLemmas.{unseen, passed}
-use Rattle.iscsi_rules.proofs.TouchLemmas.{leaving_in, leaves_form, leaving_few}
+use Rattle.iscsi_rules.proofs.promises.AbortMarks.{none_viewed}
+use Rattle.iscsi_rules.proofs.general.BoolLemmas.{or_none}
+use Rattle.iscsi_rules.proofs.general.CountLemmas.{one, count-cons}
+use Rattle.iscsi_rules.proofs.general.ListLemmas.{count_by-map, fewer_counted}
+use Rattle.iscsi_rules.proofs.items.Forms.{Start, AtTurn, AtArrival, AfterWaiting, start_mark, if_some, marks_done, Form, Ignored, Rejected, Received, Postponed, Completed, Executed, marks_of_form, IsFormed, HasForm, HaveForms}
+use Rattle.iscsi_rules.proofs.promises.LifeLemmas.{tickets_count}
+use Rattle.iscsi_rules.proofs.promises.MomentLemmas.{left_unlive}
+use Rattle.iscsi_rules.proofs.promises.NumberingLemmas.{unseen, passed}
+use Rattle.iscsi_rules.proofs.items.TouchLemmas.{leaving_in, leaves_form, leaving_few}
 use Rattle.iscsi_outbox_rules.specs.rules.Calls.{Opening}
-use Rattle.iscsi_outbox_rules.proofs.RoomLives.{forms_below, first_form}
+use Rattle.iscsi_outbox_rules.proofs.room.RoomLives.{forms_below, first_form}
 use Rattle.iscsi_ffi_rules.specs.rules.Happening.{leaving}
 
 -- ---- which leave in an item

@@ -8,19 +8,19 @@ use Rattle.std.proofs.lemmas.List.Folds.{list_any-append, find-append}
 use Rattle.iscsi_wire.specs.Fields.{connection_of}
 use Rattle.iscsi_rules.specs.rules.Settings.{Setting}
 use Rattle.iscsi_rules.specs.rules.Trace.{Arrival, Command, Mark, Admits, Delivers, Executes, Voids, Empties, Waits, Leaves, Enters, Sends, ClosesConn, ClosesSession, Ignores, Trace, shown, has, number_received, received, contains, is_received, admits_at, held, waiting, enters, entered, leaves_ticket, live, is_among}
-use Rattle.iscsi_rules.proofs.BoolLemmas.{or_first, or_second, or_none}
-use Rattle.iscsi_rules.proofs.CountLemmas.{one, count-cons}
-use Rattle.iscsi_rules.proofs.ListLemmas.{any_filter, fewer_counted}
-use Rattle.iscsi_rules.proofs.ElementLemmas.{In, in-append, first-in}
-use Rattle.iscsi_rules.proofs.HeldLemmas.{admitted_of_held, held_before}
-use Rattle.iscsi_rules.proofs.Forms.{Start, AtTurn, AtArrival, AfterWaiting, start_mark, marks_done, Form, Ignored, Rejected, Received, Postponed, Completed, Executed, marks_of_form, Starts, Each, EntersAs, IsFormed, HasForm, is_arrival, HaveForms}
-use Rattle.iscsi_rules.proofs.MomentLemmas.{left_unlive}
-use Rattle.iscsi_rules.proofs.NumberingLemmas.{to_list, unseen}
-use Rattle.iscsi_rules.proofs.ReplyForms.{replies_seen}
-use Rattle.iscsi_rules.proofs.ReplyTurns.{admits_request, admitted_there}
-use Rattle.iscsi_rules.proofs.TouchLemmas.{leaving_in, entering_in, enters_form, leaves_form, leaving_few}
-use Rattle.iscsi_rules.proofs.TraceLemmas.{live-item}
-use Rattle.iscsi_outbox_rules.proofs.RoomSteps.{shrinks_done}
+use Rattle.iscsi_rules.proofs.general.BoolLemmas.{or_first, or_second, or_none}
+use Rattle.iscsi_rules.proofs.general.CountLemmas.{one, count-cons}
+use Rattle.iscsi_rules.proofs.general.ListLemmas.{any_filter, fewer_counted}
+use Rattle.iscsi_rules.proofs.general.ElementLemmas.{In, in-append, first-in}
+use Rattle.iscsi_rules.proofs.traces.HeldLemmas.{admitted_of_held, held_before}
+use Rattle.iscsi_rules.proofs.items.Forms.{Start, AtTurn, AtArrival, AfterWaiting, start_mark, marks_done, Form, Ignored, Rejected, Received, Postponed, Completed, Executed, marks_of_form, Starts, Each, EntersAs, IsFormed, HasForm, is_arrival, HaveForms}
+use Rattle.iscsi_rules.proofs.promises.MomentLemmas.{left_unlive}
+use Rattle.iscsi_rules.proofs.promises.NumberingLemmas.{to_list, unseen}
+use Rattle.iscsi_rules.proofs.promises.ReplyForms.{replies_seen}
+use Rattle.iscsi_rules.proofs.promises.ReplyTurns.{admits_request, admitted_there}
+use Rattle.iscsi_rules.proofs.items.TouchLemmas.{leaving_in, entering_in, enters_form, leaves_form, leaving_few}
+use Rattle.iscsi_rules.proofs.traces.TraceLemmas.{live-item}
+use Rattle.iscsi_outbox_rules.proofs.room.RoomSteps.{shrinks_done}
 use Rattle.iscsi_ffi_rules.specs.rules.Needs.{admitted_by, is_of_event, is_held, is_waiting, is_live, is_ticket_of}
 use Rattle.iscsi_ffi_rules.specs.rules.Happening.{answered_event}
 use Rattle.iscsi_ffi_rules.proofs.Leavings.{has_ticket, none_with}

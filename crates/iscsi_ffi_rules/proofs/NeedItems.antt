@@ -15,12 +15,12 @@ use Rattle.iscsi_rules.specs.rules.Agenda.{items_of}
 use Rattle.iscsi_rules.specs.rules.Run.{effects_of_item, newly_enabled, entry_of, after_event}
 use Rattle.iscsi_rules.specs.promises.Order.{in_parts}
 use Rattle.iscsi_rules.specs.promises.Replies.{reply_sent}
-use Rattle.iscsi_rules.proofs.BoolLemmas.{or_none, or_first}
-use Rattle.iscsi_rules.proofs.ListLemmas.{any_filter, list_any-map}
-use Rattle.iscsi_rules.proofs.Forms.{Start, AtTurn, AtArrival, AfterWaiting, start_mark, if_some, marks_done, Form, Ignored, Rejected, Received, Postponed, Completed, Executed, marks_of_form, IsFormed, HasForm, HaveForms}
-use Rattle.iscsi_rules.proofs.FormRuns.{event_going}
-use Rattle.iscsi_rules.proofs.MomentLemmas.{left_unlive}
-use Rattle.iscsi_rules.proofs.ReplyForms.{replies_seen}
+use Rattle.iscsi_rules.proofs.general.BoolLemmas.{or_none, or_first}
+use Rattle.iscsi_rules.proofs.general.ListLemmas.{any_filter, list_any-map}
+use Rattle.iscsi_rules.proofs.items.Forms.{Start, AtTurn, AtArrival, AfterWaiting, start_mark, if_some, marks_done, Form, Ignored, Rejected, Received, Postponed, Completed, Executed, marks_of_form, IsFormed, HasForm, HaveForms}
+use Rattle.iscsi_rules.proofs.items.FormRuns.{event_going}
+use Rattle.iscsi_rules.proofs.promises.MomentLemmas.{left_unlive}
+use Rattle.iscsi_rules.proofs.promises.ReplyForms.{replies_seen}
 use Rattle.iscsi_outbox_rules.specs.rules.Calls.{Opening}
 use Rattle.iscsi_outbox_rules.specs.rules.Boxes.{Phase, Dormant, Fresh, Started, Completed as CompletedPhase, Running, Gone, Task, Aim, Answer, Link, Box}
 use Rattle.iscsi_outbox_rules.specs.rules.Words.{contains, is_live_phase, is_running_phase, is_running}
@@ -29,13 +29,13 @@ use Rattle.iscsi_outbox_rules.specs.rules.Due.{is_due, settle_from}
 use Rattle.iscsi_outbox_rules.specs.rules.Items.{executing, tickets_left, ticket_enabled, closed_in, newly_closed, phase_taken_out, phase_completed, phase_enabled, phase_told, task_entered, in_phase, leave, enter_tasks, close_one, close_all, close, outgoing, answer, send_as, aim, send, after_item}
 use Rattle.iscsi_outbox_rules.specs.rules.Items.{reply_sent as effect_reply, after_items as items_taken, after_event as event_taken}
 use Rattle.iscsi_outbox_rules.specs.promises.Scope.{nth}
-use Rattle.iscsi_outbox_rules.proofs.EachLemmas.{EachOf}
-use Rattle.iscsi_outbox_rules.proofs.ClosedParts.{effects_each, Parts, event_parts}
-use Rattle.iscsi_outbox_rules.proofs.ClosedItems.{send_of, sent_item}
-use Rattle.iscsi_outbox_rules.proofs.RoomLives.{left_marks, live_tickets_item, forms_below, SameLive}
-use Rattle.iscsi_outbox_rules.proofs.RoomTasks.{live_tickets, live_same, same_told, tickets_entered, live_after_item}
-use Rattle.iscsi_outbox_rules.proofs.TaskLives.{left_tasks, entered_tasks, item_tasks, dormant}
-use Rattle.iscsi_outbox_rules.proofs.TaskWalks.{phased}
+use Rattle.iscsi_outbox_rules.proofs.general.EachLemmas.{EachOf}
+use Rattle.iscsi_outbox_rules.proofs.closes.ClosedParts.{effects_each, Parts, event_parts}
+use Rattle.iscsi_outbox_rules.proofs.closes.ClosedItems.{send_of, sent_item}
+use Rattle.iscsi_outbox_rules.proofs.room.RoomLives.{left_marks, live_tickets_item, forms_below, SameLive}
+use Rattle.iscsi_outbox_rules.proofs.room.RoomTasks.{live_tickets, live_same, same_told, tickets_entered, live_after_item}
+use Rattle.iscsi_outbox_rules.proofs.commands.TaskLives.{left_tasks, entered_tasks, item_tasks, dormant}
+use Rattle.iscsi_outbox_rules.proofs.general.TaskWalks.{phased}
 use Rattle.iscsi_ffi_rules.specs.rules.Needs.{is_of_event, is_live, runs, is_ticket_of}
 use Rattle.iscsi_ffi_rules.specs.rules.Happening.{answered_event, answers_in}
 use Rattle.iscsi_ffi_rules.proofs.EventForms.{Formed, event_formed}

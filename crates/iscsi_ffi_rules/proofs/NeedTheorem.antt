@@ -5,9 +5,9 @@ use Rattle.std.proofs.lemmas.Bool.{false≢true, cond_both, eqb-true}
 use Rattle.std.proofs.lemmas.List.Folds.{list_any-append}
 use Rattle.iscsi_rules.specs.declared.event.Event.TheVariants.{Arrive}
 use Rattle.iscsi_rules.specs.rules.Trace.{Command, Trace, first_of, has, entered, leaves_ticket, live, is_among}
-use Rattle.iscsi_rules.proofs.BoolLemmas.{or_none, or_first, or_second}
-use Rattle.iscsi_rules.proofs.ListLemmas.{all_of_filter, any_filter, list_any-map}
-use Rattle.iscsi_rules.proofs.MomentLemmas.{left_unlive}
+use Rattle.iscsi_rules.proofs.general.BoolLemmas.{or_none, or_first, or_second}
+use Rattle.iscsi_rules.proofs.general.ListLemmas.{all_of_filter, any_filter, list_any-map}
+use Rattle.iscsi_rules.proofs.promises.MomentLemmas.{left_unlive}
 use Rattle.iscsi_outbox_rules.specs.declared.own_pdu.OwnPdu.{OwnPdu}
 use Rattle.iscsi_outbox_rules.specs.declared.own_pdu.OwnPdu.TheVariants.{OfCommand, OfConnection}
 use Rattle.iscsi_outbox_rules.specs.declared.own_pdu.PutRefusal.{PutRefusal}
@@ -22,8 +22,8 @@ use Rattle.iscsi_outbox_rules.specs.rules.Items.{in_phase}
 use Rattle.iscsi_outbox_rules.specs.rules.Handing.{Given, Hands, Nothing, IsOver, given, link_of, after_given}
 use Rattle.iscsi_outbox_rules.specs.rules.Run.{phase_stopped, one_written, link_heard, may_join, link_joined, link_lost, cleared, new_link, after_call as after_outbox_call}
 use Rattle.iscsi_outbox_rules.specs.promises.Room.{is_other}
-use Rattle.iscsi_outbox_rules.proofs.EachLemmas.{EachOf}
-use Rattle.iscsi_outbox_rules.proofs.RoomTasks.{live_tickets, live_same, settled_tasks}
+use Rattle.iscsi_outbox_rules.proofs.general.EachLemmas.{EachOf}
+use Rattle.iscsi_outbox_rules.proofs.room.RoomTasks.{live_tickets, live_same, settled_tasks}
 use Rattle.iscsi_ffi_rules.specs.declared.action.Action.{Action}
 use Rattle.iscsi_ffi_rules.specs.declared.refusal.Refusal.{Refusal}
 use Rattle.iscsi_ffi_rules.specs.rules.Calls.{Interface, Call, Arrives, Completes, Stops, Nexts, Puts, Writes, Hears, Joins, Loses, Clears, Cleared}

@@ -12,8 +12,8 @@ use Rattle.iscsi_rules.specs.rules.Execution.{unit_named}
 use Rattle.iscsi_rules.specs.rules.Agenda.{items_of}
 use Rattle.iscsi_rules.specs.rules.Run.{entry_of}
 use Rattle.iscsi_rules.specs.promises.Replies.{executed_in, reply_sent}
-use Rattle.iscsi_rules.proofs.BoolLemmas.{and_true, or_comm, or_first, or_second}
-use Rattle.iscsi_rules.proofs.ListLemmas.{filtered_among, list_any-map}
+use Rattle.iscsi_rules.proofs.general.BoolLemmas.{and_true, or_comm, or_first, or_second}
+use Rattle.iscsi_rules.proofs.general.ListLemmas.{filtered_among, list_any-map}
 use Rattle.iscsi_outbox_rules.specs.declared.own_pdu.OwnPdu.{OwnPdu}
 use Rattle.iscsi_outbox_rules.specs.declared.own_pdu.PutRefusal.{PutRefusal}
 use Rattle.iscsi_outbox_rules.specs.rules.Calls as outbox
@@ -22,7 +22,7 @@ use Rattle.iscsi_outbox_rules.specs.rules.Words.{contains, is_running, is_open}
 use Rattle.iscsi_outbox_rules.specs.rules.Own.{put_refusal}
 use Rattle.iscsi_outbox_rules.specs.rules.Handing.{Given, Hands, Nothing, IsOver, link_of, is_over, handed_as, given_on, given, wants_ping, ping, first_waiting}
 use Rattle.iscsi_outbox_rules.specs.rules.Run.{new_link, opened as box_opened}
-use Rattle.iscsi_outbox_rules.proofs.EachLemmas.{EachOf, each-first_of}
+use Rattle.iscsi_outbox_rules.proofs.general.EachLemmas.{EachOf, each-first_of}
 use Rattle.iscsi_ffi_rules.specs.declared.action.Action.{Action}
 use Rattle.iscsi_ffi_rules.specs.declared.action.Action.TheVariants.{Reset, Ready, Close, Forget}
 use Rattle.iscsi_ffi_rules.specs.declared.action.StopReason.TheVariants.{Cleared as ClearedReason}

@@ -13,7 +13,7 @@ use Rattle.iscsi_outbox_rules.specs.rules.Words.{contains, is_running}
 use Rattle.iscsi_outbox_rules.specs.rules.Own.{put_refusal}
 use Rattle.iscsi_outbox_rules.specs.rules.Handing.{Given, Hands, Nothing, IsOver, given}
 use Rattle.iscsi_outbox_rules.specs.promises.Room.{is_other}
-use Rattle.iscsi_outbox_rules.proofs.EachLemmas.{EachOf, each-append}
+use Rattle.iscsi_outbox_rules.proofs.general.EachLemmas.{EachOf, each-append}
 use Rattle.iscsi_ffi_rules.specs.declared.action.Action.{Action}
 use Rattle.iscsi_ffi_rules.specs.declared.action.Action.TheVariants.{Start, Stop, Reset, Ready, Close, Forget}
 use Rattle.iscsi_ffi_rules.specs.declared.action.StopReason.TheVariants.{Cleared as ClearedReason}

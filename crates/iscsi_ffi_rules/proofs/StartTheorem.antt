@@ -17,16 +17,16 @@ use Rattle.iscsi_rules.specs.rules.Run.{effects_of_item, effects_of, trace_of, r
 use Rattle.iscsi_rules.specs.promises.Replies.{executed_in, reply_sent}
 use Rattle.iscsi_rules.specs.promises.Enabling.{effects_so_far, effects_in, is_enable}
 use Rattle.iscsi_rules.specs.promises.Lives.{names_ticket, life_of, is_life, goes_on_in, ends_in}
-use Rattle.iscsi_rules.proofs.BoolLemmas.{or_first, or_second, and_parts}
-use Rattle.iscsi_rules.proofs.CountLemmas.{one, count-cons, count-filter, count-weaker}
-use Rattle.iscsi_rules.proofs.ListLemmas.{count_by-map, fewer_counted, find-found, list_any-map}
-use Rattle.iscsi_rules.proofs.FormRuns.{event_going}
-use Rattle.iscsi_rules.proofs.LifeTheorem.{starts_once as lives_once}
-use Rattle.iscsi_rules.proofs.MomentLemmas.{log_effects}
+use Rattle.iscsi_rules.proofs.general.BoolLemmas.{or_first, or_second, and_parts}
+use Rattle.iscsi_rules.proofs.general.CountLemmas.{one, count-cons, count-filter, count-weaker}
+use Rattle.iscsi_rules.proofs.general.ListLemmas.{count_by-map, fewer_counted, find-found, list_any-map}
+use Rattle.iscsi_rules.proofs.items.FormRuns.{event_going}
+use Rattle.iscsi_rules.proofs.promises.LifeTheorem.{starts_once as lives_once}
+use Rattle.iscsi_rules.proofs.promises.MomentLemmas.{log_effects}
 use Rattle.iscsi_outbox_rules.specs.rules.Calls as outbox
 use Rattle.iscsi_outbox_rules.specs.rules.Words.{contains}
 use Rattle.iscsi_outbox_rules.specs.rules.Items.{ticket_enabled}
-use Rattle.iscsi_outbox_rules.proofs.EachLemmas.{EachOf, each-append, each-weaken}
+use Rattle.iscsi_outbox_rules.proofs.general.EachLemmas.{EachOf, each-append, each-weaken}
 use Rattle.iscsi_ffi_rules.specs.declared.action.Action.{Action}
 use Rattle.iscsi_ffi_rules.specs.declared.action.Action.TheVariants.{Start, Stop, Reset, Ready, Close, Forget}
 use Rattle.iscsi_ffi_rules.specs.declared.action.StopReason.{StopReason}

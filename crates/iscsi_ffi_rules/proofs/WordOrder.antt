@@ -13,9 +13,9 @@ use Rattle.iscsi_rules.specs.rules.Execution.{unit_named}
 use Rattle.iscsi_rules.specs.rules.Agenda.{items_of}
 use Rattle.iscsi_rules.specs.rules.Run.{entry_of}
 use Rattle.iscsi_rules.specs.promises.Replies.{executed_in, reply_sent}
-use Rattle.iscsi_rules.proofs.BoolLemmas.{or_none}
-use Rattle.iscsi_rules.proofs.CountLemmas.{one, count-cons}
-use Rattle.iscsi_rules.proofs.ListLemmas.{any_flat_map, any_same}
+use Rattle.iscsi_rules.proofs.general.BoolLemmas.{or_none}
+use Rattle.iscsi_rules.proofs.general.CountLemmas.{one, count-cons}
+use Rattle.iscsi_rules.proofs.general.ListLemmas.{any_flat_map, any_same}
 use Rattle.iscsi_outbox_rules.specs.rules.Calls as outbox
 use Rattle.iscsi_outbox_rules.specs.rules.Boxes.{Outgoing, Handed}
 use Rattle.iscsi_outbox_rules.specs.rules.Words.{contains, is_running}

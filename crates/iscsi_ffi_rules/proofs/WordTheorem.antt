@@ -12,8 +12,8 @@ use Rattle.iscsi_rules.specs.rules.Execution.{unit_named}
 use Rattle.iscsi_rules.specs.rules.Agenda.{items_of}
 use Rattle.iscsi_rules.specs.rules.Run.{entry_of}
 use Rattle.iscsi_rules.specs.promises.Replies.{executed_in, reply_sent}
-use Rattle.iscsi_rules.proofs.ListLemmas.{count_by-map}
-use Rattle.iscsi_rules.proofs.CountLemmas.{one, count-cons, count-filter, count-split}
+use Rattle.iscsi_rules.proofs.general.ListLemmas.{count_by-map}
+use Rattle.iscsi_rules.proofs.general.CountLemmas.{one, count-cons, count-filter, count-split}
 use Rattle.iscsi_outbox_rules.specs.declared.own_pdu.OwnPdu.{OwnPdu}
 use Rattle.iscsi_outbox_rules.specs.declared.own_pdu.OwnPdu.TheVariants.{OfCommand, OfConnection}
 use Rattle.iscsi_outbox_rules.specs.declared.own_pdu.PutRefusal.{PutRefusal}

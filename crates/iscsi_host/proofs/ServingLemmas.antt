@@ -5,7 +5,7 @@ use Rattle.iscsi_rules.specs.declared.effect.Numbers.{Numbers}
 use Rattle.iscsi_rules.specs.declared.event.Event.{Event}
 use Rattle.iscsi_rules.specs.rules.Settings.{Setting}
 use Rattle.iscsi_rules.specs.rules.Run.{run_of, next_entry, numbers_of}
-use Rattle.iscsi_rules.proofs.RunLemmas.{run_of-push, trace_of-push}
+use Rattle.iscsi_rules.proofs.traces.RunLemmas.{run_of-push, trace_of-push}
 use Rattle.iscsi_session.specs.declared.fault.SessionFault.{SessionFault}
 use Rattle.iscsi_session.specs.declared.fault.SessionFault.TheVariants.{NoMemory}
 use Rattle.iscsi_session.specs.promises.Refusals.{RefusesAs, refusal_of}

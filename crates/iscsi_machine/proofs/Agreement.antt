@@ -9,12 +9,12 @@ use Rattle.iscsi_rules.specs.rules.Settings.{Setting}
 use Rattle.iscsi_rules.specs.rules.Trace.{Arrival, Command, Mark, Admits, Delivers, Executes, Voids, Empties, Waits, Leaves, Enters, Sends, ClosesConn, ClosesSession, Ignores, Trace, has, shown, first_of, number_received, received, contains, is_received, least_missing, admits_at, admitted, delivers_number, is_delivered, empties_number, is_emptied, held, waiting, enters, leaves_ticket, entered, live, sent_on, closes_conn, closes_session, is_ended}
 use Rattle.iscsi_rules.specs.rules.Execution.{exp_of}
 use Rattle.iscsi_rules.specs.rules.Run.{first_stat_sn}
-use Rattle.iscsi_rules.proofs.BoolLemmas.{or_first, or_comm, or_false, or_none, and_true, and_false}
-use Rattle.iscsi_rules.proofs.ElementLemmas.{In, in-filter, in-append}
-use Rattle.iscsi_rules.proofs.ListLemmas.{filter-map, filtered_among, count_by-push}
-use Rattle.iscsi_rules.proofs.TraceLemmas.{filter-same, live-enters, live-leaves, received-item}
-use Rattle.iscsi_rules.proofs.HeldLemmas.{held-admits, held-here, held-delivered, unreceived_unheld}
-use Rattle.iscsi_rules.proofs.Missing.{expected_is, expected_below, expected_low}
+use Rattle.iscsi_rules.proofs.general.BoolLemmas.{or_first, or_comm, or_false, or_none, and_true, and_false}
+use Rattle.iscsi_rules.proofs.general.ElementLemmas.{In, in-filter, in-append}
+use Rattle.iscsi_rules.proofs.general.ListLemmas.{filter-map, filtered_among, count_by-push}
+use Rattle.iscsi_rules.proofs.traces.TraceLemmas.{filter-same, live-enters, live-leaves, received-item}
+use Rattle.iscsi_rules.proofs.traces.HeldLemmas.{held-admits, held-here, held-delivered, unreceived_unheld}
+use Rattle.iscsi_rules.proofs.general.Missing.{expected_is, expected_below, expected_low}
 use Rattle.iscsi_machine.specs.Machine.{Member, State, inserted, past, after_mark}
 use Rattle.iscsi_machine.proofs.Ascending.{Rising, inserted-in, inserted-rising, contains-inserted, filter-rising, contains_in, gone_below, past_low, past_below, past_gone, number_of, held_at, unheld, inserted-apart, inserted-here, is_not_at, released-here, released-apart}
 

@@ -6,13 +6,13 @@ use Rattle.iscsi_wire.specs.declared.reply.Reply.{Reply}
 use Rattle.iscsi_wire.specs.Fields.{connection_of}
 use Rattle.iscsi_rules.specs.rules.Settings.{Setting}
 use Rattle.iscsi_rules.specs.rules.Trace.{Arrival, Command, Mark, Delivers, Executes, Voids, Empties, Leaves, Enters, Sends, ClosesConn, ClosesSession, Trace, is_received, contains, number_received, entered, live, has, leaves_ticket}
-use Rattle.iscsi_rules.proofs.BoolLemmas.{or_first}
-use Rattle.iscsi_rules.proofs.ElementLemmas.{In, in-filter}
-use Rattle.iscsi_rules.proofs.CountLemmas.{count-cons, count-one}
-use Rattle.iscsi_rules.proofs.TraceLemmas.{received-item}
-use Rattle.iscsi_rules.proofs.HeldLemmas.{held_received}
-use Rattle.iscsi_rules.proofs.Forms.{Start, AtTurn, AtArrival, AfterWaiting, start_mark, Deeds, if_some, Each, begun, EntersAs}
-use Rattle.iscsi_rules.proofs.FormItems.{Does}
+use Rattle.iscsi_rules.proofs.general.BoolLemmas.{or_first}
+use Rattle.iscsi_rules.proofs.general.ElementLemmas.{In, in-filter}
+use Rattle.iscsi_rules.proofs.general.CountLemmas.{count-cons, count-one}
+use Rattle.iscsi_rules.proofs.traces.TraceLemmas.{received-item}
+use Rattle.iscsi_rules.proofs.traces.HeldLemmas.{held_received}
+use Rattle.iscsi_rules.proofs.items.Forms.{Start, AtTurn, AtArrival, AfterWaiting, start_mark, Deeds, if_some, Each, begun, EntersAs}
+use Rattle.iscsi_rules.proofs.items.FormItems.{Does}
 use Rattle.iscsi_machine.specs.Machine.{State, after_mark}
 use Rattle.iscsi_machine.proofs.Agreement.{Agrees, more, numbers_kept}
 use Rattle.iscsi_machine.proofs.ItemLemmas.{AllAllowed}

@@ -4,8 +4,8 @@ use Rattle.std.specs.List.{range_with_len}
 use Rattle.std.proofs.lemmas.Bool.{cases_eq, cases_lt, false≢true}
 use Rattle.std.proofs.lemmas.Bool.Decides.{nat_tests}
 use Rattle.iscsi_rules.specs.rules.Trace.{Arrival, Trace, first_of, contains, held, held_among}
-use Rattle.iscsi_rules.proofs.BoolLemmas.{or_first, or_second}
-use Rattle.iscsi_rules.proofs.ElementLemmas.{In, in-filter}
+use Rattle.iscsi_rules.proofs.general.BoolLemmas.{or_first, or_second}
+use Rattle.iscsi_rules.proofs.general.ElementLemmas.{In, in-filter}
 use Rattle.iscsi_machine.specs.Machine.{inserted, past}
 
 abbrev pub Rising : {A : Type 0} → (A → ℕ) → List A → Type 0

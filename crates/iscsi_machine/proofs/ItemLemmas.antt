@@ -9,10 +9,10 @@ use Rattle.iscsi_rules.specs.declared.effect.Effect.TheVariants.{Enable, Send}
 use Rattle.iscsi_rules.specs.rules.Settings.{Setting}
 use Rattle.iscsi_rules.specs.rules.Trace.{Command, Mark, Admits, Delivers, Executes, Voids, Empties, Waits, Leaves, Enters, Sends, ClosesConn, ClosesSession, Ignores, Trace, after_items, has, shown, first_of, number_received, admits_at, delivers_number, empties_number, waiting, waiting_through, enters, leaves_ticket, entered, live, live_in, is_among, queued_of, was_free, enabled_in, sent_on, closes_conn, closes_session}
 use Rattle.iscsi_rules.specs.rules.Run as Rules
-use Rattle.iscsi_rules.proofs.BoolLemmas.{and_false}
-use Rattle.iscsi_rules.proofs.ElementLemmas.{In, filter-in, in-any}
-use Rattle.iscsi_rules.proofs.ListLemmas.{filter-map, map-map}
-use Rattle.iscsi_rules.proofs.NewlyLemmas.{filter-twice, never_free}
+use Rattle.iscsi_rules.proofs.general.BoolLemmas.{and_false}
+use Rattle.iscsi_rules.proofs.general.ElementLemmas.{In, filter-in, in-any}
+use Rattle.iscsi_rules.proofs.general.ListLemmas.{filter-map, map-map}
+use Rattle.iscsi_rules.proofs.traces.NewlyLemmas.{filter-twice, never_free}
 use Rattle.iscsi_machine.specs.Machine.{Member, State, Stage, commands, after_mark, after_marks, is_free_now, moment, newly_enabled, effects_of_mark, does}
 use Rattle.iscsi_machine.proofs.Ascending.{filter-same_in}
 use Rattle.iscsi_machine.proofs.Agreement.{flagged, Agrees, numbers-at, held-at, commands-at, more, Allowed, mark_agrees}

@@ -15,9 +15,9 @@ use Rattle.iscsi_rules.specs.rules.Logout as Logouts
 use Rattle.iscsi_rules.specs.rules.Deeds as Deeds
 use Rattle.iscsi_rules.specs.rules.Deeds.{Facts}
 use Rattle.iscsi_rules.specs.rules.Items as Items
-use Rattle.iscsi_rules.proofs.BoolLemmas.{and_first, and_second}
-use Rattle.iscsi_rules.proofs.DeedTable.{Befits, befits_function, befits_deed}
-use Rattle.iscsi_rules.proofs.Missing.{expected_low}
+use Rattle.iscsi_rules.proofs.general.BoolLemmas.{and_first, and_second}
+use Rattle.iscsi_rules.proofs.items.DeedTable.{Befits, befits_function, befits_deed}
+use Rattle.iscsi_rules.proofs.general.Missing.{expected_low}
 use Rattle.iscsi_machine.specs.Machine as Machine
 use Rattle.iscsi_machine.specs.Machine.{Member, State, after_mark}
 use Rattle.iscsi_machine.proofs.Ascending.{filter-same_in, filter-all_in, held_range, is_between}

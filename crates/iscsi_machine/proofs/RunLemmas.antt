@@ -20,13 +20,13 @@ use Rattle.iscsi_rules.specs.rules.Management.{may_wait, refusal_of_function, MO
 use Rattle.iscsi_rules.specs.rules.Items as Items
 use Rattle.iscsi_rules.specs.rules.Agenda as Agenda
 use Rattle.iscsi_rules.specs.rules.Run as Rules
-use Rattle.iscsi_rules.proofs.BoolLemmas.{or_none}
-use Rattle.iscsi_rules.proofs.ElementLemmas.{in-filter, first-in}
-use Rattle.iscsi_rules.proofs.TraceLemmas.{after_items-append}
-use Rattle.iscsi_rules.proofs.HeldLemmas.{held-number, held_received}
-use Rattle.iscsi_rules.proofs.Missing.{exp_item, expected_low}
-use Rattle.iscsi_rules.proofs.Forms.{AtTurn, AtArrival, AfterWaiting}
-use Rattle.iscsi_rules.proofs.FormItems.{does_function, does_after}
+use Rattle.iscsi_rules.proofs.general.BoolLemmas.{or_none}
+use Rattle.iscsi_rules.proofs.general.ElementLemmas.{in-filter, first-in}
+use Rattle.iscsi_rules.proofs.traces.TraceLemmas.{after_items-append}
+use Rattle.iscsi_rules.proofs.traces.HeldLemmas.{held-number, held_received}
+use Rattle.iscsi_rules.proofs.general.Missing.{exp_item, expected_low}
+use Rattle.iscsi_rules.proofs.items.Forms.{AtTurn, AtArrival, AfterWaiting}
+use Rattle.iscsi_rules.proofs.items.FormItems.{does_function, does_after}
 use Rattle.iscsi_machine.specs.Machine as Machine
 use Rattle.iscsi_machine.specs.Machine.{Member, State, Stage, does, start, machine_run}
 use Rattle.iscsi_machine.proofs.ItemLemmas.{AllAllowed, members_of, Fits, Leads, item_leads}

@@ -6,7 +6,7 @@ use Rattle.std.proofs.lemmas.List.{get_or-replicate, get_or-set_other, get_or-se
 use Rattle.std.proofs.lemmas.List.Quantifiers.{position-Some}
 use Rattle.std.proofs.lemmas.Option.{none-some, same_Some}
 use Rattle.iscsi_rules.specs.rules.Settings.{are_distinct, is_known}
-use Rattle.iscsi_rules.proofs.CountLemmas.{count_set}
+use Rattle.iscsi_rules.proofs.general.CountLemmas.{count_set}
 use Rattle.iscsi_outbox_rules.specs.rules.Calls.{Opening, Takes, Puts, Stops, Nexts, Writes, Hears, Joins, Loses, Clears}
 use Rattle.iscsi_outbox_steps.specs.State.{Limits, State, place_of}
 use Rattle.iscsi_outbox_steps.specs.Steps.{given}

@@ -3,21 +3,21 @@ use Rattle.std.proofs.Common.{List}
 use Rattle.iscsi_outbox_rules.specs.rules.Calls.{Opening, Call}
 use Rattle.iscsi_outbox_rules.specs.promises.Deeds.{FollowsSession, FollowsFlow, FollowsKnown}
 use Rattle.iscsi_outbox_rules.specs.promises.Promises.{KeepsPromises}
-use Rattle.iscsi_outbox_rules.proofs.NumberTheorem.{counts_stat_sns, shows_exp, none_unjoined, none_lost}
-use Rattle.iscsi_outbox_rules.proofs.OnwardTheorem.{goes_onward}
-use Rattle.iscsi_outbox_rules.proofs.OnceTheorem.{sends_what_was_sent, goes_once}
-use Rattle.iscsi_outbox_rules.proofs.InOrderTheorem.{goes_in_order}
-use Rattle.iscsi_outbox_rules.proofs.MomentTheorem.{enters_in_order}
-use Rattle.iscsi_outbox_rules.proofs.CommandTheorem.{keeps_command_order}
-use Rattle.iscsi_outbox_rules.proofs.OwnTheorem.{keeps_connection_order}
-use Rattle.iscsi_outbox_rules.proofs.ResponseTheorem.{sends_all_before}
-use Rattle.iscsi_outbox_rules.proofs.ClosedTheorem.{none_behind}
-use Rattle.iscsi_outbox_rules.proofs.SilentTheorem.{is_silent_after}
-use Rattle.iscsi_outbox_rules.proofs.ScopeTheorem.{stops_before}
-use Rattle.iscsi_outbox_rules.proofs.DueTheorem.{arrives_before}
-use Rattle.iscsi_outbox_rules.proofs.FenceTheorem.{fence_before, fence_behind}
-use Rattle.iscsi_outbox_rules.proofs.FenceOrder.{fence_in_order}
-use Rattle.iscsi_outbox_rules.proofs.PlaceTheorem.{fence_first}
+use Rattle.iscsi_outbox_rules.proofs.numbers.NumberTheorem.{counts_stat_sns, shows_exp, none_unjoined, none_lost}
+use Rattle.iscsi_outbox_rules.proofs.numbers.OnwardTheorem.{goes_onward}
+use Rattle.iscsi_outbox_rules.proofs.order.OnceTheorem.{sends_what_was_sent, goes_once}
+use Rattle.iscsi_outbox_rules.proofs.order.InOrderTheorem.{goes_in_order}
+use Rattle.iscsi_outbox_rules.proofs.order.MomentTheorem.{enters_in_order}
+use Rattle.iscsi_outbox_rules.proofs.commands.CommandTheorem.{keeps_command_order}
+use Rattle.iscsi_outbox_rules.proofs.order.OwnTheorem.{keeps_connection_order}
+use Rattle.iscsi_outbox_rules.proofs.commands.ResponseTheorem.{sends_all_before}
+use Rattle.iscsi_outbox_rules.proofs.closes.ClosedTheorem.{none_behind}
+use Rattle.iscsi_outbox_rules.proofs.aborts.SilentTheorem.{is_silent_after}
+use Rattle.iscsi_outbox_rules.proofs.aborts.ScopeTheorem.{stops_before}
+use Rattle.iscsi_outbox_rules.proofs.aborts.DueTheorem.{arrives_before}
+use Rattle.iscsi_outbox_rules.proofs.fences.FenceTheorem.{fence_before, fence_behind}
+use Rattle.iscsi_outbox_rules.proofs.fences.FenceOrder.{fence_in_order}
+use Rattle.iscsi_outbox_rules.proofs.order.PlaceTheorem.{fence_first}
 
 pub keeps_promises : (o : Opening) (calls : List Call) → FollowsFlow o calls → FollowsKnown o calls → KeepsPromises o calls
 keeps_promises o calls flow known =

@@ -16,11 +16,11 @@ use Rattle.iscsi_rules.specs.rules.Execution.{sense_of_status}
 use Rattle.iscsi_rules.specs.rules.Agenda.{items_of}
 use Rattle.iscsi_rules.specs.rules.Run.{after_event, effects_of_mark, newly_enabled, effects_of_item, effects_of, entries_from, entry_of, run_of}
 use Rattle.iscsi_rules.specs.promises.Answers.{Answers}
-use Rattle.iscsi_rules.proofs.ElementLemmas.{In, in-append, in-cons, in-filter, first-in}
-use Rattle.iscsi_rules.proofs.HeldLemmas.{admitted_of_held}
-use Rattle.iscsi_rules.proofs.Forms.{Start, AtTurn, AtArrival, AfterWaiting, start_mark, marks_done, Form, Ignored, Rejected, Received, Postponed, Completed, Executed, marks_of_form, Starts, IsFormed}
-use Rattle.iscsi_rules.proofs.FormRuns.{IsDue, StandsAt, Stands, Turns, TurnsOf, Brings, event_stands}
-use Rattle.iscsi_rules.proofs.DeedLemmas.{each_is, each_done}
+use Rattle.iscsi_rules.proofs.general.ElementLemmas.{In, in-append, in-cons, in-filter, first-in}
+use Rattle.iscsi_rules.proofs.traces.HeldLemmas.{admitted_of_held}
+use Rattle.iscsi_rules.proofs.items.Forms.{Start, AtTurn, AtArrival, AfterWaiting, start_mark, marks_done, Form, Ignored, Rejected, Received, Postponed, Completed, Executed, marks_of_form, Starts, IsFormed}
+use Rattle.iscsi_rules.proofs.items.FormRuns.{IsDue, StandsAt, Stands, Turns, TurnsOf, Brings, event_stands}
+use Rattle.iscsi_rules.proofs.items.DeedLemmas.{each_is, each_done}
 use Rattle.iscsi_replay.specs.Again.{IsRecordableEvent}
 use Rattle.iscsi_recording.proofs.FieldLemmas.{decimal_length}
 use Rattle.iscsi_recording.proofs.EffectLemmas.{IsShortReply, IsShortEffect}

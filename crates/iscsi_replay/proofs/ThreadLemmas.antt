@@ -7,9 +7,9 @@ use Rattle.std.proofs.lemmas.Bool.Decides.{nat_tests}
 use Rattle.std.proofs.lemmas.List.{get_or-map, length-map, map-append}
 use Rattle.std.proofs.lemmas.List.Quantifiers.{position-Some}
 use Rattle.std.proofs.lemmas.Bool.{eqb-true, false≢true}
-use Rattle.iscsi_rules.proofs.ListLemmas.{IsSome-position}
+use Rattle.iscsi_rules.proofs.general.ListLemmas.{IsSome-position}
 use mathlib.Core.List.{IsPrefix}
-use Rattle.iscsi_rules.proofs.BoolLemmas.{and_first, and_second}
+use Rattle.iscsi_rules.proofs.general.BoolLemmas.{and_first, and_second}
 use Rattle.iscsi_rules.specs.declared.event.Event.{Event}
 use Rattle.iscsi_rules.specs.declared.event.Event.TheVariants.{Arrive, Done}
 use Rattle.iscsi_rules.specs.rules.Settings.{Setting, is_known, are_distinct}

@@ -8,7 +8,7 @@ use Rattle.iscsi_rules.specs.rules.Trace.{Trace}
 use Rattle.iscsi_rules.specs.rules.Run.{after_event, entry_of, entries_from, run_of, next_entry}
 use Rattle.iscsi_report.specs.Lines.{event_line, entry_lines, report_from}
 use Rattle.std.proofs.lemmas.List.{append-nil}
-use Rattle.iscsi_rules.proofs.RunLemmas.{run_of-push}
+use Rattle.iscsi_rules.proofs.traces.RunLemmas.{run_of-push}
 
 -- the digits of a byte, and those of two with fixed ones between them
 pub pair : (b x y : ℕ) → x ≡ slice_index lower_digits (b / 16) → y ≡ slice_index lower_digits (b % 16) → x ∷ y ∷ [] ≡ encode_lower (b ∷ [])

@@ -23,14 +23,14 @@ use Rattle.iscsi_rules.specs.rules.Run.{newly_enabled, effects_of, trace_of, eff
 use Rattle.iscsi_session.specs.promises.Refusals.{refusal_of}
 use Rattle.iscsi_session.specs.private.Standing.{Core, place_of, kept, is_regular, member_of, Agrees, Settled, StandsFor, arrival_waiting}
 use Rattle.iscsi_session.specs.private.Steps.{find_ticket, comes_on, refusal_by, set_at, with_offered, enabled_of, enabled_in, covers_ticket, left_answered, completed, Step, Runs, Handles, HasNoMore, count_reply, is_among_open, Takes, replied, request_answered}
-use Rattle.iscsi_rules.proofs.BoolLemmas.{and_both, not_flip}
-use Rattle.iscsi_rules.proofs.ListLemmas.{list_any-map, is_known-cids, filter-swap, list_all-filter, find-passes, filtered_among, is_none}
+use Rattle.iscsi_rules.proofs.general.BoolLemmas.{and_both, not_flip}
+use Rattle.iscsi_rules.proofs.general.ListLemmas.{list_any-map, is_known-cids, filter-swap, list_all-filter, find-passes, filtered_among, is_none}
 use Rattle.iscsi_session.proofs.WindowParts.{WindowAgrees-quiet, with_held, Next, next_request, Passed, passed_at, WindowAgrees-passed}
-use Rattle.iscsi_rules.proofs.MomentLemmas.{enables}
+use Rattle.iscsi_rules.proofs.promises.MomentLemmas.{enables}
 use Rattle.iscsi_session.proofs.AgreeLemmas.{find_kept, lasting, Regular, regular_parts, regular_live, settled_expected, settled_max, Stepped, Stepped-ignored, step_ignored, Agrees-admitted, known_of, Agrees-untouched, RepliesAgree-sent}
-use Rattle.iscsi_rules.proofs.NewlyLemmas.{newly-untouched, Untouched}
-use Rattle.iscsi_rules.proofs.NumberLemmas.{wire-lift}
-use Rattle.iscsi_rules.proofs.CommandItems.{first_passing, none_passing, ticket_alone, untouched-admits, completion_item, first_passes, quiet-completion}
+use Rattle.iscsi_rules.proofs.traces.NewlyLemmas.{newly-untouched, Untouched}
+use Rattle.iscsi_rules.proofs.general.NumberLemmas.{wire-lift}
+use Rattle.iscsi_rules.proofs.items.CommandItems.{first_passing, none_passing, ticket_alone, untouched-admits, completion_item, first_passes, quiet-completion}
 use Rattle.iscsi_session.proofs.ExecutionLemmas.{covered_in, gone_tickets, Leaving, leaving-agrees, leaving-effects}
 use Rattle.iscsi_tasks.specs.declared.task.Task.{Task}
 use Rattle.iscsi_wire.specs.declared.reply.Reply.{Reply}
@@ -41,10 +41,10 @@ use Rattle.iscsi_rules.specs.declared.effect.Effect.{Effect}
 use Rattle.iscsi_session.specs.declared.session.waiting.Waiting.{Waiting}
 use Rattle.iscsi_rules.specs.rules.Management.{may_wait}
 use Rattle.iscsi_session.specs.private.Deeds.{turn_of, turn_taken, next_waiting, function_taken, arrival_by, comes_next, immediate_taken}
-use Rattle.iscsi_rules.proofs.TraceLemmas.{after_items-append}
-use Rattle.iscsi_rules.proofs.Missing.{expected_past}
-use Rattle.iscsi_rules.proofs.ReceivedItems.{turn_receives_none, function_receives_none, functions_receive_none, immediate_receives_one}
-use Rattle.iscsi_rules.proofs.FlowItems.{agenda-halves, effects_of-append, same_exp, turns, turns-more}
+use Rattle.iscsi_rules.proofs.traces.TraceLemmas.{after_items-append}
+use Rattle.iscsi_rules.proofs.general.Missing.{expected_past}
+use Rattle.iscsi_rules.proofs.items.ReceivedItems.{turn_receives_none, function_receives_none, functions_receive_none, immediate_receives_one}
+use Rattle.iscsi_rules.proofs.traces.FlowItems.{agenda-halves, effects_of-append, same_exp, turns, turns-more}
 use Rattle.iscsi_session.proofs.WaitLemmas.{next_function, no_function}
 use Rattle.iscsi_session.proofs.ExecutionLemmas.{Follows}
 use Rattle.iscsi_session.proofs.ExecutionLemmas.{turned_core, turned_is, numbered_held}
@@ -53,7 +53,7 @@ use Rattle.iscsi_session.proofs.DeedLemmas.{stays_expected, executed_stays, func
 use Rattle.iscsi_rules.specs.declared.effect.Effect.TheVariants.{Send}
 use Rattle.iscsi_rules.specs.declared.kind.Kind.TheVariants.{PassedOver, Unknown, Executes as ExecutesKind}
 use Rattle.iscsi_rules.specs.promises.Flow.{HasOneMore}
-use Rattle.iscsi_rules.proofs.DeliveryLemmas.{IsQuiet}
+use Rattle.iscsi_rules.proofs.traces.DeliveryLemmas.{IsQuiet}
 use Rattle.iscsi_session.proofs.WindowLemmas.{held_now, comes_alone, Delivered, delivered}
 use Rattle.std.specs.Prelude.{Vec}
 use Rattle.std.specs.declared.alloc.Global.{Global}

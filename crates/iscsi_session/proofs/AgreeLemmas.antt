@@ -9,26 +9,26 @@ use Rattle.iscsi_rules.specs.rules.Settings.{Setting, is_known}
 use Rattle.iscsi_rules.specs.rules.Trace.{Command, Mark, Trace, live, live_in, was_free, has, entered, leaves_ticket, is_among, first_of, are_apart, sent_on, Arrival, Admits, Ignores, after_items, waiting, is_received, received}
 use Rattle.iscsi_session.specs.private.Standing.{task_of, member_of, set_of, open_of, kept, is_regular, CommandsAgree, SetsAgree, stat_sn_on, RepliesAgree, Core, WaitingAgrees, WindowAgrees, is_regular_request, Agrees, Settled}
 use Rattle.iscsi_session.specs.private.Steps.{as_given, enable_effects, enable_effect, find_ticket, count_reply, Step, Handles, numbers_by}
-use Rattle.iscsi_rules.proofs.BoolLemmas.{and_parts, or_comm}
-use Rattle.iscsi_rules.proofs.ListLemmas.{list_all-filter, all_of_filter, filter-map, map-map, map_all, is_known-cids, count_by-push}
-use Rattle.iscsi_rules.proofs.MomentLemmas.{enables}
-use Rattle.iscsi_rules.proofs.NewlyLemmas.{all_here, filter-twice, is_here, new_in, new_in-more, was_free-stays, Untouched, live-untouched, never_free, live_in-untouched, newly-untouched}
-use Rattle.iscsi_rules.proofs.EnabledItems.{was_before, newly-one, EnabledSoFar-more, Exact, enabled_once, exact_now, same_enabled, shown-before, shown-item, EnabledSoFar-untouched}
+use Rattle.iscsi_rules.proofs.general.BoolLemmas.{and_parts, or_comm}
+use Rattle.iscsi_rules.proofs.general.ListLemmas.{list_all-filter, all_of_filter, filter-map, map-map, map_all, is_known-cids, count_by-push}
+use Rattle.iscsi_rules.proofs.promises.MomentLemmas.{enables}
+use Rattle.iscsi_rules.proofs.traces.NewlyLemmas.{all_here, filter-twice, is_here, new_in, new_in-more, was_free-stays, Untouched, live-untouched, never_free, live_in-untouched, newly-untouched}
+use Rattle.iscsi_rules.proofs.items.EnabledItems.{was_before, newly-one, EnabledSoFar-more, Exact, enabled_once, exact_now, same_enabled, shown-before, shown-item, EnabledSoFar-untouched}
 use Rattle.std.proofs.lemmas.Bool.Decides.{nat_tests}
 use Rattle.iscsi_rules.specs.rules.Logout.{is_open}
-use Rattle.iscsi_rules.proofs.TraceLemmas.{filter-same, live-enters, weaker}
-use Rattle.iscsi_rules.proofs.ClosingItems.{ClosesNone, closed-same}
+use Rattle.iscsi_rules.proofs.traces.TraceLemmas.{filter-same, live-enters, weaker}
+use Rattle.iscsi_rules.proofs.items.ClosingItems.{ClosesNone, closed-same}
 use Rattle.std.specs.List.{list_all, filter_map, list_any}
 use Rattle.std.proofs.lemmas.List.Elements.{filter-append}
 use Rattle.std.proofs.lemmas.List.Folds.{list_any-append}
 use Rattle.iscsi_commands.specs.declared.live.Live.{Live}
-use Rattle.iscsi_rules.proofs.ApartLemmas.{eq_sym, unamong-filter, apart-push, apart-filter}
+use Rattle.iscsi_rules.proofs.traces.ApartLemmas.{eq_sym, unamong-filter, apart-push, apart-filter}
 use Rattle.iscsi_session.proofs.ListLemmas.{list_all-push, cids-count_reply}
-use Rattle.iscsi_rules.proofs.CommandItems.{EntersOne, LeavesSome, entered-untouched, live-left, unfinished-untouched, untouched-admits}
+use Rattle.iscsi_rules.proofs.items.CommandItems.{EntersOne, LeavesSome, entered-untouched, live-left, unfinished-untouched, untouched-admits}
 use Rattle.iscsi_tasks.specs.declared.task.Task.{Task}
 use Rattle.iscsi_rules.specs.rules.Run.{newly_enabled, stat_sn_of, effects_of, numbers_of}
 use Rattle.iscsi_wire.specs.Serial.{wire}
-use Rattle.iscsi_rules.proofs.NumberLemmas.{wire-next}
+use Rattle.iscsi_rules.proofs.general.NumberLemmas.{wire-next}
 use Rattle.iscsi_rules.specs.promises.Enabling.{EnabledSoFar}
 use Rattle.iscsi_wire.specs.Fields.{connection_of, cmd_sn}
 use Rattle.iscsi_window.specs.Windows.{Arrived, number_expected, room_of}
@@ -37,8 +37,8 @@ use Rattle.iscsi_rules.specs.declared.effect.Why.{Why}
 use Rattle.iscsi_rules.specs.rules.Execution.{exp_of, max_of, ignored, unfinished}
 use Rattle.iscsi_rules.specs.promises.Flow.{HasOneMore}
 use Rattle.iscsi_session.specs.declared.session.waiting.Waiting.{Waiting}
-use Rattle.iscsi_rules.proofs.ReceivedItems.{ignored_receives}
-use Rattle.iscsi_rules.proofs.DeliveryLemmas.{IsQuiet, quiet-ignored}
+use Rattle.iscsi_rules.proofs.items.ReceivedItems.{ignored_receives}
+use Rattle.iscsi_rules.proofs.traces.DeliveryLemmas.{IsQuiet, quiet-ignored}
 use Rattle.iscsi_session.proofs.WindowParts.{next_expected, WindowAgrees-quiet, with_held, WindowAgrees-admitted}
 
 -- ==== which commands were free at some moment, after one item more

@@ -10,11 +10,11 @@ use Rattle.iscsi_commands.specs.declared.live.Live.{Live}
 use Rattle.iscsi_rules.specs.rules.Settings.{is_known}
 use Rattle.iscsi_session.specs.private.Standing.{are_known, are_ascending}
 use Rattle.iscsi_session.specs.private.Steps.{find_ticket, without_ticket, count_reply, counted_on, is_immediate_on, immediate_in, AreCounted, is_numbered}
-use Rattle.iscsi_rules.proofs.BoolLemmas.{and_comm, and_parts}
-use Rattle.iscsi_rules.proofs.CountLemmas.{count-cons, count-filter, count-split}
-use Rattle.iscsi_rules.proofs.NewlyLemmas.{both_all, filter_all}
-use Rattle.iscsi_rules.proofs.TraceLemmas.{filter-true, weaker}
-use Rattle.iscsi_rules.proofs.ListLemmas.{all_of_filter, count_by-push, is_known-cids, fewer_counted, list_all-filter}
+use Rattle.iscsi_rules.proofs.general.BoolLemmas.{and_comm, and_parts}
+use Rattle.iscsi_rules.proofs.general.CountLemmas.{count-cons, count-filter, count-split}
+use Rattle.iscsi_rules.proofs.traces.NewlyLemmas.{both_all, filter_all}
+use Rattle.iscsi_rules.proofs.traces.TraceLemmas.{filter-true, weaker}
+use Rattle.iscsi_rules.proofs.general.ListLemmas.{all_of_filter, count_by-push, is_known-cids, fewer_counted, list_all-filter}
 use Rattle.iscsi_session.proofs.ListLemmas.{cids-count_reply, list_all-push}
 
 -- ---- how many are live

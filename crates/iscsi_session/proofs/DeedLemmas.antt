@@ -20,9 +20,9 @@ use Rattle.iscsi_rules.specs.rules.Deeds.{Facts, of_unit, function_deed}
 use Rattle.iscsi_session.specs.private.Standing.{Core}
 use Rattle.iscsi_session.specs.private.Steps.{set_at, is_numbered, is_gone, covers_ticket, aborted, KeepsPace, completed}
 use Rattle.iscsi_session.specs.private.Deeds.{refusal_by, live_by, held_by, missing_by, facts_by, deed_by, waits_by, arrival_by, Fits, IsReady, most_emptied, carried, position_by, executed, turn_taken, next_position, function_taken, done_at_once, immediate_taken}
-use Rattle.iscsi_rules.proofs.BoolLemmas.{and_first, and_second}
-use Rattle.iscsi_rules.proofs.ListLemmas.{fewer_counted, filter-shorter}
-use Rattle.iscsi_rules.proofs.DeedTable.{named_below, Befits, befits_function, befits_deed, through_function}
+use Rattle.iscsi_rules.proofs.general.BoolLemmas.{and_first, and_second}
+use Rattle.iscsi_rules.proofs.general.ListLemmas.{fewer_counted, filter-shorter}
+use Rattle.iscsi_rules.proofs.items.DeedTable.{named_below, Befits, befits_function, befits_deed, through_function}
 use Rattle.iscsi_session.proofs.LoggedOutLemmas.{Stays, logged_out_parts}
 use Rattle.iscsi_session.proofs.WindowLemmas.{emptied_changes, voided_changes}
 use Rattle.iscsi_session.specs.declared.session.waiting.Waiting.{Waiting}

@@ -9,7 +9,7 @@ use Rattle.iscsi_window.specs.Windows.{holds_from}
 use Rattle.iscsi_rules.specs.declared.effect.Effect.TheVariants.{Empty}
 use Rattle.iscsi_session.specs.private.Standing.{is_held, is_place_known}
 use Rattle.iscsi_session.specs.private.Steps.{emptied_place, emptied_from, is_clear_below}
-use Rattle.iscsi_rules.proofs.BoolLemmas.{and_parts}
+use Rattle.iscsi_rules.proofs.general.BoolLemmas.{and_parts}
 
 -- the first place that is concerned is given up, and what is left to do after it: the first place stands for number n
 pub record Dropped (scope : Option ℕ) (n : ℕ) (ps : List (Option (Option HeldRequest))) (k : ℕ) : Type 0 where

@@ -16,9 +16,9 @@ use Rattle.iscsi_rules.specs.promises.Executed.{delivers, request_at}
 use Rattle.iscsi_rules.specs.rules.Logout.{all_held}
 use Rattle.iscsi_session.specs.private.Standing.{place_of, WindowAgrees}
 use Rattle.iscsi_session.specs.private.Steps.{emptied_place, emptied_from}
-use Rattle.iscsi_rules.proofs.HeldLemmas.{held-number, unreceived_unheld}
-use Rattle.iscsi_rules.proofs.DeliveryLemmas.{IsQuiet, same_range}
-use Rattle.iscsi_rules.proofs.EmptyingMarks.{EmptiesThese, SameNumbers, empties-these, held_from, held_from-none, held_from-parts, is_number_of, joined-same}
+use Rattle.iscsi_rules.proofs.traces.HeldLemmas.{held-number, unreceived_unheld}
+use Rattle.iscsi_rules.proofs.traces.DeliveryLemmas.{IsQuiet, same_range}
+use Rattle.iscsi_rules.proofs.items.EmptyingMarks.{EmptiesThese, SameNumbers, empties-these, held_from, held_from-none, held_from-parts, is_number_of, joined-same}
 use Rattle.iscsi_session.proofs.WindowParts.{expected_past_next}
 
 -- ---- the requests that are held at the numbers of a range

@@ -14,27 +14,27 @@ use Rattle.iscsi_rules.specs.rules.Execution.{unfinished, is_crowded, is_full, r
 use Rattle.iscsi_rules.specs.rules.Run.{effects_of_mark, effects_of_item, newly_enabled, stat_sn_of}
 use Rattle.iscsi_session.specs.private.Standing.{Core, kept, is_regular, task_of, member_of, WindowAgrees, RepliesAgree, SetsAgree, WaitingAgrees, Agrees, set_of, CommandsAgree}
 use Rattle.iscsi_session.specs.private.Steps.{count_reply, Step, unchanged, after_effect, is_set_full, is_immediate_on, is_crowded_by, replied, new_live, number_by, event_by, new_task, started, command_entered, set_staying, covered_tickets, set_at, as_given, all_given, enable_effects, is_numbered, is_gone, staying, leave_each, has_covered, left_answered, aborted}
-use Rattle.iscsi_rules.proofs.BoolLemmas.{and_both, and_parts, not_true, and_comm, alike, alike_same}
+use Rattle.iscsi_rules.proofs.general.BoolLemmas.{and_both, and_parts, not_true, and_comm, alike, alike_same}
 use Rattle.iscsi_session.proofs.AgreeLemmas.{open_of-same, RepliesAgree-quiet, RepliesAgree-sent, EnabledSoFar-entered, live-entered, CommandsAgree-entered, Lasting, Agrees-untouched, SetEntry, SetsAgree-entered, set_of-same, noted_given, noted_effects, CommandsAgree-left, set-changed, units_live}
-use Rattle.iscsi_rules.proofs.ListLemmas.{count_by-map, count_by-push, list_any-map, list_all-filter, any_filter, any_same, fewer_counted, map_all, filter-map, map-map, none_out}
-use Rattle.iscsi_rules.proofs.DeliveryLemmas.{IsQuiet}
+use Rattle.iscsi_rules.proofs.general.ListLemmas.{count_by-map, count_by-push, list_any-map, list_all-filter, any_filter, any_same, fewer_counted, map_all, filter-map, map-map, none_out}
+use Rattle.iscsi_rules.proofs.traces.DeliveryLemmas.{IsQuiet}
 use Rattle.iscsi_session.proofs.WindowParts.{Turned, WindowAgrees-started, Next, turned_window, WindowAgrees-turned}
-use Rattle.iscsi_rules.proofs.NewlyLemmas.{never_free, Untouched, newly-untouched, filter_all, filter-twice, is_here, all_here, new_in, new_in-none}
-use Rattle.iscsi_rules.proofs.ClosingItems.{ClosesNone, closes-more}
-use Rattle.iscsi_rules.proofs.CommandItems.{EntersOne, LeavesSome, live_in-left, live_in-left_elsewhere, are_all_in, among_passing, leaving-calm, leaving-closes, leaving-enters, leaving-sends, leaving-shown, leaving-tickets, quiet-leaving}
-use Rattle.iscsi_rules.proofs.EmptyingMarks.{quiet_none, quiet_sends, quiet_enters}
+use Rattle.iscsi_rules.proofs.traces.NewlyLemmas.{never_free, Untouched, newly-untouched, filter_all, filter-twice, is_here, all_here, new_in, new_in-none}
+use Rattle.iscsi_rules.proofs.items.ClosingItems.{ClosesNone, closes-more}
+use Rattle.iscsi_rules.proofs.items.CommandItems.{EntersOne, LeavesSome, live_in-left, live_in-left_elsewhere, are_all_in, among_passing, leaving-calm, leaving-closes, leaving-enters, leaving-sends, leaving-shown, leaving-tickets, quiet-leaving}
+use Rattle.iscsi_rules.proofs.items.EmptyingMarks.{quiet_none, quiet_sends, quiet_enters}
 use Rattle.iscsi_window.specs.declared.held_request.HeldRequest.{HeldRequest}
 use Rattle.iscsi_rules.specs.declared.effect.Effect.TheVariants.{Deliver, Leave, Send}
 use Rattle.iscsi_session.specs.private.Deeds.{turn_of, turn_taken}
-use Rattle.iscsi_rules.proofs.HeldLemmas.{held-number, admitted_of_held}
+use Rattle.iscsi_rules.proofs.traces.HeldLemmas.{held-number, admitted_of_held}
 use Rattle.std.specs.List.{filter_map}
 use Rattle.iscsi_wire.specs.declared.reply.Reply.TheVariants.{Task as TaskReply}
 use Rattle.iscsi_tasks.specs.declared.task.Task.{Task}
 use Rattle.iscsi_commands.specs.declared.live.Live.{Live}
-use Rattle.iscsi_rules.proofs.TraceLemmas.{weaker}
-use Rattle.iscsi_rules.proofs.ApartLemmas.{unamong-filter, apart-filter}
-use Rattle.iscsi_rules.proofs.MomentLemmas.{enables}
-use Rattle.iscsi_rules.proofs.EnabledItems.{EnabledSoFar-left, newly-one}
+use Rattle.iscsi_rules.proofs.traces.TraceLemmas.{weaker}
+use Rattle.iscsi_rules.proofs.traces.ApartLemmas.{unamong-filter, apart-filter}
+use Rattle.iscsi_rules.proofs.promises.MomentLemmas.{enables}
+use Rattle.iscsi_rules.proofs.items.EnabledItems.{EnabledSoFar-left, newly-one}
 use Rattle.std.proofs.lemmas.Bool.Decides.{nat_tests}
 
 -- what the session says is what the definitions say

@@ -15,15 +15,15 @@ use Rattle.iscsi_rules.specs.rules.Execution.{exp_of, max_of}
 use Rattle.iscsi_rules.specs.rules.Management.{is_to, held_command, live_with_tag}
 use Rattle.iscsi_session.specs.private.Standing.{Core, held_of, place_of, kept, WindowAgrees, arrival_waiting, Agrees, Settled}
 use Rattle.iscsi_session.specs.private.Deeds.{tagged_in, missing_at, missing_by, Fits}
-use Rattle.iscsi_rules.proofs.HeldLemmas.{held-number, held_received, is_sought, none_below, admitted_of_held, held_command-below, held_command-held, held_command-none}
-use Rattle.iscsi_rules.proofs.PlaceLemmas.{position-cons}
+use Rattle.iscsi_rules.proofs.traces.HeldLemmas.{held-number, held_received, is_sought, none_below, admitted_of_held, held_command-below, held_command-held, held_command-none}
+use Rattle.iscsi_rules.proofs.general.PlaceLemmas.{position-cons}
 use Rattle.iscsi_window.specs.declared.answer.Place.{Place}
 use Rattle.iscsi_rules.specs.declared.deed.Deed.{Deed}
 use Rattle.iscsi_rules.specs.rules.Deeds.{facts_of}
 use Rattle.iscsi_rules.specs.rules.Agenda.{arrival_of}
-use Rattle.iscsi_rules.proofs.BoolLemmas.{and_parts, not_true}
+use Rattle.iscsi_rules.proofs.general.BoolLemmas.{and_parts, not_true}
 use Rattle.iscsi_session.proofs.WindowParts.{Next, turned_window, WindowAgrees-turned, expected_past_next}
-use Rattle.iscsi_rules.proofs.NumberLemmas.{last_number, within_window}
+use Rattle.iscsi_rules.proofs.general.NumberLemmas.{last_number, within_window}
 use Rattle.iscsi_session.proofs.AgreeLemmas.{settled_expected, settled_max, Agrees-waits}
 use Rattle.iscsi_session.proofs.DeedLemmas.{is_of_number, missing_parts}
 

@@ -14,10 +14,10 @@ use Rattle.iscsi_rules.specs.rules.Management.{live_with_tag, held_command, may_
 use Rattle.iscsi_rules.specs.rules.Deeds.{Facts, abort_deed, function_deed, deed_of, of_unit, facts_of, if_found, deed_marks}
 use Rattle.iscsi_session.specs.private.Standing.{Core, kept, CommandsAgree, SetsAgree, task_of, WindowAgrees, arrival_waiting, WaitingAgrees, Agrees, Settled}
 use Rattle.iscsi_session.specs.private.Deeds.{facts_by, refusal_by, live_by, deed_by, waits_by, arrival_by, Fits, position_by, carried, executed, turn_of, next_waiting, next_position, function_taken, immediate_taken}
-use Rattle.iscsi_rules.proofs.BoolLemmas.{and_true, and_parts}
-use Rattle.iscsi_rules.proofs.ListLemmas.{list_any-map, any_filter, any_same, count_by-map, list_all-filter, find-passes, find-found, filter-map}
-use Rattle.iscsi_rules.proofs.NewlyLemmas.{Untouched, live_in-untouched, newly-untouched}
-use Rattle.iscsi_rules.proofs.DeedTable.{named_below, never_waits}
+use Rattle.iscsi_rules.proofs.general.BoolLemmas.{and_true, and_parts}
+use Rattle.iscsi_rules.proofs.general.ListLemmas.{list_any-map, any_filter, any_same, count_by-map, list_all-filter, find-passes, find-found, filter-map}
+use Rattle.iscsi_rules.proofs.traces.NewlyLemmas.{Untouched, live_in-untouched, newly-untouched}
+use Rattle.iscsi_rules.proofs.items.DeedTable.{named_below, never_waits}
 use Rattle.iscsi_session.proofs.AgreeLemmas.{CommandsAgree-untouched}
 use Rattle.iscsi_session.proofs.AgreeLemmas.{SetsAgree-untouched}
 use Rattle.iscsi_session.proofs.FindLemmas.{tagged_in-is}
@@ -36,16 +36,16 @@ use Rattle.iscsi_session.specs.declared.session.waiting.Waiting.{Waiting}
 use Rattle.iscsi_rules.specs.rules.Agenda.{arrival_of}
 use Rattle.iscsi_rules.specs.rules.Items.{execution, waiting_item, immediate_item, item_of, function_item}
 use Rattle.iscsi_rules.specs.rules.Run.{effects_of_mark}
-use Rattle.iscsi_rules.proofs.TraceLemmas.{filter-same}
-use Rattle.iscsi_rules.proofs.DeliveryLemmas.{IsQuiet, received-quiet, held-quiet}
-use Rattle.iscsi_rules.proofs.HeldLemmas.{held-number, admitted_of_held}
+use Rattle.iscsi_rules.proofs.traces.TraceLemmas.{filter-same}
+use Rattle.iscsi_rules.proofs.traces.DeliveryLemmas.{IsQuiet, received-quiet, held-quiet}
+use Rattle.iscsi_rules.proofs.traces.HeldLemmas.{held-number, admitted_of_held}
 use Rattle.iscsi_session.proofs.WindowParts.{Next, turned_window, WindowAgrees-quiet}
 use Rattle.iscsi_session.proofs.AgreeLemmas.{RepliesAgree-sent}
 use Rattle.iscsi_session.proofs.AgreeLemmas.{settled_expected, settled_max, Agrees-untouched, Agrees-waits}
-use Rattle.iscsi_rules.proofs.ClosingItems.{ClosesNone, closes-more}
-use Rattle.iscsi_rules.proofs.ReceivedItems.{no_abort_task, may_immediate}
-use Rattle.iscsi_rules.proofs.NumberLemmas.{position_eq, position_lt, wire-lift}
-use Rattle.iscsi_rules.proofs.EmptyingMarks.{quiet_executes}
+use Rattle.iscsi_rules.proofs.items.ClosingItems.{ClosesNone, closes-more}
+use Rattle.iscsi_rules.proofs.items.ReceivedItems.{no_abort_task, may_immediate}
+use Rattle.iscsi_rules.proofs.general.NumberLemmas.{position_eq, position_lt, wire-lift}
+use Rattle.iscsi_rules.proofs.items.EmptyingMarks.{quiet_executes}
 use Rattle.iscsi_session.proofs.ExecutionLemmas.{covered_in, leaving-item}
 use Rattle.iscsi_session.proofs.WindowParts.{inside_bounds, WindowAgrees-voided, WindowAgrees-emptied, VoidedAt, voided_at, emptied_at}
 use Rattle.iscsi_session.proofs.ExecutionLemmas.{turned_core, numbered_held, turn-begun, number_next, event_next}
@@ -56,8 +56,8 @@ use Rattle.iscsi_rules.specs.declared.deed.Answer.TheVariants.{Respond}
 use Rattle.iscsi_rules.specs.declared.deed.Deed.{Deed}
 use Rattle.iscsi_rules.specs.declared.deed.Deed.TheVariants.{Nothing, Wait, Reply, Enter, Void, Empty, Abort, AbortEarlier, AbortAll, CloseConn, CloseSession}
 use Rattle.iscsi_session.specs.private.Steps.{count_reply, and_then, after_effect, waiting_in, request_answered, number_by, event_by, covers_ticket}
-use Rattle.iscsi_rules.proofs.ApartLemmas.{apart-filter}
-use Rattle.iscsi_rules.proofs.CommandItems.{ticket_alone}
+use Rattle.iscsi_rules.proofs.traces.ApartLemmas.{apart-filter}
+use Rattle.iscsi_rules.proofs.items.CommandItems.{ticket_alone}
 use Rattle.iscsi_session.proofs.DeedLemmas.{fits_deed, fits_function, is_of_number, missing_parts, is_whole, whole_function}
 use Rattle.iscsi_session.proofs.DeedLemmas.{immediate_is}
 

@@ -9,22 +9,22 @@ use Rattle.std.proofs.lemmas.List.Folds.{list_all-map, list_any_none, list_any_m
 use Rattle.std.proofs.lemmas.List.Sums.{AllPass-from_list_all, sum_by-cons}
 use Rattle.iscsi_tasks.specs.declared.task.Task.{Task}
 use Rattle.iscsi_tasks.specs.declared.member.Member.{Member}
-use Rattle.iscsi_rules.proofs.ApartLemmas.{eq_sym}
+use Rattle.iscsi_rules.proofs.traces.ApartLemmas.{eq_sym}
 use Rattle.iscsi_tasks.specs.Sets.{is_enabled_in, Members, opened, entered_to, given_by, tasks_in, left_by, with_ticket, uncovered, is_new}
 use Rattle.iscsi_commands.specs.declared.live.Live.{Live}
 use Rattle.iscsi_session.specs.private.Standing.{Match, are_ascending, are_within, tickets_of, tickets_in}
 use Rattle.iscsi_session.specs.private.Steps.{enabled_of, covers_ticket, has_covered, set_staying, covered_tickets, find_ticket, without_ticket, as_given, all_given, is_numbered, is_gone, staying, finished_by, leave_each, without_tickets, ungiven, ungiven_in}
-use Rattle.iscsi_rules.proofs.BoolLemmas.{and_parts, and_both, and_comm, and_true, and_false, or_first, or_second}
-use Rattle.iscsi_rules.proofs.ListLemmas.{list_all-filter, any_filter, any_same, list_any-map, count_by-map, filter-swap, filter-map, map-map, find-found, filter-shorter, filter_every, filter_here, fewer_counted, none_out}
-use Rattle.iscsi_rules.proofs.TraceLemmas.{weaker, filter-same, filter-true}
+use Rattle.iscsi_rules.proofs.general.BoolLemmas.{and_parts, and_both, and_comm, and_true, and_false, or_first, or_second}
+use Rattle.iscsi_rules.proofs.general.ListLemmas.{list_all-filter, any_filter, any_same, list_any-map, count_by-map, filter-swap, filter-map, map-map, find-found, filter-shorter, filter_every, filter_here, fewer_counted, none_out}
+use Rattle.iscsi_rules.proofs.traces.TraceLemmas.{weaker, filter-same, filter-true}
 use Rattle.iscsi_session.proofs.ListLemmas.{list_all-push}
-use Rattle.iscsi_rules.proofs.SetLemmas.{tickets-given_in, tickets-moment, none_filtered, tickets, gone_each, none_covered, none_found, one_gone, rising, some_covered}
+use Rattle.iscsi_rules.proofs.traces.SetLemmas.{tickets-given_in, tickets-moment, none_filtered, tickets, gone_each, none_covered, none_found, one_gone, rising, some_covered}
 use Rattle.std.specs.Prelude.{IsSome}
 use Rattle.iscsi_window.specs.Windows.{Arrived, with_unfinished}
 use Rattle.iscsi_rules.specs.declared.effect.Effect.TheVariants.{Leave}
-use Rattle.iscsi_rules.proofs.NewlyLemmas.{filter-twice, both_all}
-use Rattle.iscsi_rules.proofs.CountLemmas.{fewer}
-use Rattle.iscsi_rules.proofs.NumberLemmas.{none_above}
+use Rattle.iscsi_rules.proofs.traces.NewlyLemmas.{filter-twice, both_all}
+use Rattle.iscsi_rules.proofs.general.CountLemmas.{fewer}
+use Rattle.iscsi_rules.proofs.general.NumberLemmas.{none_above}
 
 -- ---- no call but entering and leaving changes the tickets
 

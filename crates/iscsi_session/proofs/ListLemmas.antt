@@ -7,7 +7,7 @@ use Rattle.iscsi_commands.specs.declared.live.Live.{Live}
 use Rattle.iscsi_rules.specs.rules.Settings.{is_known}
 use Rattle.iscsi_session.specs.private.Standing.{are_known, is_place_known}
 use Rattle.iscsi_session.specs.private.Steps.{without_ticket, count_reply}
-use Rattle.iscsi_rules.proofs.ListLemmas.{is_known-cids, list_all-filter, list_all-same}
+use Rattle.iscsi_rules.proofs.general.ListLemmas.{is_known-cids, list_all-filter, list_all-same}
 use Rattle.std.proofs.lemmas.Bool.Decides.{nat_tests}
 
 -- one more that passes

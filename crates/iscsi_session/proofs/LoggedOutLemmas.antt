@@ -7,7 +7,7 @@ use Rattle.iscsi_window.specs.Windows.{with_unfinished}
 use Rattle.iscsi_tasks.specs.declared.task.Task.{Task}
 use Rattle.iscsi_session.specs.private.Standing.{Core, is_held}
 use Rattle.iscsi_session.specs.private.Steps.{set_staying, set_at, is_numbered, is_gone, commands_left, all_commands_left, emptied_place, logged_out}
-use Rattle.iscsi_rules.proofs.ListLemmas.{fewer_counted, filter-shorter, count_by-map}
+use Rattle.iscsi_rules.proofs.general.ListLemmas.{fewer_counted, filter-shorter, count_by-map}
 use Rattle.std.proofs.lemmas.Bool.Decides.{nat_tests}
 
 -- ---- what stays

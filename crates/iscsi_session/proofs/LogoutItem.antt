@@ -7,9 +7,9 @@ use Rattle.iscsi_tasks.specs.declared.task.Task.{Task}
 use Rattle.iscsi_tasks.specs.Sets.{opened}
 use Rattle.iscsi_session.specs.private.Standing.{Core, Agrees, WindowAgrees, CommandsAgree, SetsAgree, arrival_waiting, open_of, task_of}
 use Rattle.iscsi_session.specs.private.Steps.{set_staying, covered_tickets, set_at, is_numbered, is_gone, leave_each, commands_left, all_commands_left, is_among_open, still_open, after_effect, units_of, all_given, enable_effects, covers_of, waiting_then, session_closes, closing_effects, logged_out}
-use Rattle.iscsi_rules.proofs.TraceLemmas.{filter-same, filter-true}
-use Rattle.iscsi_rules.proofs.NewlyLemmas.{filter-twice, Untouched, live-untouched, filter_all, filter-none}
-use Rattle.iscsi_rules.proofs.ListLemmas.{any_in_range, flat_map_in_range, list_all-filter, list_all-same, list_any-map, any_filter, any_flat_map, filter-flat_map, map-flat_map, filter-map, filtered_among}
+use Rattle.iscsi_rules.proofs.traces.TraceLemmas.{filter-same, filter-true}
+use Rattle.iscsi_rules.proofs.traces.NewlyLemmas.{filter-twice, Untouched, live-untouched, filter_all, filter-none}
+use Rattle.iscsi_rules.proofs.general.ListLemmas.{any_in_range, flat_map_in_range, list_all-filter, list_all-same, list_any-map, any_filter, any_flat_map, filter-flat_map, map-flat_map, filter-map, filtered_among}
 use Rattle.std.proofs.lemmas.List.Elements.{filter_map-append}
 use Rattle.std.proofs.Math.ListN.{get_or-map}
 use Rattle.iscsi_wire.specs.declared.reply.Reply.TheVariants.{Logout}
@@ -24,14 +24,14 @@ use Rattle.iscsi_rules.specs.rules.Execution.{unfinished}
 use Rattle.iscsi_rules.specs.rules.Logout.{live_of_units, is_open, is_last_open, taken_out, parting, end_session, close_conn}
 use Rattle.iscsi_rules.specs.rules.Management.{may_wait}
 use Rattle.iscsi_rules.specs.rules.Run.{effects_of_mark, effects_of_item, newly_enabled, stat_sn_of}
-use Rattle.iscsi_rules.proofs.MomentLemmas.{enables}
+use Rattle.iscsi_rules.proofs.promises.MomentLemmas.{enables}
 use Rattle.iscsi_session.proofs.AgreeLemmas.{RepliesAgree-sent, CommandsAgree-left, units_live}
-use Rattle.iscsi_rules.proofs.BoolLemmas.{or_false, and_false, alike, alike_same}
-use Rattle.iscsi_rules.proofs.ApartLemmas.{eq_sym, unamong-filter}
-use Rattle.iscsi_rules.proofs.DeliveryLemmas.{IsQuiet}
-use Rattle.iscsi_rules.proofs.CommandItems.{LeavesSome, live_in-left, among_passing, any_in_units, enters_only, leaves_only}
-use Rattle.iscsi_rules.proofs.EnabledItems.{EnabledSoFar-left}
-use Rattle.iscsi_rules.proofs.ClosingItems.{closed-same, closing_marks, quiet-closing, untouched-closing, untouched-emptied, emptied_any, emptied_sends, emptied_shown, emptied_waits, is_nil, last_is, left_any, left_sends, left_shown, left_waits, nil_is}
+use Rattle.iscsi_rules.proofs.general.BoolLemmas.{or_false, and_false, alike, alike_same}
+use Rattle.iscsi_rules.proofs.traces.ApartLemmas.{eq_sym, unamong-filter}
+use Rattle.iscsi_rules.proofs.traces.DeliveryLemmas.{IsQuiet}
+use Rattle.iscsi_rules.proofs.items.CommandItems.{LeavesSome, live_in-left, among_passing, any_in_units, enters_only, leaves_only}
+use Rattle.iscsi_rules.proofs.items.EnabledItems.{EnabledSoFar-left}
+use Rattle.iscsi_rules.proofs.items.ClosingItems.{closed-same, closing_marks, quiet-closing, untouched-closing, untouched-emptied, emptied_any, emptied_sends, emptied_shown, emptied_waits, is_nil, last_is, left_any, left_sends, left_shown, left_waits, nil_is}
 use Rattle.iscsi_session.proofs.ExecutionLemmas.{Begun, Follows}
 use Rattle.iscsi_session.proofs.ExecutionLemmas.{WindowAgrees-fewer, numbered_live, gone_tickets, leaving_shown, SetLeft, set_left}
 use Rattle.iscsi_session.proofs.LoggedOutLemmas.{Keeps, left_keeps}

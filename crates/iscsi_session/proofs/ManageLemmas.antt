@@ -15,9 +15,9 @@ use Rattle.iscsi_session.specs.declared.session.waiting.Waiting.{Waiting}
 use Rattle.iscsi_rules.specs.rules.Settings.{is_known}
 use Rattle.iscsi_session.specs.private.Standing.{Core}
 use Rattle.iscsi_session.specs.private.Steps.{waiting_in, command_entered, ungiven, owed}
-use Rattle.iscsi_rules.proofs.BoolLemmas.{and_parts}
-use Rattle.iscsi_rules.proofs.ListLemmas.{count_by-map, count_by-push, fewer_counted}
-use Rattle.iscsi_rules.proofs.SetLemmas.{ungiven_given}
+use Rattle.iscsi_rules.proofs.general.BoolLemmas.{and_parts}
+use Rattle.iscsi_rules.proofs.general.ListLemmas.{count_by-map, count_by-push, fewer_counted}
+use Rattle.iscsi_rules.proofs.traces.SetLemmas.{ungiven_given}
 use Rattle.iscsi_session.proofs.KeptLemmas.{ungiven_in-set}
 
 -- ---- how many functions wait

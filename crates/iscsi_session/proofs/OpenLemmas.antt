@@ -10,12 +10,12 @@ use Rattle.iscsi_rules.specs.rules.Trace.{Trace, first_of, held, live}
 use Rattle.iscsi_rules.specs.rules.Run.{trace_of}
 use Rattle.iscsi_session.specs.promises.Bounds.{held_count, effect_bound_of}
 use Rattle.iscsi_session.specs.private.Standing.{Core, Settled, StandsFor, place_of, is_held, stat_sn_on, kept, arrival_waiting}
-use Rattle.iscsi_rules.proofs.EnabledItems.{EnabledSoFar-none}
-use Rattle.iscsi_rules.proofs.HeldLemmas.{unreceived_unheld}
-use Rattle.iscsi_rules.proofs.ClosingItems.{all_open}
-use Rattle.iscsi_rules.proofs.CountLemmas.{count_places}
-use Rattle.iscsi_rules.proofs.PlaceLemmas.{nothing_at}
-use Rattle.iscsi_rules.proofs.SetLemmas.{set_opened}
+use Rattle.iscsi_rules.proofs.items.EnabledItems.{EnabledSoFar-none}
+use Rattle.iscsi_rules.proofs.traces.HeldLemmas.{unreceived_unheld}
+use Rattle.iscsi_rules.proofs.items.ClosingItems.{all_open}
+use Rattle.iscsi_rules.proofs.general.CountLemmas.{count_places}
+use Rattle.iscsi_rules.proofs.general.PlaceLemmas.{nothing_at}
+use Rattle.iscsi_rules.proofs.traces.SetLemmas.{set_opened}
 use Rattle.iscsi_session.proofs.AgreeLemmas.{settled_expected}
 use Rattle.std.proofs.lemmas.Bool.Decides.{nat_tests}
 

@@ -7,7 +7,7 @@ use Rattle.iscsi_tasks.specs.Sets.{Members, opened}
 use Rattle.iscsi_commands.specs.declared.live.Live.{Live}
 use Rattle.iscsi_session.specs.private.Standing.{Match, tickets_of, tickets_in}
 use Rattle.iscsi_session.specs.private.Steps.{ungiven, ungiven_in, owed}
-use Rattle.iscsi_rules.proofs.NumberLemmas.{one_unit}
+use Rattle.iscsi_rules.proofs.general.NumberLemmas.{one_unit}
 
 -- those of a unit, and those of later units
 unit_and_later : (u : ℕ) (lives : List Live) → count_by (λ l. l.unit == u) lives + count_by (λ l. nat_le (u + 1) l.unit) lives ≤ count_by (λ l. nat_le u l.unit) lives

@@ -10,22 +10,22 @@ use Rattle.iscsi_rules.specs.rules.Run.{after_event, run_of}
 use Rattle.iscsi_session.specs.private.Standing.{Core, Settled, StandsFor}
 use Rattle.iscsi_session.specs.private.Steps.{KeepsPace}
 use Rattle.iscsi_rules.specs.promises.Flow.{HasOneMore, Flows, FlowsThrough}
-use Rattle.iscsi_rules.proofs.FlowItems.{exp_stays}
+use Rattle.iscsi_rules.proofs.traces.FlowItems.{exp_stays}
 use Rattle.iscsi_session.proofs.WindowParts.{no_place}
 use Rattle.iscsi_session.proofs.AgreeLemmas.{settled_expected, settled_max}
 use Rattle.iscsi_rules.specs.promises.Executed.{delivered, executed}
 use Rattle.iscsi_rules.specs.promises.Enabling.{EnablesByTheRule}
 use Rattle.iscsi_rules.specs.promises.Closes.{ClosesHoldIn}
 use Rattle.iscsi_rules.specs.promises.Promises.{KeepsPromises}
-use Rattle.iscsi_rules.proofs.DeliveryLemmas.{log_delivers}
-use Rattle.iscsi_rules.proofs.MomentLemmas.{log_effects, rule_means}
-use Rattle.iscsi_rules.proofs.AbortTheorem.{aborts_hold_in}
-use Rattle.iscsi_rules.proofs.CloseTheorem.{closes_hold_in}
-use Rattle.iscsi_rules.proofs.LifeTheorem.{starts_once}
-use Rattle.iscsi_rules.proofs.AnswerTheorem.{answers_once_in}
-use Rattle.iscsi_rules.proofs.NumberingLemmas.{counts_replies}
-use Rattle.iscsi_rules.proofs.OrderRuns.{keeps_order}
-use Rattle.iscsi_rules.proofs.MeaningTheorem.{means_what_it_says}
+use Rattle.iscsi_rules.proofs.traces.DeliveryLemmas.{log_delivers}
+use Rattle.iscsi_rules.proofs.promises.MomentLemmas.{log_effects, rule_means}
+use Rattle.iscsi_rules.proofs.promises.AbortTheorem.{aborts_hold_in}
+use Rattle.iscsi_rules.proofs.promises.CloseTheorem.{closes_hold_in}
+use Rattle.iscsi_rules.proofs.promises.LifeTheorem.{starts_once}
+use Rattle.iscsi_rules.proofs.promises.AnswerTheorem.{answers_once_in}
+use Rattle.iscsi_rules.proofs.promises.NumberingLemmas.{counts_replies}
+use Rattle.iscsi_rules.proofs.promises.OrderRuns.{keeps_order}
+use Rattle.iscsi_rules.proofs.promises.MeaningTheorem.{means_what_it_says}
 use Rattle.std.proofs.lemmas.Bool.Decides.{nat_tests}
 
 -- ==== arrived numbers and the window, from event to event

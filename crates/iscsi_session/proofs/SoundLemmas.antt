@@ -12,16 +12,16 @@ use Rattle.iscsi_rules.specs.rules.Management.{may_wait}
 use Rattle.iscsi_session.specs.private.Standing.{is_place_known, Match}
 use Rattle.iscsi_session.specs.private.Steps.{count_reply, AreCounted, is_numbered, set_staying, is_gone, staying, finished_by}
 use Rattle.iscsi_session.specs.private.Invariant.{Inner, IsWindowSound, AreCommandsSound, AreFunctionsSound, IsSessionSound}
-use Rattle.iscsi_rules.proofs.ListLemmas.{count_by-push, list_all-filter, fewer_counted}
+use Rattle.iscsi_rules.proofs.general.ListLemmas.{count_by-push, list_all-filter, fewer_counted}
 use Rattle.iscsi_session.proofs.ListLemmas.{list_all-push, are_known-replied, are_places_known-replied}
-use Rattle.iscsi_rules.proofs.TraceLemmas.{weaker}
-use Rattle.iscsi_rules.proofs.NumberLemmas.{later_event}
+use Rattle.iscsi_rules.proofs.traces.TraceLemmas.{weaker}
+use Rattle.iscsi_rules.proofs.general.NumberLemmas.{later_event}
 use Rattle.iscsi_session.proofs.WindowLemmas.{Changed, Advanced}
 use Rattle.iscsi_session.proofs.CountLemmas.{length-replied, AreCounted-replied}
 use Rattle.iscsi_session.proofs.KeptLemmas.{ascending-push, within-push, ascending-kept}
 use Rattle.std.proofs.lemmas.Bool.Decides.{nat_tests}
 use Rattle.iscsi_tasks.specs.declared.task.Task.{Task}
-use Rattle.iscsi_rules.proofs.PlaceLemmas.{written}
+use Rattle.iscsi_rules.proofs.general.PlaceLemmas.{written}
 use Rattle.iscsi_session.proofs.KeptLemmas.{Match-staying}
 
 -- ---- the window

@@ -5,7 +5,7 @@ use Rattle.std.proofs.lemmas.Bool.{eqb-true}
 use Rattle.std.proofs.lemmas.List.Elements.{All-head, All-tail}
 use Rattle.iscsi_commands.specs.declared.live.Live.{Live}
 use Rattle.iscsi_commands.specs.Commands.{AreTagsApart}
-use Rattle.iscsi_rules.proofs.BoolLemmas.{and_false}
+use Rattle.iscsi_rules.proofs.general.BoolLemmas.{and_false}
 
 -- some command passes just where one is found
 pub any_found : (q : Live → Bool) (lives : List Live) → list_any q lives ≡ is_some (find q lives)

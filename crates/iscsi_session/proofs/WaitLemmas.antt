@@ -9,10 +9,10 @@ use Rattle.iscsi_rules.specs.rules.Settings.{Setting}
 use Rattle.iscsi_rules.specs.rules.Trace.{Arrival, Trace, waiting}
 use Rattle.iscsi_rules.specs.rules.Items.{function_item, functions_at}
 use Rattle.iscsi_session.specs.private.Standing.{arrival_waiting}
-use Rattle.iscsi_rules.proofs.ListLemmas.{filter-map}
-use Rattle.iscsi_rules.proofs.PlaceLemmas.{position-cons}
-use Rattle.iscsi_rules.proofs.TraceLemmas.{filter-same}
-use Rattle.iscsi_rules.proofs.WaitingItems.{first_function, waits_itself}
+use Rattle.iscsi_rules.proofs.general.ListLemmas.{filter-map}
+use Rattle.iscsi_rules.proofs.general.PlaceLemmas.{position-cons}
+use Rattle.iscsi_rules.proofs.traces.TraceLemmas.{filter-same}
+use Rattle.iscsi_rules.proofs.items.WaitingItems.{first_function, waits_itself}
 
 -- the functions that a session finds for the next number are those of the number
 number_test : (first turned : ℕ) (w : Waiting) → ((arrival_waiting first w).number == number_of_first first + turned) ≡ (w.turn == turned)

@@ -16,10 +16,10 @@ use Rattle.iscsi_window.specs.declared.answer.Place.TheVariants.{Inside, Outside
 use Rattle.iscsi_window.specs.Windows.{Arrived, number_expected, room_of, at_place, advanced, advanced_if, offer_at, offer_to, place_in, IsInside, held_at, is_received_at, is_next, received_at, offered_in, voided, emptied, emptied_if, with_place}
 use Rattle.iscsi_rules.specs.rules.Settings.{is_known}
 use Rattle.iscsi_session.specs.private.Invariant.{IsWindowSound}
-use Rattle.iscsi_rules.proofs.PlaceLemmas.{all_set, all_shift, some_within}
-use Rattle.iscsi_rules.proofs.CountLemmas.{count_replaced, count_set, count_shift}
-use Rattle.iscsi_rules.proofs.BoolLemmas.{and_parts, not_true}
-use Rattle.iscsi_rules.proofs.ListLemmas.{is_none}
+use Rattle.iscsi_rules.proofs.general.PlaceLemmas.{all_set, all_shift, some_within}
+use Rattle.iscsi_rules.proofs.general.CountLemmas.{count_replaced, count_set, count_shift}
+use Rattle.iscsi_rules.proofs.general.BoolLemmas.{and_parts, not_true}
+use Rattle.iscsi_rules.proofs.general.ListLemmas.{is_none}
 
 -- ---- a request that is held
 

@@ -12,15 +12,15 @@ use Rattle.std.proofs.lemmas.Grind.{elements, get_or-set_at}
 use Rattle.iscsi_wire.specs.Fields.{cmd_sn}
 use Rattle.iscsi_window.specs.Windows.{Arrived, number_expected, room_of, at_place, with_place, with_unfinished, IsInside, place_in, is_received_at, voided, emptied}
 use Rattle.iscsi_rules.specs.rules.Execution.{exp_of}
-use Rattle.iscsi_rules.proofs.BoolLemmas.{or_none, or_second, or_false}
-use Rattle.iscsi_rules.proofs.Missing.{expected_is, expected_low, expected_gone}
-use Rattle.iscsi_rules.proofs.HeldLemmas.{held-delivered, admitted-number, admitted-cases, held-admits, held-here, held-number, held-turned, request_at-turned, admitted_of_held, held_unemptied, received-admits, request_at-admits, held_received, unreceived_unheld}
-use Rattle.iscsi_rules.proofs.DeliveryLemmas.{held-quiet, IsQuiet, same_range, received-quiet, executed_below-quiet, delivered-quiet, admitted-quiet, executed_below-more}
-use Rattle.iscsi_rules.proofs.PlaceLemmas.{has_first, last_none}
+use Rattle.iscsi_rules.proofs.general.BoolLemmas.{or_none, or_second, or_false}
+use Rattle.iscsi_rules.proofs.general.Missing.{expected_is, expected_low, expected_gone}
+use Rattle.iscsi_rules.proofs.traces.HeldLemmas.{held-delivered, admitted-number, admitted-cases, held-admits, held-here, held-number, held-turned, request_at-turned, admitted_of_held, held_unemptied, received-admits, request_at-admits, held_received, unreceived_unheld}
+use Rattle.iscsi_rules.proofs.traces.DeliveryLemmas.{held-quiet, IsQuiet, same_range, received-quiet, executed_below-quiet, delivered-quiet, admitted-quiet, executed_below-more}
+use Rattle.iscsi_rules.proofs.general.PlaceLemmas.{has_first, last_none}
 use Rattle.std.proofs.lemmas.Bool.Decides.{nat_tests}
 use Rattle.std.specs.List.{list_any}
 use Rattle.iscsi_window.specs.declared.answer.Place.TheVariants.{Inside}
-use Rattle.iscsi_rules.proofs.EmptyingMarks.{EmptiesOne, VoidsOne, admitted-empties, admitted-voids, emptied-empties, empties-one, held-gone, held-other, held-voids, received-empties, received-voids, request_at-empties, request_at-voids, voids-one}
+use Rattle.iscsi_rules.proofs.items.EmptyingMarks.{EmptiesOne, VoidsOne, admitted-empties, admitted-voids, emptied-empties, empties-one, held-gone, held-other, held-voids, received-empties, received-voids, request_at-empties, request_at-voids, voids-one}
 
 -- the window keeps the same of each number
 pub place_of-quiet : (item : List Mark) (t : Trace) (n : ℕ) → IsQuiet item → place_of (item ∷ t) n ≡ place_of t n

@@ -14,11 +14,11 @@ use Rattle.iscsi_rules.specs.rules.Trace.{Arrival, Command, Trace}
 use Rattle.iscsi_rules.specs.rules.Run.{effects_of_mark, newly_enabled, effects_of_item, trace_of, run_of, next_entry}
 use Rattle.iscsi_rules.specs.promises.Enabling.{effects_so_far, effects_in}
 use Rattle.iscsi_rules.specs.promises.Lives.{StartsOnce, is_life, life_of}
-use Rattle.iscsi_rules.proofs.MomentLemmas.{log_effects}
-use Rattle.iscsi_rules.proofs.Forms.{Start, AtTurn, AtArrival, AfterWaiting, Deeds, marks_done, Form, Ignored, Rejected, Received, Postponed, Completed, Executed, marks_of_form, HasForm, HaveForms}
-use Rattle.iscsi_rules.proofs.FormRuns.{trace_has_forms}
-use Rattle.iscsi_rules.proofs.LifeTheorem.{starts_once}
-use Rattle.iscsi_rules.proofs.RunLemmas.{run_of-push}
+use Rattle.iscsi_rules.proofs.promises.MomentLemmas.{log_effects}
+use Rattle.iscsi_rules.proofs.items.Forms.{Start, AtTurn, AtArrival, AfterWaiting, Deeds, marks_done, Form, Ignored, Rejected, Received, Postponed, Completed, Executed, marks_of_form, HasForm, HaveForms}
+use Rattle.iscsi_rules.proofs.items.FormRuns.{trace_has_forms}
+use Rattle.iscsi_rules.proofs.promises.LifeTheorem.{starts_once}
+use Rattle.iscsi_rules.proofs.traces.RunLemmas.{run_of-push}
 use Rattle.iscsi_threads.specs.declared.job.Job.{Job}
 use Rattle.iscsi_threads.specs.Desks.{nothing, jobs_from, known_after}
 use Rattle.iscsi_threads.specs.Journal.{jobs_of}

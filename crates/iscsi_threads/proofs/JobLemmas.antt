@@ -12,7 +12,7 @@ use Rattle.iscsi_rules.specs.declared.effect.Effect.{Effect}
 use Rattle.iscsi_rules.specs.declared.effect.Effect.TheVariants.{Deliver, Immediate, Enter, Enable, Leave}
 use Rattle.iscsi_rules.specs.promises.Enabling.{is_enable}
 use Rattle.iscsi_rules.specs.promises.Lives.{names_ticket, life_of, ends_in, goes_on_in, is_life}
-use Rattle.iscsi_rules.proofs.PlaceLemmas.{position-cons}
+use Rattle.iscsi_rules.proofs.general.PlaceLemmas.{position-cons}
 use Rattle.iscsi_threads.specs.declared.job.Job.{Job}
 use Rattle.iscsi_threads.specs.Desks.{Known, nothing, is_for, without, job_for, entered, after_effect, job_at, listed, jobs_from, known_after}
 use Rattle.iscsi_threads.specs.Journal.{jobs_of}

@@ -16,7 +16,7 @@ use Rattle.iscsi_rules.specs.rules.Run.{run_of, next_entry}
 use Rattle.iscsi_rules.specs.promises.Enabling.{effects_in}
 use Rattle.iscsi_rules.specs.rules.Agenda.{belongs}
 use Rattle.iscsi_session.specs.promises.Refusals.{refusal_of, RefusesAs}
-use Rattle.iscsi_rules.proofs.RunLemmas.{run_of-push}
+use Rattle.iscsi_rules.proofs.traces.RunLemmas.{run_of-push}
 use Rattle.iscsi_threads.specs.declared.job.Job.{Job}
 use Rattle.iscsi_threads.specs.Ports.{Answer}
 use Rattle.iscsi_threads.specs.Desks.{Known, nothing, jobs_from, known_after}

@@ -1,4 +1,4 @@
-use Rattle.iscsi_ffi_law.proofs.Arrivals.{arrives_alike}
+use Rattle.iscsi_ffi_law.proofs.arrivals.Arrivals.{arrives_alike}
 use Rattle.iscsi_ffi_law.proofs.laws.arrives_law.Goals as goal
 
 pub returns : goal.returns

@@ -1,4 +1,4 @@
-use Rattle.iscsi_ffi_law.proofs.Quiet.{cleared_alike}
+use Rattle.iscsi_ffi_law.proofs.calls.Quiet.{cleared_alike}
 use Rattle.iscsi_ffi_law.proofs.laws.cleared_law.Goals as goal
 
 pub returns : goal.returns

@@ -1,4 +1,4 @@
-use Rattle.iscsi_ffi_law.proofs.Resetting.{clears_alike}
+use Rattle.iscsi_ffi_law.proofs.resets.Resetting.{clears_alike}
 use Rattle.iscsi_ffi_law.proofs.laws.clears_law.Goals as goal
 
 pub returns : goal.returns

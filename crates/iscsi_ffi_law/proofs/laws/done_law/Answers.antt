@@ -1,4 +1,4 @@
-use Rattle.iscsi_ffi_law.proofs.DoneCalls.{done_alike, stopped_alike}
+use Rattle.iscsi_ffi_law.proofs.completions.DoneCalls.{done_alike, stopped_alike}
 use Rattle.iscsi_ffi_law.proofs.laws.done_law.Goals as goal
 
 pub returns-clause-alike : goal.returns-clause-alike

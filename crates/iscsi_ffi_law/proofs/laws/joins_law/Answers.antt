@@ -1,4 +1,4 @@
-use Rattle.iscsi_ffi_law.proofs.Quiet.{joins_alike}
+use Rattle.iscsi_ffi_law.proofs.calls.Quiet.{joins_alike}
 use Rattle.iscsi_ffi_law.proofs.laws.joins_law.Goals as goal
 
 pub returns : goal.returns

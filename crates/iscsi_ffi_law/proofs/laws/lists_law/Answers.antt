@@ -1,4 +1,4 @@
-use Rattle.iscsi_ffi_law.proofs.AllCalls.{calls_alike}
+use Rattle.iscsi_ffi_law.proofs.calls.AllCalls.{calls_alike}
 use Rattle.iscsi_ffi_law.proofs.laws.lists_law.Goals as goal
 
 pub returns : goal.returns

@@ -1,5 +1,5 @@
-use Rattle.iscsi_ffi_law.proofs.Losing.{loses_closed}
-use Rattle.iscsi_ffi_law.proofs.LossLaw.{loses_open}
+use Rattle.iscsi_ffi_law.proofs.losses.Losing.{loses_closed}
+use Rattle.iscsi_ffi_law.proofs.losses.LossLaw.{loses_open}
 use Rattle.iscsi_ffi_law.proofs.laws.loses_law.Goals as goal
 
 pub returns-clause-alike : goal.returns-clause-alike

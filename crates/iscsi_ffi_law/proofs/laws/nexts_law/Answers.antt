@@ -1,4 +1,4 @@
-use Rattle.iscsi_ffi_law.proofs.NextCalls.{nexts_alike}
+use Rattle.iscsi_ffi_law.proofs.sending.NextCalls.{nexts_alike}
 use Rattle.iscsi_ffi_law.proofs.laws.nexts_law.Goals as goal
 
 pub returns : goal.returns

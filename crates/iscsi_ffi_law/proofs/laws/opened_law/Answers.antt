@@ -1,4 +1,4 @@
-use Rattle.iscsi_ffi_law.proofs.Opened.{stands_begun}
+use Rattle.iscsi_ffi_law.proofs.calls.Opened.{stands_begun}
 use Rattle.iscsi_ffi_law.proofs.laws.opened_law.Goals as goal
 
 pub returns : goal.returns

@@ -1,4 +1,4 @@
-use Rattle.iscsi_ffi_law.proofs.Stopping.{stops_alike}
+use Rattle.iscsi_ffi_law.proofs.commands.Stopping.{stops_alike}
 use Rattle.iscsi_ffi_law.proofs.laws.stops_law.Goals as goal
 
 pub returns : goal.returns

@@ -1,4 +1,4 @@
-use Rattle.iscsi_ffi_law.proofs.Writing.{writes_alike}
+use Rattle.iscsi_ffi_law.proofs.sending.Writing.{writes_alike}
 use Rattle.iscsi_ffi_law.proofs.laws.writes_law.Goals as goal
 
 pub returns : goal.returns

@@ -1,4 +1,4 @@
-use Rattle.iscsi_ffi_law.proofs.FitAlike.{all_alike}
+use Rattle.iscsi_ffi_law.proofs.premises.FitAlike.{all_alike}
 use Rattle.iscsi_ffi_law.proofs.sides.alike_law.Goals as goal
 
 pub returns : goal.returns

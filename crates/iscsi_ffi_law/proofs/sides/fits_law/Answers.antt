@@ -1,4 +1,4 @@
-use Rattle.iscsi_ffi_law.proofs.FitAll.{all_fit}
+use Rattle.iscsi_ffi_law.proofs.premises.FitAll.{all_fit}
 use Rattle.iscsi_ffi_law.proofs.sides.fits_law.Goals as goal
 
 pub returns : goal.returns

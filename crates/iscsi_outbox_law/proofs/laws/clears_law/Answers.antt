@@ -1,4 +1,4 @@
-use Rattle.iscsi_outbox_law.proofs.Clears.{clears_stands}
+use Rattle.iscsi_outbox_law.proofs.calls.Clears.{clears_stands}
 use Rattle.iscsi_outbox_law.proofs.laws.clears_law.Goals as goal
 
 pub returns : goal.returns

@@ -1,4 +1,4 @@
-use Rattle.iscsi_outbox_law.proofs.Hearing.{hears_stands}
+use Rattle.iscsi_outbox_law.proofs.arrivals.Hearing.{hears_stands}
 use Rattle.iscsi_outbox_law.proofs.laws.hears_law.Goals as goal
 
 pub returns : goal.returns

@@ -1,6 +1,6 @@
 use Rattle.std.proofs.Common.{ap}
 use Rattle.iscsi_outbox_steps.specs.Run.{Joined}
-use Rattle.iscsi_outbox_law.proofs.Joins.{joins_answered, joins_stands}
+use Rattle.iscsi_outbox_law.proofs.connections.Joins.{joins_answered, joins_stands}
 use Rattle.iscsi_outbox_law.proofs.laws.joins_law.Goals as goal
 
 pub returns-clause-answer : goal.returns-clause-answer

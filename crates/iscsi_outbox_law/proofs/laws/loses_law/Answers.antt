@@ -1,4 +1,4 @@
-use Rattle.iscsi_outbox_law.proofs.Losing.{loses_stands}
+use Rattle.iscsi_outbox_law.proofs.connections.Losing.{loses_stands}
 use Rattle.iscsi_outbox_law.proofs.laws.loses_law.Goals as goal
 
 pub returns : goal.returns

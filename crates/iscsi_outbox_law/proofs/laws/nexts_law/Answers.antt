@@ -1,7 +1,7 @@
 use Rattle.std.proofs.Common.{ap}
 use Rattle.iscsi_outbox_steps.specs.Run.{Gives}
-use Rattle.iscsi_outbox_law.proofs.Giving.{gives_answered}
-use Rattle.iscsi_outbox_law.proofs.NextAfter.{nexts_stands}
+use Rattle.iscsi_outbox_law.proofs.sending.Giving.{gives_answered}
+use Rattle.iscsi_outbox_law.proofs.sending.NextAfter.{nexts_stands}
 use Rattle.iscsi_outbox_law.proofs.laws.nexts_law.Goals as goal
 
 pub returns-clause-answer : goal.returns-clause-answer

@@ -1,4 +1,4 @@
-use Rattle.iscsi_outbox_law.proofs.Opened.{stands_opened}
+use Rattle.iscsi_outbox_law.proofs.calls.Opened.{stands_opened}
 use Rattle.iscsi_outbox_law.proofs.laws.opened_law.Goals as goal
 
 pub returns : goal.returns

@@ -1,6 +1,6 @@
 use Rattle.std.proofs.Common.{ap}
 use Rattle.iscsi_outbox_steps.specs.Run.{Put}
-use Rattle.iscsi_outbox_law.proofs.PutStands.{puts_answered, puts_stands}
+use Rattle.iscsi_outbox_law.proofs.queues.PutStands.{puts_answered, puts_stands}
 use Rattle.iscsi_outbox_law.proofs.laws.puts_law.Goals as goal
 
 pub returns-clause-answer : goal.returns-clause-answer

@@ -1,4 +1,4 @@
-use Rattle.iscsi_outbox_law.proofs.Waiting.{may_take_is, max_shown_is}
+use Rattle.iscsi_outbox_law.proofs.queues.Waiting.{may_take_is, max_shown_is}
 use Rattle.iscsi_outbox_law.proofs.laws.room_law.Goals as goal
 
 pub returns-clause-may : goal.returns-clause-may

@@ -1,4 +1,4 @@
-use Rattle.iscsi_outbox_law.proofs.Alike.{answers_alike}
+use Rattle.iscsi_outbox_law.proofs.calls.Alike.{answers_alike}
 use Rattle.iscsi_outbox_law.proofs.laws.steps_law.Goals as goal
 
 pub returns : goal.returns

@@ -1,6 +1,6 @@
 use Rattle.std.proofs.Common.{ap}
 use Rattle.iscsi_outbox_steps.specs.Run.{Stopped}
-use Rattle.iscsi_outbox_law.proofs.Stops.{stops_answered, stops_stands}
+use Rattle.iscsi_outbox_law.proofs.commands.Stops.{stops_answered, stops_stands}
 use Rattle.iscsi_outbox_law.proofs.laws.stops_law.Goals as goal
 
 pub returns-clause-answer : goal.returns-clause-answer

@@ -1,4 +1,4 @@
-use Rattle.iscsi_outbox_law.proofs.Hearing.{writes_stands}
+use Rattle.iscsi_outbox_law.proofs.arrivals.Hearing.{writes_stands}
 use Rattle.iscsi_outbox_law.proofs.laws.writes_law.Goals as goal
 
 pub returns : goal.returns

@@ -1,5 +1,5 @@
-use Rattle.iscsi_outbox_rules.proofs.NumberTheorem.{none_unjoined, none_lost}
-use Rattle.iscsi_outbox_rules.proofs.ClosedTheorem.{none_behind}
+use Rattle.iscsi_outbox_rules.proofs.numbers.NumberTheorem.{none_unjoined, none_lost}
+use Rattle.iscsi_outbox_rules.proofs.closes.ClosedTheorem.{none_behind}
 use Rattle.iscsi_outbox_rules.proofs.laws.closed_law.Goals as goal
 
 pub returns-clause-behind : goal.returns-clause-behind

@@ -1,4 +1,4 @@
-use Rattle.iscsi_outbox_rules.proofs.DeadlockTheorem.{no_deadlock}
+use Rattle.iscsi_outbox_rules.proofs.progress.DeadlockTheorem.{no_deadlock}
 use Rattle.iscsi_outbox_rules.proofs.laws.deadlock_law.Goals as goal
 
 pub returns : goal.returns

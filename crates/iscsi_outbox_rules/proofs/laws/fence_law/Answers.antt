@@ -1,6 +1,6 @@
-use Rattle.iscsi_outbox_rules.proofs.FenceTheorem.{fence_before, fence_behind}
-use Rattle.iscsi_outbox_rules.proofs.FenceOrder.{fence_in_order}
-use Rattle.iscsi_outbox_rules.proofs.PlaceTheorem.{fence_first}
+use Rattle.iscsi_outbox_rules.proofs.fences.FenceTheorem.{fence_before, fence_behind}
+use Rattle.iscsi_outbox_rules.proofs.fences.FenceOrder.{fence_in_order}
+use Rattle.iscsi_outbox_rules.proofs.order.PlaceTheorem.{fence_first}
 use Rattle.iscsi_outbox_rules.proofs.laws.fence_law.Goals as goal
 
 pub returns-clause-before : goal.returns-clause-before

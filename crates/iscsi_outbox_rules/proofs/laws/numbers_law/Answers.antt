@@ -1,5 +1,5 @@
-use Rattle.iscsi_outbox_rules.proofs.NumberTheorem.{counts_stat_sns, shows_exp}
-use Rattle.iscsi_outbox_rules.proofs.OnwardTheorem.{goes_onward}
+use Rattle.iscsi_outbox_rules.proofs.numbers.NumberTheorem.{counts_stat_sns, shows_exp}
+use Rattle.iscsi_outbox_rules.proofs.numbers.OnwardTheorem.{goes_onward}
 use Rattle.iscsi_outbox_rules.proofs.laws.numbers_law.Goals as goal
 
 pub returns-clause-stat_sns : goal.returns-clause-stat_sns

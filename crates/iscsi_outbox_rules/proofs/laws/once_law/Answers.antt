@@ -1,6 +1,6 @@
-use Rattle.iscsi_outbox_rules.proofs.MomentTheorem.{enters_in_order}
-use Rattle.iscsi_outbox_rules.proofs.InOrderTheorem.{goes_in_order}
-use Rattle.iscsi_outbox_rules.proofs.OnceTheorem.{sends_what_was_sent, goes_once}
+use Rattle.iscsi_outbox_rules.proofs.order.MomentTheorem.{enters_in_order}
+use Rattle.iscsi_outbox_rules.proofs.order.InOrderTheorem.{goes_in_order}
+use Rattle.iscsi_outbox_rules.proofs.order.OnceTheorem.{sends_what_was_sent, goes_once}
 use Rattle.iscsi_outbox_rules.proofs.laws.once_law.Goals as goal
 
 pub returns-clause-sent : goal.returns-clause-sent

@@ -1,6 +1,6 @@
-use Rattle.iscsi_outbox_rules.proofs.CommandTheorem.{keeps_command_order}
-use Rattle.iscsi_outbox_rules.proofs.OwnTheorem.{keeps_connection_order}
-use Rattle.iscsi_outbox_rules.proofs.ResponseTheorem.{sends_all_before}
+use Rattle.iscsi_outbox_rules.proofs.commands.CommandTheorem.{keeps_command_order}
+use Rattle.iscsi_outbox_rules.proofs.order.OwnTheorem.{keeps_connection_order}
+use Rattle.iscsi_outbox_rules.proofs.commands.ResponseTheorem.{sends_all_before}
 use Rattle.iscsi_outbox_rules.proofs.laws.order_law.Goals as goal
 
 pub returns-clause-of_command : goal.returns-clause-of_command

@@ -1,5 +1,5 @@
-use Rattle.iscsi_outbox_rules.proofs.ScopeTheorem.{stops_before}
-use Rattle.iscsi_outbox_rules.proofs.DueTheorem.{arrives_before}
+use Rattle.iscsi_outbox_rules.proofs.aborts.ScopeTheorem.{stops_before}
+use Rattle.iscsi_outbox_rules.proofs.aborts.DueTheorem.{arrives_before}
 use Rattle.iscsi_outbox_rules.proofs.laws.still_law.Goals as goal
 
 pub returns : goal.returns

@@ -11,8 +11,8 @@ use Rattle.iscsi_rules.specs.rules.Run.{run_of}
 use Rattle.iscsi_rules.specs.promises.Flow.{FlowsThrough}
 use Rattle.iscsi_session.specs.promises.Refusals.{refusal_of, refusal_of_options, first_refusal}
 use Rattle.iscsi_session.specs.private.Standing.{StandsFor}
-use Rattle.iscsi_rules.proofs.RunLemmas.{run_of-push}
-use Rattle.iscsi_rules.proofs.FlowItems.{FlowsThrough-push}
+use Rattle.iscsi_rules.proofs.traces.RunLemmas.{run_of-push}
+use Rattle.iscsi_rules.proofs.traces.FlowItems.{FlowsThrough-push}
 use Rattle.iscsi_session.proofs.RefusalLemmas.{taken_none, refused_cases, refusal_more, refusal_here, options_refused, event_refused, run_taken}
 use Rattle.iscsi_session.proofs.PromiseLemmas.{promises_kept}
 use Rattle.iscsi_session.proofs.log.run.Goals as goal

@@ -11,9 +11,9 @@ use Rattle.iscsi_session.specs.private.Invariant.{HasRooms, IsWithinLimits, IsSe
 use Rattle.iscsi_session.proofs.CountLemmas.{AreCounted-opened}
 use Rattle.iscsi_session.proofs.OpenLemmas.{Settled-opened}
 use Rattle.iscsi_session.proofs.session.make_on.Goals as goal
-use Rattle.iscsi_rules.proofs.SetLemmas.{set_opened}
-use Rattle.iscsi_rules.proofs.CountLemmas.{none_counted}
-use Rattle.iscsi_rules.proofs.PlaceLemmas.{all_none}
+use Rattle.iscsi_rules.proofs.traces.SetLemmas.{set_opened}
+use Rattle.iscsi_rules.proofs.general.CountLemmas.{none_counted}
+use Rattle.iscsi_rules.proofs.general.PlaceLemmas.{all_none}
 use Rattle.std.proofs.lemmas.List.{length-replicate as so_many}
 
 -- a session that was opened is sound

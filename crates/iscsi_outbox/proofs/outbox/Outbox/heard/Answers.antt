@@ -4,7 +4,7 @@ use Rattle.iscsi_outbox_steps.specs.State.{State, place_of, with_link}
 use Rattle.iscsi_outbox_steps.specs.Steps.{settle, trail}
 use Rattle.iscsi_outbox.proofs.SendLemmas.{place_is}
 use Rattle.iscsi_outbox_rules.specs.rules.Calls.{Hears}
-use Rattle.iscsi_outbox_law.proofs.Called.{keeps, keeps_all}
+use Rattle.iscsi_outbox_law.proofs.calls.Called.{keeps, keeps_all}
 use Rattle.iscsi_outbox.proofs.outbox.Outbox.heard.Goals as goal
 
 pub returns-in-Some-clause-state : goal.returns-in-Some-clause-state

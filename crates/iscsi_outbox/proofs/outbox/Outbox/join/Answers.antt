@@ -1,5 +1,5 @@
 use Rattle.iscsi_outbox_rules.specs.rules.Calls.{Joins}
-use Rattle.iscsi_outbox_law.proofs.Called.{keeps, keeps_all}
+use Rattle.iscsi_outbox_law.proofs.calls.Called.{keeps, keeps_all}
 use Rattle.iscsi_outbox.proofs.outbox.Outbox.join.Goals as goal
 
 pub returns-in-Some-clause-rules : goal.returns-in-Some-clause-rules

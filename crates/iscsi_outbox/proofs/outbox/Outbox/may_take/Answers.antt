@@ -1,4 +1,4 @@
-use Rattle.iscsi_outbox_law.proofs.Called.{may_take_by_rules}
+use Rattle.iscsi_outbox_law.proofs.calls.Called.{may_take_by_rules}
 use Rattle.iscsi_outbox.proofs.outbox.Outbox.may_take.Goals as goal
 
 pub returns-then-saturating_add-room-clause-rules : goal.returns-then-saturating_add-room-clause-rules

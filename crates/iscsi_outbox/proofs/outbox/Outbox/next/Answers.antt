@@ -5,7 +5,7 @@ use Rattle.iscsi_outbox_steps.specs.State.{State, place_of}
 use Rattle.iscsi_outbox_steps.specs.Steps.{Noticed, Waited}
 use Rattle.iscsi_outbox.proofs.ChoiceLemmas.{given_at, given_none, next_at, next_none, nothing_goes, notice_goes, ping_goes, waiting_goes}
 use Rattle.iscsi_outbox_rules.specs.rules.Calls.{Nexts}
-use Rattle.iscsi_outbox_law.proofs.Called.{keeps, keeps_all}
+use Rattle.iscsi_outbox_law.proofs.calls.Called.{keeps, keeps_all}
 use Rattle.iscsi_outbox.proofs.outbox.Outbox.next.Goals as goal
 
 pub hand_out_waiting-requires-clause-open : goal.hand_out_waiting-requires-clause-open

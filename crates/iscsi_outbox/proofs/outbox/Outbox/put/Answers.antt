@@ -1,5 +1,5 @@
 use Rattle.iscsi_outbox_rules.specs.rules.Calls.{Puts}
-use Rattle.iscsi_outbox_law.proofs.Called.{keeps, keeps_all}
+use Rattle.iscsi_outbox_law.proofs.calls.Called.{keeps, keeps_all}
 use Rattle.iscsi_outbox.proofs.outbox.Outbox.put.Goals as goal
 
 pub returns-then-not-is_fit-clause-rules : goal.returns-then-not-is_fit-clause-rules

@@ -3,7 +3,7 @@ use Rattle.iscsi_outbox_steps.specs.State.{State}
 use Rattle.iscsi_tracked.specs.Tracked.{has_place}
 use Rattle.iscsi_outbox.proofs.KnownLemmas.{ticket_has}
 use Rattle.iscsi_outbox_rules.specs.rules.Calls.{Stops}
-use Rattle.iscsi_outbox_law.proofs.Called.{keeps, keeps_all}
+use Rattle.iscsi_outbox_law.proofs.calls.Called.{keeps, keeps_all}
 use Rattle.iscsi_outbox.proofs.outbox.Outbox.stopped.Goals as goal
 
 pub stop-requires : goal.stop-requires

@@ -1,5 +1,5 @@
 use Rattle.iscsi_outbox_rules.specs.rules.Calls.{Takes}
-use Rattle.iscsi_outbox_law.proofs.Called.{keeps, keeps_all}
+use Rattle.iscsi_outbox_law.proofs.calls.Called.{keeps, keeps_all}
 use Rattle.iscsi_outbox.proofs.outbox.Outbox.take.Goals as goal
 
 pub returns-clause-rules : goal.returns-clause-rules

@@ -4,7 +4,7 @@ use Rattle.iscsi_session.specs.private.Standing.{Core}
 use Rattle.iscsi_session.specs.private.Steps.{set_at, all_given}
 use Rattle.iscsi_session.proofs.TellingLemmas.{given_all, told_more, told_all, told_later}
 use Rattle.iscsi_session.proofs.session.Session.announce_all.Goals as goal
-use Rattle.iscsi_rules.proofs.ListLemmas.{range_step}
+use Rattle.iscsi_rules.proofs.general.ListLemmas.{range_step}
 use Rattle.std.proofs.lemmas.Bool.Decides.{nat_tests}
 
 pub loop-unit-preserved : goal.loop-unit-preserved

@@ -5,7 +5,7 @@ use Rattle.iscsi_session.specs.contracts.session.Session.{the_view}
 use Rattle.iscsi_session.specs.private.Standing.{Core, is_held}
 use Rattle.iscsi_session.specs.private.Steps.{Takes}
 use Rattle.iscsi_session.specs.private.Deeds.{turn_of}
-use Rattle.iscsi_rules.proofs.BoolLemmas.{and_first, not_true}
+use Rattle.iscsi_rules.proofs.general.BoolLemmas.{and_first, not_true}
 use Rattle.iscsi_session.proofs.WindowLemmas.{Advanced, advanced_at}
 use Rattle.iscsi_session.proofs.DeedLemmas.{executed_counted}
 use Rattle.iscsi_session.proofs.session.Session.deliver_next.Goals as goal

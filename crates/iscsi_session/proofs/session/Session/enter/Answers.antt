@@ -2,7 +2,7 @@ use Rattle.std.proofs.Common.{rules, w64, refl, All, nat_le, nat_lt, ◌≡◌, 
 use Rattle.std.proofs.lemmas.Bool.Decides.{nat_tests}
 use Rattle.std.proofs.lemmas.List.Sums.{AllPass-from_list_all}
 use Rattle.iscsi_slots.specs.Queued.{Queued}
-use Rattle.iscsi_rules.proofs.PlaceLemmas.{written}
+use Rattle.iscsi_rules.proofs.general.PlaceLemmas.{written}
 use Rattle.std.proofs.lemmas.Int.{to_z-of_z}
 use Rattle.iscsi_wire.specs.declared.request.Request.{Request}
 use Rattle.iscsi_wire.specs.Fields.{is_immediate}

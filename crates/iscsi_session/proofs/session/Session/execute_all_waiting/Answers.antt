@@ -7,7 +7,7 @@ use Rattle.iscsi_session.specs.private.Deeds.{next_waiting, function_taken}
 use Rattle.iscsi_session.proofs.AgendaLemmas.{functions-on, functions-done}
 use Rattle.iscsi_session.proofs.DeedLemmas.{function_stays, pace-function}
 use Rattle.iscsi_session.proofs.session.Session.execute_all_waiting.Goals as goal
-use Rattle.iscsi_rules.proofs.ListLemmas.{is_none}
+use Rattle.iscsi_rules.proofs.general.ListLemmas.{is_none}
 use Rattle.std.proofs.lemmas.Bool.Decides.{nat_tests}
 
 pub loop-preserved : goal.loop-preserved

@@ -14,8 +14,8 @@ use Rattle.iscsi_session.specs.private.Deeds.{facts_by, carried, next_waiting, n
 use Rattle.iscsi_rules.specs.declared.effect.Effect.TheVariants.{Immediate}
 use Rattle.iscsi_session.specs.declared.session.waiting.Waiting.{Waiting}
 use Rattle.iscsi_session.specs.contracts.session.Session.{the_view}
-use Rattle.iscsi_rules.proofs.ListLemmas.{find-passes}
-use Rattle.iscsi_rules.proofs.CountLemmas.{fewer_left}
+use Rattle.iscsi_rules.proofs.general.ListLemmas.{find-passes}
+use Rattle.iscsi_rules.proofs.general.CountLemmas.{fewer_left}
 use Rattle.iscsi_session.proofs.DeedLemmas.{Whole, whole, whole_function, fits_function, carried_stays}
 use Rattle.iscsi_session.proofs.SoundLemmas.{fewer_sound}
 use Rattle.iscsi_session.proofs.session.Session.execute_next_waiting.Goals as goal

@@ -1,6 +1,6 @@
 use Rattle.std.proofs.Common.{◌≡◌, None}
 use Rattle.iscsi_session.specs.private.Deeds.{next_waiting}
-use Rattle.iscsi_rules.proofs.ListLemmas.{is_none}
+use Rattle.iscsi_rules.proofs.general.ListLemmas.{is_none}
 use Rattle.iscsi_session.proofs.AgendaLemmas.{none_wait}
 use Rattle.iscsi_session.proofs.session.Session.execute_waiting.Goals as goal
 use Rattle.iscsi_session.proofs.session.Session.execute_waiting.Goals.{Else-has_due}

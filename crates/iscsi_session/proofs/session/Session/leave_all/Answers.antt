@@ -1,7 +1,7 @@
 use Rattle.std.proofs.Common.{◌≡◌, ◌∙◌, ℕ, arith, length-set, append_assoc}
 use Rattle.iscsi_session.specs.private.Standing.{Core}
 use Rattle.iscsi_session.specs.private.Steps.{commands_left, covers_of}
-use Rattle.iscsi_rules.proofs.ListLemmas.{range_step}
+use Rattle.iscsi_rules.proofs.general.ListLemmas.{range_step}
 use Rattle.iscsi_session.proofs.session.Session.leave_all.Goals as goal
 
 pub loop-unit-preserved : goal.loop-unit-preserved

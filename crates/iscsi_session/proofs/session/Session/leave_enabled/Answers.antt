@@ -4,10 +4,10 @@ use Rattle.iscsi_tasks.specs.Sets.{Members, opened}
 use Rattle.iscsi_commands.specs.declared.live.Live.{Live}
 use Rattle.iscsi_session.specs.private.Standing.{Core}
 use Rattle.iscsi_session.specs.private.Steps.{find_ticket, without_ticket, enabled_in, staying, finished_by, covers_ticket, sets_left, has_covered, ungiven_in, owed}
-use Rattle.iscsi_rules.proofs.BoolLemmas.{and_second}
-use Rattle.iscsi_rules.proofs.ListLemmas.{find-passes}
-use Rattle.iscsi_rules.proofs.TraceLemmas.{weaker}
-use Rattle.iscsi_rules.proofs.CountLemmas.{fewer}
+use Rattle.iscsi_rules.proofs.general.BoolLemmas.{and_second}
+use Rattle.iscsi_rules.proofs.general.ListLemmas.{find-passes}
+use Rattle.iscsi_rules.proofs.traces.TraceLemmas.{weaker}
+use Rattle.iscsi_rules.proofs.general.CountLemmas.{fewer}
 use Rattle.iscsi_session.proofs.FoundLemmas.{found_ticket}
 use Rattle.iscsi_session.proofs.KeptLemmas.{enabled_found, enabled_covered}
 use Rattle.iscsi_session.proofs.KeptLemmas.{ungiven_in-staying, rises, one_live, one_leaves}

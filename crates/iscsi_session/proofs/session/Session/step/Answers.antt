@@ -12,19 +12,19 @@ use Rattle.iscsi_session.specs.private.Steps.{refusal_by, KeepsPace, Handles}
 use Rattle.iscsi_rules.specs.promises.Flow.{Flows, HasOneMore}
 use Rattle.iscsi_rules.specs.rules.Agenda.{items_of}
 use Rattle.iscsi_session.proofs.PromiseLemmas.{Flows-step}
-use Rattle.iscsi_rules.proofs.RunLemmas.{trace_of-push}
+use Rattle.iscsi_rules.proofs.traces.RunLemmas.{trace_of-push}
 use Rattle.iscsi_session.proofs.OwedLemmas.{owed_few}
 use Rattle.iscsi_session.proofs.AgreeLemmas.{settled_numbers}
 use Rattle.iscsi_session.proofs.AgendaLemmas.{Settled-counted, taken_by, refusal_is}
 use Rattle.iscsi_session.proofs.OpenLemmas.{bound_is}
 use Rattle.iscsi_session.proofs.SoundLemmas.{taken_sound}
-use Rattle.iscsi_rules.proofs.AbortTheorem.{aborts_hold_in}
-use Rattle.iscsi_rules.proofs.LifeTheorem.{starts_once}
-use Rattle.iscsi_rules.proofs.AnswerTheorem.{answers_once_in}
-use Rattle.iscsi_rules.proofs.NumberingLemmas.{counts_replies}
-use Rattle.iscsi_rules.proofs.OrderRuns.{keeps_order}
-use Rattle.iscsi_rules.proofs.MeaningTheorem.{means_what_it_says}
-use Rattle.iscsi_rules.proofs.FlowItems.{belong_more}
+use Rattle.iscsi_rules.proofs.promises.AbortTheorem.{aborts_hold_in}
+use Rattle.iscsi_rules.proofs.promises.LifeTheorem.{starts_once}
+use Rattle.iscsi_rules.proofs.promises.AnswerTheorem.{answers_once_in}
+use Rattle.iscsi_rules.proofs.promises.NumberingLemmas.{counts_replies}
+use Rattle.iscsi_rules.proofs.promises.OrderRuns.{keeps_order}
+use Rattle.iscsi_rules.proofs.promises.MeaningTheorem.{means_what_it_says}
+use Rattle.iscsi_rules.proofs.traces.FlowItems.{belong_more}
 use Rattle.iscsi_session.proofs.PromiseLemmas.{stands_delivers, stands_enables, stands_closes}
 use Rattle.iscsi_session.proofs.RefusalLemmas.{taken_belongs}
 use Rattle.iscsi_session.proofs.session.Session.step.Goals as goal

@@ -2,7 +2,7 @@ use Rattle.std.proofs.Common.{◌≡◌, ◌∙◌, ◌<◌, length, get_or, ap,
 use Rattle.std.proofs.lemmas.Bool.{ltb-true}
 use Rattle.std.proofs.lemmas.List.{get_or_default}
 use Rattle.iscsi_tasks.specs.Sets.{Members, opened}
-use Rattle.iscsi_rules.proofs.ListLemmas.{find-passes}
+use Rattle.iscsi_rules.proofs.general.ListLemmas.{find-passes}
 use Rattle.iscsi_session.proofs.KeptLemmas.{one_leaving}
 use Rattle.iscsi_session.proofs.FoundLemmas.{found_ticket}
 use Rattle.iscsi_session.proofs.session.completion.take_enabled.Goals as goal

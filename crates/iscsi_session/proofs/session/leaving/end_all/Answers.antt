@@ -1,7 +1,7 @@
 use Rattle.std.proofs.Common.{◌∙◌, ◌<◌, ◌≤◌, ◌==◌, ℕ, not, List, length, count_by, get_or, append_assoc, ap, sym, arith, rules}
 use Rattle.std.specs.Prelude.{IsSome}
 use Rattle.std.proofs.lemmas.List.{append-nil}
-use Rattle.iscsi_rules.proofs.ListLemmas.{fewer_counted}
+use Rattle.iscsi_rules.proofs.general.ListLemmas.{fewer_counted}
 use Rattle.iscsi_commands.specs.declared.live.Live.{Live}
 use Rattle.iscsi_session.specs.private.Steps.{find_ticket, without_ticket, is_numbered}
 use Rattle.iscsi_session.proofs.KeptLemmas.{ascending-kept}

@@ -3,7 +3,7 @@ use Rattle.iscsi_window.specs.Windows.{Arrived, with_unfinished}
 use Rattle.iscsi_commands.specs.declared.live.Live.{Live}
 use Rattle.iscsi_rules.specs.rules.Settings.{is_known}
 use Rattle.iscsi_session.specs.private.Steps.{without_ticket, is_numbered, finished}
-use Rattle.iscsi_rules.proofs.ListLemmas.{find-passes}
+use Rattle.iscsi_rules.proofs.general.ListLemmas.{find-passes}
 use Rattle.iscsi_session.proofs.CountLemmas.{count-left, some_counted, AreCounted-left}
 use Rattle.iscsi_session.proofs.session.leaving.end_command.Goals as goal
 

@@ -5,7 +5,7 @@ use Rattle.std.proofs.lemmas.List.Edits.{get_or-remove_below, get_or-remove_abov
 use Rattle.std.specs.VecDeque.{deque_capacity}
 use Rattle.iscsi_slots.specs.Queued.{queued}
 use Rattle.iscsi_slots.proofs.SortedLemmas.{remove_is}
-use Rattle.iscsi_rules.proofs.PlaceLemmas.{found_there, found_nowhere}
+use Rattle.iscsi_rules.proofs.general.PlaceLemmas.{found_there, found_nowhere}
 use Rattle.iscsi_session.specs.declared.session.waiting.Waiting.{Waiting}
 use Rattle.iscsi_session.proofs.session.waiting.Waitlist.take_first.Goals as goal
 use Rattle.iscsi_session.proofs.session.waiting.Waitlist.take_first.Goals.{In-Some}

@@ -1,0 +1,24 @@
+-- A request executes: it is answered, its command enters, or it waits.
+pub mod Functions
+pub mod Postponing
+pub mod QuietRequests
+pub mod Walking
+pub mod ReplyQueues
+pub mod ReplyRequests
+pub mod QuietBox
+pub mod QuietSends
+pub mod QuietItems
+pub mod Plain
+pub mod Between
+pub mod Waited
+pub mod Stepping
+pub mod TailOver
+pub mod TailSends
+pub mod TakingOut
+pub mod TailEmpties
+pub mod ReplyPlace
+pub mod TailEnters
+pub mod ItemsGo
+pub mod Framing
+pub mod EnterRequests
+pub mod EnterBox

@@ -1,0 +1,22 @@
+-- What an item of an event does, part by part, in both.
+pub mod TakesPhases
+pub mod TakesQueues
+pub mod TakesLane
+pub mod TakesLeaving
+pub mod TakesLeaves
+pub mod TakesSends
+pub mod TakesClosed
+pub mod TakesAims
+pub mod TakesSending
+pub mod TakesEntering
+pub mod TakesEnters
+pub mod TakesEnabling
+pub mod TakesClosing
+pub mod TakesReady
+pub mod TakesRoom
+pub mod TakesFacts
+pub mod TakesKept
+pub mod TakesParts
+pub mod TakesSent
+pub mod TakesReply
+pub mod TakesItem

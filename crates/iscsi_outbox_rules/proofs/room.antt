@@ -1,0 +1,23 @@
+-- How much there is at once: replies that wait, and commands that are live or owe.
+pub mod PlaceRoom
+pub mod RoomFair
+pub mod RoomSteps
+pub mod RoomMarks
+pub mod RoomLimits
+pub mod RoomTurns
+pub mod RoomStored
+pub mod RoomBound
+pub mod RoomReplies
+pub mod RoomSends
+pub mod RoomTheorem
+pub mod RoomTasks
+pub mod RoomLives
+pub mod RoomOwing
+pub mod RoomEnters
+pub mod RoomWeights
+pub mod RoomTaken
+pub mod RoomCalls
+pub mod RoomKept
+pub mod RoomKeeps
+pub mod RoomItems
+pub mod RoomFollows

@@ -1,0 +1,23 @@
+-- What must come of it holds of every list of events: a law for each promise.
+pub mod AbortMarks
+pub mod AbortItems
+pub mod AbortRuns
+pub mod AbortLemmas
+pub mod AbortTheorem
+pub mod CloseLemmas
+pub mod CloseItems
+pub mod CloseRuns
+pub mod CloseTheorem
+pub mod MomentLemmas
+pub mod OrderLemmas
+pub mod OrderRuns
+pub mod NumberingLemmas
+pub mod LifeLemmas
+pub mod LifeTheorem
+pub mod ReplyForms
+pub mod ReplyTurns
+pub mod ReplyRuns
+pub mod AnswerTheorem
+pub mod BeforeLemmas
+pub mod ReplySince
+pub mod MeaningTheorem
