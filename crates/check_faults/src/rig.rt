@@ -1,8 +1,8 @@
 //! A loop with all of its ports, on one thread.
 
 ghost use Rattle.std.specs.Prelude.{◌≡◌, map};
-ghost use Rattle.iscsi_threads.specs.Loops.{Belong};
-ghost use Rattle.iscsi_threads.specs.Ports.{port_ring, unit_rings};
+ghost use Rattle.iscsi_threads.specs.rules.Loops.{Belong};
+ghost use Rattle.iscsi_threads.specs.rules.Ports.{port_ring, unit_rings};
 
 use iscsi_session::{Effect, Options};
 use iscsi_threads::{Job, Loop, LoopFault, Outcome, Port, PostFault, Turn, UnitPort, open};

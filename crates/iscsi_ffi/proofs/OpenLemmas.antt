@@ -2,7 +2,7 @@
 use Rattle.std.proofs.Common.{◌≡◌, ◌∙◌, ℕ, ◌+◌, ◌*◌, ◌^◌, ◌==◌, ◌&&◌, ◌||◌, not, Bool, true, false, List, [], ◌∷◌, length, map, suc, Ok, Err, refl, sym, ap, subst}
 use Rattle.std.proofs.lemmas.Bool.{false≢true}
 use Rattle.iscsi_rules.specs.rules.Settings.{Setting, are_distinct, is_known, is_valid as is_valid_setting, is_within}
-use Rattle.iscsi_outbox.specs.Options.{are_distinct as are_distinct_cids, is_known as is_known_cid, limits_of as limits_by}
+use Rattle.iscsi_outbox.specs.promises.Options.{are_distinct as are_distinct_cids, is_known as is_known_cid, limits_of as limits_by}
 use Rattle.iscsi_outbox_steps.specs.State.{Limits, limits_of}
 use Rattle.iscsi_host.specs.Serving.{Hosted, Serves}
 use Rattle.iscsi_ffi_steps.specs.State.{opened_with}

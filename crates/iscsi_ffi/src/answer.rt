@@ -1,7 +1,7 @@
 //! What a call answers.
 
 ghost use Rattle.std.specs.Prelude.{◌≡◌};
-ghost use Rattle.iscsi_outbox.specs.Choices.{refused};
+ghost use Rattle.iscsi_outbox.specs.private.Choices.{refused};
 ghost use Rattle.iscsi_ffi.specs.Answers.{code_of, of_put, of_refusal};
 
 use iscsi_ffi_rules::Refusal;

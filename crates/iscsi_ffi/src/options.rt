@@ -3,7 +3,7 @@
 ghost use Rattle.std.specs.Prelude.{◌≡◌, ◌==◌, ◌&&◌, ◌^◌, length, IfSome};
 ghost use Rattle.std.specs.List.{list_all};
 ghost use Rattle.iscsi_rules.specs.rules.Settings.{is_within};
-ghost use Rattle.iscsi_outbox.specs.Options.{are_distinct, is_known};
+ghost use Rattle.iscsi_outbox.specs.promises.Options.{are_distinct, is_known};
 ghost use Rattle.iscsi_session.specs.promises.Settings.{setting_of};
 ghost use Rattle.iscsi_ffi.specs.Options.{IsDeskOf, fits, is_plain, is_valid, setting_by};
 

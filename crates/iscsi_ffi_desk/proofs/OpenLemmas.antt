@@ -2,7 +2,7 @@
 use Rattle.std.proofs.Common.{◌≡◌, ◌≤◌, ℕ, ◌+◌, ◌*◌, ◌&&◌, nat_le, Bool, true, false, length, refl, arith}
 use Rattle.std.proofs.Math.Nat.{mul-le-mul}
 use Rattle.std.proofs.lemmas.Bool.{leb-true}
-use Rattle.iscsi_outbox.specs.Options.{is_valid as is_valid_outbox, is_within}
+use Rattle.iscsi_outbox.specs.promises.Options.{is_valid as is_valid_outbox, is_within}
 use Rattle.iscsi_outbox.proofs.OpenLemmas.{Valid, valid}
 use Rattle.iscsi_ffi_desk.specs.declared.desk.opening.DeskOptions.{DeskOptions}
 use Rattle.iscsi_ffi_desk.specs.Options.{is_valid}

@@ -11,7 +11,7 @@ use Rattle.iscsi_rules.specs.declared.effect.Effect.TheVariants.{Deliver, Immedi
 use Rattle.iscsi_rules.specs.promises.Order.{in_parts, is_request, onto_first}
 use Rattle.iscsi_rules.specs.rules.Execution.{unit_named}
 use Rattle.iscsi_outbox_rules.specs.rules.Items.{executing, reply_sent}
-use Rattle.iscsi_outbox.specs.Walks.{before_parts}
+use Rattle.iscsi_outbox.specs.private.Walks.{before_parts}
 use Rattle.iscsi_outbox.proofs.WalkLemmas.{range_more}
 use Rattle.iscsi_ffi_rules.specs.declared.action.Action.{Action}
 use Rattle.iscsi_ffi_rules.specs.declared.action.Action.TheVariants.{Reset}

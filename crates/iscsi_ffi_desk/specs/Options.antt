@@ -2,7 +2,7 @@
 use Rattle.std.specs.Prelude.{◌&&◌, Bool, [], Option, Some, None, if◌then◌else◌}
 use Rattle.iscsi_outbox.specs.declared.fault.OutboxFault.{OutboxFault}
 use Rattle.iscsi_outbox.specs.declared.fault.OutboxFault.TheVariants.{BadOptions}
-use Rattle.iscsi_outbox.specs.Options.{is_valid as is_valid_outbox, is_within, limits_of}
+use Rattle.iscsi_outbox.specs.promises.Options.{is_valid as is_valid_outbox, is_within, limits_of}
 use Rattle.iscsi_ffi_steps.specs.State.{opened_with}
 use Rattle.iscsi_ffi_steps.specs.Walk.{Doing}
 use Rattle.iscsi_ffi_desk.specs.declared.desk.opening.DeskOptions.{DeskOptions}

@@ -2,7 +2,7 @@
 use Rattle.std.specs.Prelude.{◌≡◌, ℕ, ◌*◌, ◌≤◌, false, [], length, replicate}
 use Rattle.std.specs.Vec.{vec_capacity}
 use Rattle.iscsi_outbox_steps.specs.State.{most_at_once}
-use Rattle.iscsi_outbox.specs.Options.{limits_of}
+use Rattle.iscsi_outbox.specs.promises.Options.{limits_of}
 use Rattle.iscsi_requests.specs.Cookies.{opened as no_requests}
 use Rattle.iscsi_requests.specs.Numbers.{opened as no_numbers}
 use Rattle.iscsi_requests.specs.Functions.{opened as no_functions}

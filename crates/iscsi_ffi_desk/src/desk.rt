@@ -1,7 +1,7 @@
 //! The desk: what a side keeps beside its session.
 
 ghost use Rattle.std.specs.Prelude.{◌≡◌, [], IfOk};
-ghost use Rattle.iscsi_outbox.specs.Options.{RefusesAs};
+ghost use Rattle.iscsi_outbox.specs.promises.Options.{RefusesAs};
 ghost use Rattle.iscsi_ffi_desk.specs.Options.{opened, refusal_of};
 
 mod clearing;

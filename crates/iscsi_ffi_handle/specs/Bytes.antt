@@ -4,7 +4,7 @@ use Rattle.iscsi_wire.specs.Replies.{tail_of}
 use Rattle.iscsi_outbox_steps.specs.declared.given.Handed.{Handed}
 use Rattle.iscsi_outbox_steps.specs.declared.given.Pdu.{Pdu}
 use Rattle.iscsi_outbox_steps.specs.declared.given.Pdu.TheVariants.{Reply, Own, Ping, Notice}
-use Rattle.iscsi_outbox.specs.Headers.{header_of}
+use Rattle.iscsi_outbox.specs.rules.Headers.{header_of}
 use Rattle.iscsi_ffi.specs.declared.answer.Answer.{Answer}
 use Rattle.iscsi_ffi.specs.declared.answer.Answer.TheVariants.{Done}
 use Rattle.iscsi_ffi.specs.declared.side.outgoing.Next.{Next}

@@ -12,8 +12,8 @@ use Rattle.iscsi_outbox_rules.specs.rules.Calls as outbox
 use Rattle.iscsi_outbox_rules.specs.rules.Queues.{takes_more}
 use Rattle.iscsi_outbox_rules.specs.rules.Run.{after_call}
 use Rattle.iscsi_outbox_rules.specs.rules.Words.{is_live_phase, replies_waiting}
-use Rattle.iscsi_outbox_law.specs.Pairs.{EachOf, InOrder}
-use Rattle.iscsi_outbox_law.specs.Sound.{NoneIsFresh}
+use Rattle.iscsi_outbox_law.specs.private.Pairs.{EachOf, InOrder}
+use Rattle.iscsi_outbox_law.specs.private.Sound.{NoneIsFresh}
 use Rattle.iscsi_ffi_rules.specs.rules.Calls.{Interface}
 use Rattle.iscsi_ffi_rules.specs.rules.Clearing.{next_withheld, status_of}
 use Rattle.iscsi_ffi_rules.specs.rules.Happening.{Told, happening}

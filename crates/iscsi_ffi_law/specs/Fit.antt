@@ -4,13 +4,13 @@ use Rattle.std.specs.Prelude.{◌≡◌, ◌<◌, ◌-◌, ◌^◌, true, length
 use Rattle.iscsi_rules.specs.rules.Settings.{are_distinct}
 use Rattle.iscsi_outbox_rules.specs.promises.Room.{Fits}
 use Rattle.iscsi_outbox_rules.specs.rules.Boxes.{Box, Link, Task}
-use Rattle.iscsi_outbox_law.specs.Room.{AreFew, AreShort}
-use Rattle.iscsi_outbox_law.specs.Sound.{IsSound}
+use Rattle.iscsi_outbox_law.specs.rules.Room.{AreFew, AreShort}
+use Rattle.iscsi_outbox_law.specs.private.Sound.{IsSound}
 use Rattle.iscsi_ffi_rules.specs.rules.Calls.{Interface}
 use Rattle.iscsi_ffi_rules.specs.rules.Run.{cids}
 use Rattle.std.specs.List.{list_any}
 use Rattle.iscsi_outbox_rules.specs.rules.Words.{is_live_phase}
-use Rattle.iscsi_outbox_law.specs.Pairs.{EachOf}
+use Rattle.iscsi_outbox_law.specs.private.Pairs.{EachOf}
 use Rattle.iscsi_ffi_rules.specs.rules.Sides.{Side}
 use Rattle.iscsi_ffi_law.specs.Parts.{is_live_ticket}
 use Rattle.iscsi_rules.specs.rules.Trace.{is_closed}

@@ -9,8 +9,8 @@ use Rattle.iscsi_rules.specs.rules.Settings.{is_known}
 use Rattle.iscsi_rules.specs.rules.Trace.{Arrival, Command, Mark, Trace, entered, is_closed, waiting}
 use Rattle.iscsi_outbox_rules.specs.rules.Calls as outbox
 use Rattle.iscsi_outbox_rules.specs.rules.Run.{after_call as after_box_call}
-use Rattle.iscsi_outbox_law.specs.Pairs.{EachOf}
-use Rattle.iscsi_outbox_law.specs.Sound.{IsSound}
+use Rattle.iscsi_outbox_law.specs.private.Pairs.{EachOf}
+use Rattle.iscsi_outbox_law.specs.private.Sound.{IsSound}
 use Rattle.iscsi_ffi_rules.specs.rules.Calls.{Interface}
 use Rattle.iscsi_ffi_rules.specs.rules.Happening.{leaving, other}
 use Rattle.iscsi_ffi_rules.specs.rules.Needs.{is_held, is_waiting}

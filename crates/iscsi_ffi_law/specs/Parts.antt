@@ -8,7 +8,7 @@ use Rattle.iscsi_outbox_rules.specs.rules.Words.{contains, is_reply}
 use Rattle.iscsi_outbox_rules.specs.rules.Own.{own_ticket}
 use Rattle.iscsi_slots.specs.Slots.{times}
 use Rattle.iscsi_outbox_rules.specs.promises.Scope.{nth}
-use Rattle.iscsi_outbox_law.specs.Pairs.{PairsOf, EachOf}
+use Rattle.iscsi_outbox_law.specs.private.Pairs.{PairsOf, EachOf}
 use Rattle.iscsi_requests.specs.Conns.{of_conn}
 use Rattle.iscsi_requests.specs.Cookies as cookies
 use Rattle.iscsi_requests.specs.Cookies.{Cookies}

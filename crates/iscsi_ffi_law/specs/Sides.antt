@@ -15,8 +15,8 @@ use Rattle.iscsi_outbox_rules.specs.rules.Calls.{Opening}
 use Rattle.iscsi_outbox_rules.specs.rules.Items.{after_item, reply_sent, ticket_enabled}
 use Rattle.iscsi_outbox_rules.specs.rules.Run.{after_call as after_box_call}
 use Rattle.iscsi_outbox_rules.specs.rules.Words.{contains, replies_waiting}
-use Rattle.iscsi_outbox_law.specs.Pairs.{EachOf}
-use Rattle.iscsi_outbox_law.specs.Sound.{NoneIsFresh}
+use Rattle.iscsi_outbox_law.specs.private.Pairs.{EachOf}
+use Rattle.iscsi_outbox_law.specs.private.Sound.{NoneIsFresh}
 use Rattle.iscsi_ffi_rules.specs.promises.Deeds.{side_of}
 use Rattle.iscsi_ffi_rules.specs.rules.Calls.{Arrives, Call, Completes, Interface, Loses, Stops}
 use Rattle.iscsi_ffi_rules.specs.rules.Clearing.{TASK_ABORTED}

@@ -6,7 +6,7 @@ ghost use Rattle.iscsi_ffi_law.specs.Sides.{AreFitFrom, IsOfBytes, IsOpening, Is
 ghost use Rattle.iscsi_ffi_rules.specs.rules.Calls.{Call, Interface};
 ghost use Rattle.iscsi_ffi_rules.specs.rules.Sides.{opened};
 ghost use Rattle.iscsi_ffi_steps.specs.Steps.{begun};
-ghost use Rattle.iscsi_outbox_law.specs.Pairs.{EachOf};
+ghost use Rattle.iscsi_outbox_law.specs.private.Pairs.{EachOf};
 
 /// What the laws of the calls premise of the rules' side alone holds of each call, whatever calls came before, where the options are within their
 /// limits and the list isn't too long (`IsShort`): before each call its box holds together and has room, also behind each call of the outbox that

@@ -4,8 +4,8 @@ use Rattle.iscsi_outbox_steps.specs.declared.given.Given.{Given}
 use Rattle.iscsi_outbox_steps.specs.declared.given.Given.TheVariants.{Nothing, IsOver}
 use Rattle.iscsi_outbox_steps.specs.State.{State, is_over, place_of}
 use Rattle.iscsi_outbox_steps.specs.Steps.{Out, chosen, given, given_on}
-use Rattle.iscsi_outbox.specs.Choices.{choice_of}
-use Rattle.iscsi_outbox.specs.Words.{gives_no_more, gives_pdu}
+use Rattle.iscsi_outbox.specs.private.Choices.{choice_of}
+use Rattle.iscsi_outbox.specs.rules.Words.{gives_no_more, gives_pdu}
 use Rattle.iscsi_outbox.proofs.ChoiceLemmas.{given_at, given_none}
 
 no_pdu : (b : Bool) → false ≡ gives_pdu (if b then IsOver else Nothing)

@@ -10,7 +10,7 @@ use Rattle.iscsi_outbox_steps.specs.State.{State, is_over, place_of, is_asked_fo
 use Rattle.iscsi_outbox_steps.specs.Steps.{Noticed, Out, Pinged, Waited, after_out, chosen, from_queue, given, given_on, next, numbered}
 use Rattle.iscsi_outbox.specs.declared.outbox.choosing.Choice.{Choice}
 use Rattle.iscsi_outbox.specs.declared.outbox.choosing.Choice.TheVariants.{Waiting as ToWaiting, Ping, Notice}
-use Rattle.iscsi_outbox.specs.Choices.{choice_of}
+use Rattle.iscsi_outbox.specs.private.Choices.{choice_of}
 
 -- something goes out: the connection is open, and has numbers left
 pub record GoesOut (conn : ℕ) (s : State) : Type 0 where

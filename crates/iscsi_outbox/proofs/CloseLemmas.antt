@@ -15,7 +15,7 @@ use Rattle.iscsi_rules.specs.declared.effect.Effect.TheVariants.{Deliver, Immedi
 use Rattle.iscsi_arrivals.specs.Counts.{Counts, new_counts}
 use Rattle.iscsi_outbox_steps.specs.State.{Limits, State, link_at, place_of}
 use Rattle.iscsi_outbox_steps.specs.Steps.{as_list, close, close_each, close_itself, close_one, close_other, closed_by, closed_in, counted_from, newly_closed}
-use Rattle.iscsi_outbox.specs.Walks.{close_where, is_close}
+use Rattle.iscsi_outbox.specs.private.Walks.{close_where, is_close}
 
 -- ---- places
 

@@ -5,7 +5,7 @@ use Rattle.iscsi_tracked.specs.declared.command.Phase.{Phase}
 use Rattle.iscsi_tracked.specs.declared.command.Phase.TheVariants.{Dormant, Fresh, Started, Running, Gone}
 use Rattle.iscsi_outbox_steps.specs.State.{State}
 use Rattle.iscsi_outbox_steps.specs.Steps.{in_phase_if, is_dormant, is_fresh}
-use Rattle.iscsi_outbox.specs.Walks.{is_in, is_same_phase}
+use Rattle.iscsi_outbox.specs.private.Walks.{is_in, is_same_phase}
 
 -- the phase from which a command is enabled
 dormant_is : (p : Phase) → is_same_phase p Dormant ≡ (elim p as (λ (q : Phase). Bool) [ Dormant ↦ true | Fresh ↦ false | Started ↦ false | Running ↦ false | Gone ↦ false ])

@@ -17,7 +17,7 @@ use Rattle.iscsi_outbox_state.specs.Lane.{any_in, has_left, is_command}
 use Rattle.iscsi_outbox_state.specs.Waits.{dropped_of}
 use Rattle.iscsi_outbox_steps.specs.State.{Limits, State, place_of}
 use Rattle.iscsi_outbox_steps.specs.Steps.{after_item, close, close_each, closed_in, completed, enable, enter_command, enter_commands, enter_each, enter_one, entering, is_numbered, is_started, leave, leave_one, live_command, may_enter, newly_closed, send, settle, taken_out}
-use Rattle.iscsi_outbox.specs.Walks.{ends_with}
+use Rattle.iscsi_outbox.specs.private.Walks.{ends_with}
 use Rattle.iscsi_outbox.proofs.CloseLemmas.{closed_all_same, each_limits}
 
 -- the connections stay as they are

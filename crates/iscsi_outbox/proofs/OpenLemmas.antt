@@ -13,8 +13,8 @@ use Rattle.iscsi_outbox_steps.specs.State.{State, opened}
 use Rattle.iscsi_tracked.specs.Tracked.{Tracked}
 use Rattle.iscsi_wire.specs.Serial.{number_of_first}
 use Rattle.iscsi_outbox.specs.declared.options.OutboxOptions.{OutboxOptions}
-use Rattle.iscsi_outbox.specs.Kept.{IsOutbox}
-use Rattle.iscsi_outbox.specs.Options.{are_distinct, is_known, is_valid, is_within, lane_of, limits_of, links_of, tracked_of, waits_of}
+use Rattle.iscsi_outbox.specs.private.Kept.{IsOutbox}
+use Rattle.iscsi_outbox.specs.promises.Options.{are_distinct, is_known, is_valid, is_within, lane_of, limits_of, links_of, tracked_of, waits_of}
 
 both : (a b : Bool) → (a && b) ≡ true → (a ≡ true) × (b ≡ true)
 both true b e = (refl, e)

@@ -7,7 +7,7 @@ use Rattle.iscsi_rules.specs.declared.effect.Effect.{Effect}
 use Rattle.iscsi_outbox_state.specs.declared.waiting.SentReply.{SentReply}
 use Rattle.iscsi_outbox_steps.specs.State.{State, place_of}
 use Rattle.iscsi_outbox_steps.specs.Steps.{later, send_on, send_placed}
-use Rattle.iscsi_outbox.specs.Walks.{ends_with}
+use Rattle.iscsi_outbox.specs.private.Walks.{ends_with}
 
 pub place_is : (s : State) (cids : List ℕ) (n cid : ℕ) (o : Option ℕ) → cids ≡ s.limits.cids → n ≡ cid → position (λ (c : ℕ). c == n) cids ≡ o → place_of s cid ≡ o
 place_is s cids n cid o same is e = ap (λ (xs : List ℕ). position (λ (c : ℕ). c == cid) xs) (sym same) ∙ ap (λ k. position (λ (c : ℕ). c == k) cids) (sym is) ∙ e

@@ -10,8 +10,8 @@ use Rattle.iscsi_rules.proofs.general.CountLemmas.{count_set}
 use Rattle.iscsi_outbox_rules.specs.rules.Calls.{Opening, Takes, Puts, Stops, Nexts, Writes, Hears, Joins, Loses, Clears}
 use Rattle.iscsi_outbox_steps.specs.State.{Limits, State, place_of}
 use Rattle.iscsi_outbox_steps.specs.Steps.{given}
-use Rattle.iscsi_outbox.specs.Words.{cid_at, count_awake, first_ready, gives, gives_something, ready_from, told}
-use Rattle.iscsi_outbox.specs.Told.{Act, Does, Asks, GaveNothing, Heard, Hosted, IsReady, LedTo, LosesNoWord, TellsOnce, after_act, after_acts, awake_after, heard_at, heard_from, heard_of_call, heard_of_ready, hosted, told_since, was_told}
+use Rattle.iscsi_outbox.specs.rules.Words.{cid_at, count_awake, first_ready, gives, gives_something, ready_from, told}
+use Rattle.iscsi_outbox.specs.promises.Told.{Act, Does, Asks, GaveNothing, Heard, Hosted, IsReady, LedTo, LosesNoWord, TellsOnce, after_act, after_acts, awake_after, heard_at, heard_from, heard_of_call, heard_of_ready, hosted, told_since, was_told}
 use Rattle.iscsi_outbox.proofs.LimitsLemmas.{limits_stay}
 use Rattle.iscsi_outbox.proofs.WordLemmas.{given_gives, given_nowhere}
 

@@ -6,7 +6,7 @@ use Rattle.iscsi_rules.specs.declared.effect.Effect.{Effect}
 use Rattle.iscsi_rules.specs.promises.Order.{in_parts, is_request, onto_first}
 use Rattle.iscsi_outbox_steps.specs.State.{State}
 use Rattle.iscsi_outbox_steps.specs.Steps.{after_item, after_items}
-use Rattle.iscsi_outbox.specs.Walks.{before_parts}
+use Rattle.iscsi_outbox.specs.private.Walks.{before_parts}
 
 -- ---- ranges
 

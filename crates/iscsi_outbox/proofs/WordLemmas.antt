@@ -4,8 +4,8 @@ use Rattle.iscsi_outbox_steps.specs.declared.given.Given.{Given}
 use Rattle.iscsi_outbox_steps.specs.declared.given.Given.TheVariants.{Hands, Nothing, IsOver}
 use Rattle.iscsi_outbox_steps.specs.State.{State, is_over, place_of}
 use Rattle.iscsi_outbox_steps.specs.Steps.{Out, chosen, given, given_on, numbered}
-use Rattle.iscsi_outbox.specs.Choices.{choice_of}
-use Rattle.iscsi_outbox.specs.Words.{gives, gives_something}
+use Rattle.iscsi_outbox.specs.private.Choices.{choice_of}
+use Rattle.iscsi_outbox.specs.rules.Words.{gives, gives_something}
 
 pub some_as : {A B : Type 0} (f : A → B) (o : Option A) → is_some (option_map f o) ≡ is_some o
 some_as f (Some x) = refl

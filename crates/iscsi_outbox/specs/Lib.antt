@@ -1,8 +1,4 @@
-pub mod Kept
-pub mod Choices
-pub mod Walks
-pub mod Options
-pub mod Headers
-pub mod Words
-pub mod Told
-pub mod Rows
+pub mod private
+pub mod promises
+pub mod rules
+pub mod examples

@@ -3,7 +3,7 @@
 ghost use Rattle.std.specs.Prelude.{◌≡◌, ◌++◌, take, drop};
 ghost use Rattle.iscsi_wire.specs.Replies.{bytes_4};
 ghost use Rattle.iscsi_outbox_rules.specs.rules.Handing.{nop_in_header, own_header};
-ghost use Rattle.iscsi_outbox.specs.Headers.{header_of};
+ghost use Rattle.iscsi_outbox.specs.rules.Headers.{header_of};
 
 use byteorder::{BigEndian, ByteOrder};
 use iscsi_outbox_rules::OwnPdu;

@@ -6,7 +6,7 @@ ghost use Rattle.iscsi_rules.specs.promises.Closes.{is_session_close};
 ghost use Rattle.iscsi_rules.specs.promises.Order.{is_request};
 ghost use Rattle.iscsi_rules.specs.rules.Trace.{first_of};
 ghost use Rattle.iscsi_outbox_rules.specs.rules.Items.{executing, reply_sent};
-ghost use Rattle.iscsi_outbox.specs.Walks.{is_close};
+ghost use Rattle.iscsi_outbox.specs.private.Walks.{is_close};
 
 use iscsi_rules::Effect;
 use iscsi_wire::{Reply, Request};

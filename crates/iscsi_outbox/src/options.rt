@@ -1,7 +1,7 @@
 //! What an outbox is opened with.
 
 ghost use Rattle.std.specs.Prelude.{◌≡◌};
-ghost use Rattle.iscsi_outbox.specs.Options.{are_distinct as distinct_in, is_known as known_in, is_valid as valid_options, is_within as within};
+ghost use Rattle.iscsi_outbox.specs.promises.Options.{are_distinct as distinct_in, is_known as known_in, is_valid as valid_options, is_within as within};
 
 /// What an outbox is opened with. The first CmdSN, the window, the units and the connections are those of its session.
 #[derive(Debug, Drop)]

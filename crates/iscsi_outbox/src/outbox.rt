@@ -2,11 +2,11 @@
 
 ghost use Rattle.std.specs.Prelude.{◌≡◌, ◌+◌, ◌-◌, ◌<◌, ◌≤◌, ◌^◌, length, true, IfOk, IfSome};
 ghost use Rattle.iscsi_wire.specs.Serial.{number_of_first};
-ghost use Rattle.iscsi_outbox_law.specs.Called.{KeepsAllPromises, KeepsToRules};
+ghost use Rattle.iscsi_outbox_law.specs.promises.Called.{KeepsAllPromises, KeepsToRules};
 ghost use Rattle.iscsi_outbox_rules.specs.rules.Calls.{Joins};
 ghost use Rattle.iscsi_outbox_steps.specs.State.{opened, place_of};
-ghost use Rattle.iscsi_outbox.specs.Words.{cid_at};
-ghost use Rattle.iscsi_outbox.specs.Options.{RefusesAs, is_valid, lane_of, limits_of, links_of, refusal_of, tracked_of, waits_of};
+ghost use Rattle.iscsi_outbox.specs.rules.Words.{cid_at};
+ghost use Rattle.iscsi_outbox.specs.promises.Options.{RefusesAs, is_valid, lane_of, limits_of, links_of, refusal_of, tracked_of, waits_of};
 ghost use Rattle.iscsi_outbox_steps.specs.Steps.{joined, may_join};
 
 mod asking;
@@ -82,7 +82,7 @@ impl Drop for Outbox {
 
 impl Model for Outbox {
     ghost use Rattle.iscsi_outbox_steps.specs.State.{State};
-    ghost use Rattle.iscsi_outbox.specs.Kept.{IsOutbox};
+    ghost use Rattle.iscsi_outbox.specs.private.Kept.{IsOutbox};
 
     ghost Value = { State };
 

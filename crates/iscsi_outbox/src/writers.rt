@@ -2,8 +2,8 @@
 
 ghost use Rattle.std.specs.Prelude.{◌≡◌, ◌<◌, ◌≤◌, ℕ, ◌+◌, length, option_map, replicate, false, IfOk, IfSome};
 ghost use Rattle.iscsi_outbox_steps.specs.Steps.{given, next};
-ghost use Rattle.iscsi_outbox.specs.Words.{asked, cid_at, count_awake, first_ready, gives, told};
-ghost use Rattle.iscsi_outbox.specs.Told.{LosesNoWord, TellsOnce};
+ghost use Rattle.iscsi_outbox.specs.rules.Words.{asked, cid_at, count_awake, first_ready, gives, told};
+ghost use Rattle.iscsi_outbox.specs.promises.Told.{LosesNoWord, TellsOnce};
 
 use crate::outbox::Outbox;
 use iscsi_outbox_steps::Given;

@@ -1,11 +1,4 @@
-pub mod Pairs
-pub mod Said
-pub mod Links
-pub mod Commands
-pub mod Lanes
-pub mod Fences
-pub mod Stands
-pub mod Sound
-pub mod Room
-pub mod Rows
-pub mod Called
+pub mod private
+pub mod rules
+pub mod examples
+pub mod promises

@@ -2,11 +2,11 @@
 
 ghost use Rattle.std.specs.Prelude.{◌≡◌, ◌<◌, ◌-◌, ◌^◌, ℕ, List, true};
 ghost use Rattle.iscsi_rules.specs.rules.Settings.{are_distinct};
-ghost use Rattle.iscsi_outbox_law.specs.Called.{KeepsAllPromises, KeepsToRules, MayTakeByRules};
-ghost use Rattle.iscsi_outbox_law.specs.Room.{AreFew, IsShort};
-ghost use Rattle.iscsi_outbox_law.specs.Said.{AnswersAlike, said};
-ghost use Rattle.iscsi_outbox_law.specs.Sound.{IsSound};
-ghost use Rattle.iscsi_outbox_law.specs.Stands.{Stands};
+ghost use Rattle.iscsi_outbox_law.specs.promises.Called.{KeepsAllPromises, KeepsToRules, MayTakeByRules};
+ghost use Rattle.iscsi_outbox_law.specs.rules.Room.{AreFew, IsShort};
+ghost use Rattle.iscsi_outbox_law.specs.rules.Said.{AnswersAlike, said};
+ghost use Rattle.iscsi_outbox_law.specs.private.Sound.{IsSound};
+ghost use Rattle.iscsi_outbox_law.specs.private.Stands.{Stands};
 ghost use Rattle.iscsi_outbox_rules.specs.promises.Room.{Fits, HasRoom};
 ghost use Rattle.iscsi_outbox_rules.specs.declared.own_pdu.OwnPdu.{OwnPdu};
 ghost use Rattle.iscsi_outbox_rules.specs.promises.Deeds.{FollowsKnown};

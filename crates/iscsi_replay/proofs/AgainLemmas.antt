@@ -19,7 +19,7 @@ use Rattle.iscsi_recording.specs.Fields.{decimal_of, hex_of}
 use Rattle.iscsi_recording.specs.Grammar.{arrival_of, completion_of, connection_of, line_of}
 use Rattle.iscsi_recording.specs.Recorded.{Recorded, belongs_to, nothing, is_empty, take, read_line, read_end, read_lines, read_of, lines_of, ◌>>=◌}
 use Rattle.iscsi_recording.specs.declared.fault.ReplayFault.TheVariants.{NoConnection}
-use Rattle.iscsi_replay.specs.Again.{conn_line, conn_lines, IsRecordableConn, IsRecordableEvent}
+use Rattle.iscsi_replay.specs.promises.Again.{conn_line, conn_lines, IsRecordableConn, IsRecordableEvent}
 use Rattle.iscsi_recording.proofs.LineLemmas.{or_false, whole_line, line_ends}
 use Rattle.iscsi_recording.proofs.RecordedLemmas.{both_parts, other_way}
 use Rattle.iscsi_recording.proofs.FieldLemmas.{decimal_back, hex_back, bytes_4-bytes, from_bytes_4, field_before, field_after}

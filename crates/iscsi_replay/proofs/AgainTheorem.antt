@@ -24,8 +24,8 @@ use Rattle.iscsi_recording.specs.Fields.{is_blank, after_prefix, digits_after, u
 use Rattle.iscsi_recording.specs.Grammar.{arrival_of, completion_of, event_of, connection_of, marked_of, line_of}
 use Rattle.iscsi_recording.specs.Recorded.{Recorded, belongs_to, nothing, is_empty, take, read_line, read_end, read_lines, read_of, lines_of, ◌>>=◌}
 use Rattle.iscsi_recording.specs.Reading.{IsSoundIn}
-use Rattle.iscsi_replay.specs.Replayed.{setting_for}
-use Rattle.iscsi_replay.specs.Again.{conn_lines, again_of, IsRecordableConn, IsRecordableEvent, IsRecordable, IsReadAgain}
+use Rattle.iscsi_replay.specs.promises.Replayed.{setting_for}
+use Rattle.iscsi_replay.specs.promises.Again.{conn_lines, again_of, IsRecordableConn, IsRecordableEvent, IsRecordable, IsReadAgain}
 use Rattle.iscsi_recording.proofs.RecordedLemmas.{line_keeps, of_more, sound_from}
 use Rattle.iscsi_replay.proofs.AgainLemmas.{reads_both, conns_read, report_reads, whole_read}
 use Rattle.iscsi_replay.proofs.ShortRuns.{either, run_short, run_count}

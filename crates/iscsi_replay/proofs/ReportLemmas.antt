@@ -14,7 +14,7 @@ use Rattle.iscsi_report.proofs.LineLemmas.{report_of-push}
 use Rattle.iscsi_settings.specs.declared.settings.Settings.{Settings}
 use Rattle.iscsi_recording.specs.declared.fault.ReplayFault.{ReplayFault}
 use Rattle.iscsi_recording.specs.Recorded.{Recorded, read_of}
-use Rattle.iscsi_replay.specs.Replayed.{report_by, report_of, FrontReported}
+use Rattle.iscsi_replay.specs.promises.Replayed.{report_by, report_of, FrontReported}
 use Rattle.iscsi_recording.specs.Writing.{AppendsFront, AppendsBut}
 use Rattle.iscsi_recording.proofs.Written.{nothing_of, front_longer, waits_more, all_after}
 

@@ -21,7 +21,7 @@ use Rattle.iscsi_rules.proofs.traces.HeldLemmas.{admitted_of_held}
 use Rattle.iscsi_rules.proofs.items.Forms.{Start, AtTurn, AtArrival, AfterWaiting, start_mark, marks_done, Form, Ignored, Rejected, Received, Postponed, Completed, Executed, marks_of_form, Starts, IsFormed}
 use Rattle.iscsi_rules.proofs.items.FormRuns.{IsDue, StandsAt, Stands, Turns, TurnsOf, Brings, event_stands}
 use Rattle.iscsi_rules.proofs.items.DeedLemmas.{each_is, each_done}
-use Rattle.iscsi_replay.specs.Again.{IsRecordableEvent}
+use Rattle.iscsi_replay.specs.promises.Again.{IsRecordableEvent}
 use Rattle.iscsi_recording.proofs.FieldLemmas.{decimal_length}
 use Rattle.iscsi_recording.proofs.EffectLemmas.{IsShortReply, IsShortEffect}
 use Rattle.iscsi_replay.proofs.AgainLemmas.{IsShortEntry}

@@ -16,14 +16,14 @@ use Rattle.iscsi_rules.specs.rules.Settings.{Setting, is_known, are_distinct}
 use Rattle.iscsi_rules.specs.rules.Run.{run_of}
 use Rattle.iscsi_threads.specs.declared.fault.LoopFault.{LoopFault}
 use Rattle.iscsi_threads.specs.declared.fault.LoopFault.TheVariants as loop
-use Rattle.iscsi_threads.specs.Full as served
-use Rattle.iscsi_threads.specs.Ports.{Answer}
-use Rattle.iscsi_threads.specs.Journal.{cids_in, part, parts, done, is_source, are_sources}
-use Rattle.iscsi_threads.specs.Jobs.{jobs}
-use Rattle.iscsi_threads.specs.Outcomes.{ticket_of}
-use Rattle.iscsi_threads.specs.Works.{ticket_answered}
-use Rattle.iscsi_threads.specs.Serving.{ServedBy, UnitServed}
-use Rattle.iscsi_threads.specs.Ends.{grow}
+use Rattle.iscsi_threads.specs.promises.Full as served
+use Rattle.iscsi_threads.specs.rules.Ports.{Answer}
+use Rattle.iscsi_threads.specs.rules.Journal.{cids_in, part, parts, done, is_source, are_sources}
+use Rattle.iscsi_threads.specs.rules.Jobs.{jobs}
+use Rattle.iscsi_threads.specs.promises.Outcomes.{ticket_of}
+use Rattle.iscsi_threads.specs.rules.Works.{ticket_answered}
+use Rattle.iscsi_threads.specs.promises.Serving.{ServedBy, UnitServed}
+use Rattle.iscsi_threads.specs.private.Ends.{grow}
 use Rattle.iscsi_threads.proofs.Lists.{some_of}
 use Rattle.iscsi_threads.proofs.Turning.{known_at}
 use Rattle.iscsi_threads.proofs.OpenLemmas.{differ_of}
@@ -32,7 +32,7 @@ use Rattle.iscsi_settings.specs.declared.settings.Settings.{Settings}
 use Rattle.iscsi_recording.specs.Recorded.{Recorded, belongs_to, read_of}
 use Rattle.iscsi_recording.specs.declared.fault.ReplayFault.{ReplayFault}
 use Rattle.iscsi_recording.specs.declared.fault.ReplayFault.TheVariants as replay
-use Rattle.iscsi_replay.specs.Threaded.{setting_for_threads, headers, ThreadsRan, FillsJournal, IsFaultOf, ComesOfThreads, CanStopThreads, ThreadsAnswerAs}
+use Rattle.iscsi_replay.specs.promises.Threaded.{setting_for_threads, headers, ThreadsRan, FillsJournal, IsFaultOf, ComesOfThreads, CanStopThreads, ThreadsAnswerAs}
 
 -- ---- the lists of headers
 

@@ -8,7 +8,7 @@ use Rattle.iscsi_settings.specs.Command.{replay_app, IsNumberIn, HasValues, Sett
 use Rattle.iscsi_settings.specs.Limits.{are_valid}
 use Rattle.iscsi_recording.specs.Order.{ReadsInOrder}
 use Rattle.iscsi_recording.specs.Recorded.{read_of}
-use Rattle.iscsi_replay.specs.Told.{AnswersBy, FrontBy, IsReplayAsTold, KeepsWordBy, ReportedBy}
+use Rattle.iscsi_replay.specs.promises.Told.{AnswersBy, FrontBy, IsReplayAsTold, KeepsWordBy, ReportedBy}
 use Rattle.iscsi_recording.specs.declared.fault.ReplayFault.{ReplayFault}
 use Rattle.iscsi_recording.specs.declared.fault.ReplayFault.TheVariants.{BadSettings}
 use Rattle.iscsi_settings.specs.declared.settings.Settings.{Settings}

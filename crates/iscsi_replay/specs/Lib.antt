@@ -1,5 +1,2 @@
-pub mod Replayed
-pub mod Threaded
-pub mod Stops
-pub mod Again
-pub mod Told
+pub mod promises
+pub mod rules

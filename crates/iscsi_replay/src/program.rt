@@ -1,8 +1,8 @@
 //! The program, over any reader and any writer.
 
 ghost use Rattle.std.specs.Prelude.{◌≡◌, ◌↔◌, ◌⊎◌, map, true, false, IfErr, IsErrOf};
-ghost use Rattle.iscsi_replay.specs.Replayed.{IsReadWhole};
-ghost use Rattle.iscsi_replay.specs.Told.{IsAsTold, ComesOfWords, ComesBeforeReport};
+ghost use Rattle.iscsi_replay.specs.promises.Replayed.{IsReadWhole};
+ghost use Rattle.iscsi_replay.specs.promises.Told.{IsAsTold, ComesOfWords, ComesBeforeReport};
 
 use crate::replaying::replay;
 use crate::stopping::Stop;

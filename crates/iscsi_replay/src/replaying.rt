@@ -10,9 +10,9 @@ ghost use Rattle.iscsi_recording.specs.Recorded.{Recorded, view, read_of, belong
 ghost use Rattle.iscsi_recording.specs.Order.{ReadsInOrder};
 ghost use Rattle.iscsi_rules.specs.promises.Promises.{KeepsPromises};
 ghost use Rattle.iscsi_rules.specs.rules.Run.{run_of};
-ghost use Rattle.iscsi_replay.specs.Replayed.{setting_with, report_by, Reported, KeepsWord, FrontReported, AnswersAs, ComesOfReading, IsReadWhole};
+ghost use Rattle.iscsi_replay.specs.promises.Replayed.{setting_with, report_by, Reported, KeepsWord, FrontReported, AnswersAs, ComesOfReading, IsReadWhole};
 ghost use Rattle.iscsi_recording.specs.Writing.{AppendsFront, AppendsBut};
-ghost use Rattle.iscsi_replay.specs.Again.{IsRecordable, IsReadAgain};
+ghost use Rattle.iscsi_replay.specs.promises.Again.{IsRecordable, IsReadAgain};
 
 use iscsi_recording::{
     EventSource, NO_EVENT, Recording, ReplayFault, Sink, Source, put_all, read_recording,

@@ -2,7 +2,7 @@
 
 ghost use Rattle.std.specs.Prelude.{◌≡◌, ◌≢◌, ◌≤◌, OnOk, IfErr};
 ghost use Rattle.std.specs.Process.{exit_status};
-ghost use Rattle.iscsi_replay.specs.Stops.{status_of};
+ghost use Rattle.iscsi_replay.specs.rules.Stops.{status_of};
 
 use clap::error::ErrorKind;
 use iscsi_recording::ReplayFault;

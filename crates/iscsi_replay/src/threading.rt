@@ -3,13 +3,13 @@
 ghost use Rattle.std.specs.Prelude.{◌≡◌, ◌≢◌, ◌↔◌, ◌⊎◌, ◌<◌, ◌==◌, true, false, [], map, position, replicate, vec_len, IfSome, OnOk, IfOk, IfErr, IsErrOf};
 ghost use Rattle.std.specs.List.{list_all};
 ghost use Rattle.iscsi_rules.specs.rules.Settings.{are_distinct};
-ghost use Rattle.iscsi_threads.specs.Journal.{cids_in, parts};
-ghost use Rattle.iscsi_threads.specs.Ends.{grow};
+ghost use Rattle.iscsi_threads.specs.rules.Journal.{cids_in, parts};
+ghost use Rattle.iscsi_threads.specs.private.Ends.{grow};
 ghost use Rattle.iscsi_settings.specs.Limits.{are_valid};
 ghost use Rattle.iscsi_recording.specs.Recorded.{view, read_of, belongs_to, IsSound};
 ghost use Rattle.iscsi_recording.specs.Order.{ReadsInOrder};
-ghost use Rattle.iscsi_replay.specs.Replayed.{ComesOfReading, IsReadWhole};
-ghost use Rattle.iscsi_replay.specs.Threaded.{headers, IsFaultOf, ComesOfThreads, IsJournalOf, ThreadsReported, FrontOfThreads, ThreadsAnswerAs};
+ghost use Rattle.iscsi_replay.specs.promises.Replayed.{ComesOfReading, IsReadWhole};
+ghost use Rattle.iscsi_replay.specs.promises.Threaded.{headers, IsFaultOf, ComesOfThreads, IsJournalOf, ThreadsReported, FrontOfThreads, ThreadsAnswerAs};
 
 use crate::replaying::write_report;
 use iscsi_recording::{

@@ -19,7 +19,7 @@ use Rattle.iscsi_rules.specs.declared.effect.Effect.{Effect}
 use Rattle.iscsi_rules.specs.declared.effect.Effect.TheVariants.{Enter, Enable, Leave}
 use Rattle.iscsi_rules.specs.promises.Lives.{tickets_entered}
 use Rattle.iscsi_threads.specs.declared.job.Job.{Job}
-use Rattle.iscsi_threads.specs.Desks.{Known, is_for, without, job_for, entered, after_effect, job_at, listed, jobs_from, known_after, InOrderOfTickets, EnterAbove}
+use Rattle.iscsi_threads.specs.rules.Desks.{Known, is_for, without, job_for, entered, after_effect, job_at, listed, jobs_from, known_after, InOrderOfTickets, EnterAbove}
 
 pub known_after-append : (k : Known) (es fs : List Effect) → known_after k (es ++ fs) ≡ known_after (known_after k es) fs
 known_after-append k [] fs = refl

@@ -6,7 +6,7 @@ use Rattle.iscsi_rules.specs.rules.Settings.{Setting}
 use Rattle.iscsi_rules.specs.rules.Run.{run_of, next_entry}
 use Rattle.iscsi_rules.specs.promises.Enabling.{effects_in}
 use Rattle.iscsi_rules.proofs.promises.LifeTheorem.{starts_once}
-use Rattle.iscsi_threads.specs.Desks.{Known, nothing, known_after, EnterAbove}
+use Rattle.iscsi_threads.specs.rules.Desks.{Known, nothing, known_after, EnterAbove}
 use Rattle.iscsi_threads.proofs.DeskLemmas.{after_above}
 use Rattle.iscsi_threads.proofs.Turning.{effects_run}
 

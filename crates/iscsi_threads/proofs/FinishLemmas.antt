@@ -9,13 +9,13 @@ use mathlib.Core.List.{IsPrefix}
 use Rattle.rtrb.specs.Ring.{IsPair}
 use Rattle.rtrb.specs.declared.producer.Producer.{Producer}
 use Rattle.rtrb.specs.declared.consumer.Consumer.{Consumer}
-use Rattle.iscsi_threads.specs.Rings.{Ring, producer_ring, consumer_ring}
+use Rattle.iscsi_threads.specs.rules.Rings.{Ring, producer_ring, consumer_ring}
 use Rattle.iscsi_threads.specs.declared.job.Job.{Job}
 use Rattle.iscsi_threads.specs.declared.outlet.Outlet.{Outlet}
-use Rattle.iscsi_threads.specs.Outlets.{given}
-use Rattle.iscsi_threads.specs.Outcomes.{ticket_of}
-use Rattle.iscsi_threads.specs.Ends.{grow, put_jobs}
-use Rattle.iscsi_threads.specs.Journal.{jobs_of}
+use Rattle.iscsi_threads.specs.rules.Outlets.{given}
+use Rattle.iscsi_threads.specs.promises.Outcomes.{ticket_of}
+use Rattle.iscsi_threads.specs.private.Ends.{grow, put_jobs}
+use Rattle.iscsi_threads.specs.rules.Journal.{jobs_of}
 use Rattle.iscsi_threads.proofs.Lists.{get_same}
 use Rattle.iscsi_threads.proofs.Journals.{zero_range_get, range_length}
 

@@ -20,9 +20,9 @@ use Rattle.iscsi_rules.proofs.items.FormRuns.{trace_has_forms}
 use Rattle.iscsi_rules.proofs.promises.LifeTheorem.{starts_once}
 use Rattle.iscsi_rules.proofs.traces.RunLemmas.{run_of-push}
 use Rattle.iscsi_threads.specs.declared.job.Job.{Job}
-use Rattle.iscsi_threads.specs.Desks.{nothing, jobs_from, known_after}
-use Rattle.iscsi_threads.specs.Journal.{jobs_of}
-use Rattle.iscsi_threads.specs.Jobs.{jobs, tickets_enabled, GivesJobs}
+use Rattle.iscsi_threads.specs.rules.Desks.{nothing, jobs_from, known_after}
+use Rattle.iscsi_threads.specs.rules.Journal.{jobs_of}
+use Rattle.iscsi_threads.specs.rules.Jobs.{jobs, tickets_enabled, GivesJobs}
 use Rattle.iscsi_threads.proofs.DeskLemmas.{jobs_from-append}
 use Rattle.iscsi_threads.proofs.Journals.{jobs_of_append}
 use Rattle.iscsi_threads.proofs.JobLemmas.{is_asked, asked-some, asked-append, same_jobs, tickets_of_jobs, all_start_apart, tickets_apart, jobs_of-unit}

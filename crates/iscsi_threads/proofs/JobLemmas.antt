@@ -14,9 +14,9 @@ use Rattle.iscsi_rules.specs.promises.Enabling.{is_enable}
 use Rattle.iscsi_rules.specs.promises.Lives.{names_ticket, life_of, ends_in, goes_on_in, is_life}
 use Rattle.iscsi_rules.proofs.general.PlaceLemmas.{position-cons}
 use Rattle.iscsi_threads.specs.declared.job.Job.{Job}
-use Rattle.iscsi_threads.specs.Desks.{Known, nothing, is_for, without, job_for, entered, after_effect, job_at, listed, jobs_from, known_after}
-use Rattle.iscsi_threads.specs.Journal.{jobs_of}
-use Rattle.iscsi_threads.specs.Jobs.{commands_entering, job_started, ticket_enabled, tickets_enabled}
+use Rattle.iscsi_threads.specs.rules.Desks.{Known, nothing, is_for, without, job_for, entered, after_effect, job_at, listed, jobs_from, known_after}
+use Rattle.iscsi_threads.specs.rules.Journal.{jobs_of}
+use Rattle.iscsi_threads.specs.rules.Jobs.{commands_entering, job_started, ticket_enabled, tickets_enabled}
 use Rattle.iscsi_threads.proofs.DeskLemmas.{known_after-append}
 use Rattle.iscsi_threads.proofs.Journals.{jobs_of_append}
 

@@ -8,9 +8,9 @@ use Rattle.std.proofs.lemmas.Bool.Decides.{nat_tests}
 use Rattle.iscsi_rules.specs.declared.event.Event.{Event}
 use Rattle.iscsi_rules.specs.declared.event.Event.TheVariants.{Arrive, Done}
 use Rattle.iscsi_threads.specs.declared.job.Job.{Job}
-use Rattle.iscsi_threads.specs.Ports.{Answer}
-use Rattle.iscsi_threads.specs.Ends.{grow, put_jobs, Polled}
-use Rattle.iscsi_threads.specs.Journal.{part, done, jobs_of, parts, dones, is_source, are_sources, AllDiffer}
+use Rattle.iscsi_threads.specs.rules.Ports.{Answer}
+use Rattle.iscsi_threads.specs.private.Ends.{grow, put_jobs, Polled}
+use Rattle.iscsi_threads.specs.rules.Journal.{part, done, jobs_of, parts, dones, is_source, are_sources, AllDiffer}
 
 -- equal at each place
 pub map_same : {X : Type 0} (F G : ℕ → X) (keys : List ℕ) → ((k : ℕ) → k < length keys → G (get_or keys k 0) ≡ F (get_or keys k 0)) → map G keys ≡ map F keys

@@ -3,7 +3,7 @@ use Rattle.std.specs.Prelude.{◌≡◌, ℕ, zero, suc, ◌<◌, List, [], ◌�
 use Rattle.std.proofs.Common.{ap, subst, sym, ◌∙◌, arith, get_or, set}
 use Rattle.std.proofs.Math.Seq.{map-set_same}
 use Rattle.std.proofs.lemmas.List.{map-set, length-map, get_or-map}
-use Rattle.iscsi_threads.specs.Ends.{grow, put_jobs}
+use Rattle.iscsi_threads.specs.private.Ends.{grow, put_jobs}
 use Rattle.iscsi_threads.specs.declared.job.Job.{Job}
 
 -- f of each is as it was

@@ -4,7 +4,7 @@ use Rattle.std.specs.Prelude.{bit_or}
 use Rattle.std.specs.Int.{bit_at}
 use Rattle.std.proofs.lemmas.Bool.{cases_eq}
 use Rattle.std.proofs.lemmas.Nat.Bits.{bit_at_set_same, bit_at_set_other}
-use Rattle.iscsi_threads.specs.Watched.{mark, IsMarked}
+use Rattle.iscsi_threads.specs.private.Watched.{mark, IsMarked}
 
 -- two numbers of one word have two bits
 two_bits : (n m : ℕ) → n ≢ m → n / 64 ≡ m / 64 → n % 64 ≢ m % 64

@@ -6,7 +6,7 @@ use Rattle.std.proofs.lemmas.Bool.Decides.{nat_tests}
 use Rattle.std.proofs.lemmas.Bool.{false≢true}
 use Rattle.iscsi_rules.proofs.general.BoolLemmas.{and_first, and_second, not_true}
 use Rattle.iscsi_rules.specs.rules.Settings.{Setting, is_known, are_distinct, is_within, are_sizes_valid, is_valid}
-use Rattle.iscsi_threads.specs.Journal.{cids_in, parts, AllDiffer}
+use Rattle.iscsi_threads.specs.rules.Journal.{cids_in, parts, AllDiffer}
 use Rattle.iscsi_threads.proofs.Turning.{known_at}
 
 pub parts_none : (conns : List (ℕ × ℕ)) → replicate (length conns) [] ≡ parts (cids_in conns) []

@@ -3,8 +3,8 @@ use Rattle.std.specs.Prelude.{◌≡◌, ℕ, ◌≤◌, Bool, IsTrue, List, ◌
 use Rattle.std.proofs.Common.{ap, ◌∙◌, take, drop, append_assoc}
 use Rattle.std.proofs.lemmas.List.{take-append-drop, take_all}
 use Rattle.iscsi_threads.specs.declared.port.Port.{Port}
-use Rattle.iscsi_threads.specs.Ports.{posted, port_ring}
-use Rattle.iscsi_threads.specs.Posting.{HasPosted}
+use Rattle.iscsi_threads.specs.rules.Ports.{posted, port_ring}
+use Rattle.iscsi_threads.specs.private.Posting.{HasPosted}
 
 -- fewer are said to be whole
 pub less_whole : (before : Port) (list : List (List ℕ)) (after : Port) (a b : Bool) → (IsTrue b → IsTrue a) → HasPosted before list after a → HasPosted before list after b

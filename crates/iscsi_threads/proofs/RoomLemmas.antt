@@ -6,8 +6,8 @@ use Rattle.iscsi_rules.specs.rules.Settings.{Setting}
 use Rattle.iscsi_threads.specs.declared.fault.LoopFault.{LoopFault}
 use Rattle.iscsi_threads.specs.declared.fault.LoopFault.TheVariants.{Exhausted}
 use Rattle.iscsi_threads.specs.declared.session_loop.Loop.{Loop}
-use Rattle.iscsi_threads.specs.Loops.{SameLoop, journal, setting}
-use Rattle.iscsi_threads.specs.Serving.{IsFull, HasRoom}
+use Rattle.iscsi_threads.specs.rules.Loops.{SameLoop, journal, setting}
+use Rattle.iscsi_threads.specs.promises.Serving.{IsFull, HasRoom}
 
 room_of : {A : Type 0} (r : Result A LoopFault) (n most : ℕ) → (most ≤ n → r ≡ Err Exhausted) → (r ≡ Err Exhausted → ⊥) → n < most
 room_of r n most full other = ⊎_elim (λ lt. lt) (λ le. absurd (other (full le))) (cases_lt n most)

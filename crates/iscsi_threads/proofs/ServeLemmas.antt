@@ -9,10 +9,10 @@ use Rattle.iscsi_threads.specs.declared.port.UnitPort.{UnitPort}
 use Rattle.iscsi_threads.specs.declared.posting.Posted.{Posted}
 use Rattle.iscsi_threads.specs.declared.posting.Posts.{Posts}
 use Rattle.iscsi_threads.specs.declared.working.Works.{Works}
-use Rattle.iscsi_threads.specs.Ports.{posted, taken, answered, port_ring, unit_rings}
-use Rattle.iscsi_threads.specs.Outcomes.{ticket_of}
-use Rattle.iscsi_threads.specs.Works.{InTurn, AllAnswered, ticket_answered}
-use Rattle.iscsi_threads.specs.Promises.{AllPosts, AllPostedOn, AllWorks, AllWorkedOn}
+use Rattle.iscsi_threads.specs.rules.Ports.{posted, taken, answered, port_ring, unit_rings}
+use Rattle.iscsi_threads.specs.promises.Outcomes.{ticket_of}
+use Rattle.iscsi_threads.specs.rules.Works.{InTurn, AllAnswered, ticket_answered}
+use Rattle.iscsi_threads.specs.private.Promises.{AllPosts, AllPostedOn, AllWorks, AllWorkedOn}
 use Rattle.iscsi_threads.proofs.Lists.{some_of, map_at, same_length}
 use Rattle.iscsi_threads.proofs.PostLemmas.{less_whole}
 use Rattle.iscsi_threads.proofs.Steps.{map_equal}

@@ -8,7 +8,7 @@ use Rattle.iscsi_threads.specs.declared.fault.LoopFault.{LoopFault}
 use Rattle.iscsi_threads.specs.declared.fault.LoopFault.TheVariants.{BadOptions, NoMemory, Exhausted}
 use Rattle.iscsi_threads.specs.declared.halt.Halt.{Halt}
 use Rattle.iscsi_threads.specs.declared.halt.Halt.TheVariants.{Memory, Thread}
-use Rattle.iscsi_threads.specs.Halts.{fault_named}
+use Rattle.iscsi_threads.specs.private.Halts.{fault_named}
 use mathlib.Core.List.{IsPrefix}
 use Rattle.iscsi_threads.specs.declared.port.Port.{Port}
 use Rattle.iscsi_threads.specs.declared.port.UnitPort.{UnitPort}
@@ -18,14 +18,14 @@ use Rattle.iscsi_rules.specs.rules.Run.{run_of}
 use Rattle.iscsi_threads.specs.declared.finish.Ended.{Ended}
 use Rattle.iscsi_threads.specs.declared.serving.End.{End}
 use Rattle.iscsi_threads.specs.declared.serving.End.TheVariants.{Quiet, Full}
-use Rattle.iscsi_threads.specs.Ports.{Answer, posted, taken, answered}
-use Rattle.iscsi_threads.specs.Loops.{journal, sources, setting}
-use Rattle.iscsi_threads.specs.Journal.{cids_of, part, parts, done}
-use Rattle.iscsi_threads.specs.Jobs.{jobs}
-use Rattle.iscsi_threads.specs.Outcomes.{Accounted, EndedAs, UnitDone, ticket_of}
-use Rattle.iscsi_threads.specs.Works.{ticket_answered}
-use Rattle.iscsi_threads.specs.Full.{FillsJournal}
-use Rattle.iscsi_threads.specs.Serving.{Together, Ran, Emptied, ServedBy}
+use Rattle.iscsi_threads.specs.rules.Ports.{Answer, posted, taken, answered}
+use Rattle.iscsi_threads.specs.rules.Loops.{journal, sources, setting}
+use Rattle.iscsi_threads.specs.rules.Journal.{cids_of, part, parts, done}
+use Rattle.iscsi_threads.specs.rules.Jobs.{jobs}
+use Rattle.iscsi_threads.specs.promises.Outcomes.{Accounted, EndedAs, UnitDone, ticket_of}
+use Rattle.iscsi_threads.specs.rules.Works.{ticket_answered}
+use Rattle.iscsi_threads.specs.promises.Full.{FillsJournal}
+use Rattle.iscsi_threads.specs.promises.Serving.{Together, Ran, Emptied, ServedBy}
 use Rattle.iscsi_threads.proofs.Lists.{some_of}
 use Rattle.iscsi_threads.proofs.FinishLemmas.{prefix_append}
 

@@ -13,7 +13,7 @@ use Rattle.iscsi_rules.specs.declared.effect.Effect.{Effect}
 use Rattle.iscsi_rules.specs.declared.effect.Effect.TheVariants.{Deliver, Enter, Enable}
 use Rattle.iscsi_rules.proofs.general.PlaceLemmas.{found_there}
 use Rattle.iscsi_threads.specs.declared.job.Job.{Job}
-use Rattle.iscsi_threads.specs.Desks.{Known, is_for, without, job_for, listed, jobs_from, known_after, EnterAbove}
+use Rattle.iscsi_threads.specs.rules.Desks.{Known, is_for, without, job_for, listed, jobs_from, known_after, EnterAbove}
 use Rattle.iscsi_threads.proofs.DeskLemmas.{some_job}
 
 -- a job behind those of lower tickets

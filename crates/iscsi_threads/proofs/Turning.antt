@@ -18,11 +18,11 @@ use Rattle.iscsi_rules.specs.rules.Agenda.{belongs}
 use Rattle.iscsi_session.specs.promises.Refusals.{refusal_of, RefusesAs}
 use Rattle.iscsi_rules.proofs.traces.RunLemmas.{run_of-push}
 use Rattle.iscsi_threads.specs.declared.job.Job.{Job}
-use Rattle.iscsi_threads.specs.Ports.{Answer}
-use Rattle.iscsi_threads.specs.Desks.{Known, nothing, jobs_from, known_after}
-use Rattle.iscsi_threads.specs.Ends.{put_jobs, Polled}
-use Rattle.iscsi_threads.specs.Journal.{cids_in, cids_of, jobs_of, all_jobs}
-use Rattle.iscsi_threads.specs.Jobs.{jobs}
+use Rattle.iscsi_threads.specs.rules.Ports.{Answer}
+use Rattle.iscsi_threads.specs.rules.Desks.{Known, nothing, jobs_from, known_after}
+use Rattle.iscsi_threads.specs.private.Ends.{put_jobs, Polled}
+use Rattle.iscsi_threads.specs.rules.Journal.{cids_in, cids_of, jobs_of, all_jobs}
+use Rattle.iscsi_threads.specs.rules.Jobs.{jobs}
 use Rattle.iscsi_threads.proofs.JobLaws.{jobs_as_noted}
 use Rattle.iscsi_threads.proofs.Lists.{put_jobs_append}
 use Rattle.iscsi_threads.proofs.DeskLemmas.{known_after-append, jobs_from-append}

@@ -2,7 +2,7 @@
 //! all the same, as it does after a nap and in turn where it is idle (`Watch`).
 
 ghost use Rattle.std.specs.Prelude.{◌<◌, ◌≤◌, IfSome};
-ghost use Rattle.iscsi_threads.specs.Watched.{IsMarked};
+ghost use Rattle.iscsi_threads.specs.private.Watched.{IsMarked};
 
 use std::alloc::Global;
 use std::sync::Arc;

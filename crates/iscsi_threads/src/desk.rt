@@ -2,7 +2,7 @@
 
 ghost use Rattle.std.specs.Prelude.{◌≡◌, ◌+◌, ◌≤◌, ◌++◌, length, position};
 ghost use Rattle.std.specs.VecDeque.{deque_len, deque_capacity};
-ghost use Rattle.iscsi_threads.specs.Desks.{is_for, job_for, seen, jobs_from, known_after, InOrderOfTickets, EnterAbove};
+ghost use Rattle.iscsi_threads.specs.rules.Desks.{is_for, job_for, seen, jobs_from, known_after, InOrderOfTickets, EnterAbove};
 
 use crate::job::Job;
 use iscsi_session::{Attr, Effect};
@@ -95,7 +95,7 @@ impl Desk {
     ghost use Rattle.std.specs.Prelude.{◌≡◌, ◌≤◌, ◌+◌, find};
     ghost use Rattle.std.specs.VecDeque.{deque_len, deque_capacity};
     ghost use Rattle.iscsi_rules.specs.declared.effect.Effect.{Effect};
-    ghost use Rattle.iscsi_threads.specs.Desks.{is_for, without, entered, seen, after_effect, job_at, InOrderOfTickets};
+    ghost use Rattle.iscsi_threads.specs.rules.Desks.{is_for, without, entered, seen, after_effect, job_at, InOrderOfTickets};
 
     // Takes out the job of this ticket.
     fn take(&mut self, ticket: u64) -> Option<Job>

@@ -4,11 +4,11 @@ ghost use Rattle.std.specs.Prelude.{◌≡◌, ◌+◌, ◌<◌, ◌≤◌, ℕ,
 ghost use Rattle.iscsi_rules.specs.declared.event.Event.TheVariants.{Arrive, Done};
 ghost use Rattle.std.specs.VecDeque.{deque_len};
 ghost use Rattle.iscsi_threads.specs.declared.job.Job.{Job};
-ghost use Rattle.iscsi_threads.specs.Ports.{Answer};
-ghost use Rattle.iscsi_threads.specs.Outlets.{given, heard, outlet_rings, got, inlet_ring};
-ghost use Rattle.iscsi_threads.specs.Ends.{Polled, put_jobs, grow};
-ghost use Rattle.iscsi_threads.specs.Watched.{mark, ring_at, ring_behind};
-ghost use Rattle.iscsi_threads.specs.Journal.{cids_in};
+ghost use Rattle.iscsi_threads.specs.rules.Ports.{Answer};
+ghost use Rattle.iscsi_threads.specs.rules.Outlets.{given, heard, outlet_rings, got, inlet_ring};
+ghost use Rattle.iscsi_threads.specs.private.Ends.{Polled, put_jobs, grow};
+ghost use Rattle.iscsi_threads.specs.private.Watched.{mark, ring_at, ring_behind};
+ghost use Rattle.iscsi_threads.specs.rules.Journal.{cids_in};
 
 use crate::bell::{FIRST_UNIT, MOST_RINGS, Marks};
 use crate::inlet::Inlet;

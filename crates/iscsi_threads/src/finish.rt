@@ -4,10 +4,10 @@ ghost use Rattle.std.specs.Prelude.{◌≡◌, ◌+◌, ◌≤◌, ◌++◌, [],
 ghost use Rattle.std.specs.VecDeque.{deque_len};
 ghost use mathlib.Core.List.{IsPrefix};
 ghost use Rattle.rtrb.specs.Ring.{sent, received, producer_capacity, consumer_capacity, IsPair};
-ghost use Rattle.iscsi_threads.specs.Ports.{port_ring, taken, answered, unit_rings};
-ghost use Rattle.iscsi_threads.specs.Outlets.{inlet_ring, given, heard, outlet_rings};
-ghost use Rattle.iscsi_threads.specs.Outcomes.{ticket_of};
-ghost use Rattle.iscsi_threads.specs.Finishing.{AllReady, AllReadyFor, HeadersLeft, UnitsLeft, HaveRoom, Noted};
+ghost use Rattle.iscsi_threads.specs.rules.Ports.{port_ring, taken, answered, unit_rings};
+ghost use Rattle.iscsi_threads.specs.rules.Outlets.{inlet_ring, given, heard, outlet_rings};
+ghost use Rattle.iscsi_threads.specs.promises.Outcomes.{ticket_of};
+ghost use Rattle.iscsi_threads.specs.private.Finishing.{AllReady, AllReadyFor, HeadersLeft, UnitsLeft, HaveRoom, Noted};
 
 use crate::fault::LoopFault;
 use crate::inlet::Inlet;
@@ -248,9 +248,9 @@ impl Loop {
     ghost use Rattle.iscsi_rules.specs.rules.Run.{run_of};
     ghost use Rattle.iscsi_rules.specs.promises.Promises.{KeepsPromises};
     ghost use Rattle.iscsi_threads.specs.declared.fault.LoopFault.{LoopFault};
-    ghost use Rattle.iscsi_threads.specs.Loops.{Belong, journal, setting};
-    ghost use Rattle.iscsi_threads.specs.Outcomes.{EndedAs, Finished};
-    ghost use Rattle.iscsi_threads.specs.Finishing.{FitsAll};
+    ghost use Rattle.iscsi_threads.specs.rules.Loops.{Belong, journal, setting};
+    ghost use Rattle.iscsi_threads.specs.promises.Outcomes.{EndedAs, Finished};
+    ghost use Rattle.iscsi_threads.specs.private.Finishing.{FitsAll};
 
     /// Empties all rings, and hands out the journal, its log and what was left. The ports and unit ports must be those
     /// that `open` gave with this loop, all of them, in their order.

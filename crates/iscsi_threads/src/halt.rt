@@ -1,7 +1,7 @@
 //! Why the threads of a session end before their time.
 
 ghost use Rattle.std.specs.Prelude.{◌≡◌};
-ghost use Rattle.iscsi_threads.specs.Halts.{fault_named};
+ghost use Rattle.iscsi_threads.specs.private.Halts.{fault_named};
 
 use crate::fault::LoopFault;
 use std::alloc::AllocError;

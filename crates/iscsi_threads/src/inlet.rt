@@ -21,7 +21,7 @@ impl Drop for Inlet {
 impl Inlet {
     ghost use Rattle.std.specs.Prelude.{◌≡◌, ◌++◌, ◌∷◌, [], ℕ, List, IfSome, IfNone};
     ghost use Rattle.iscsi_rules.specs.declared.event.Event.TheVariants.{Arrive};
-    ghost use Rattle.iscsi_threads.specs.Outlets.{got, inlet_ring};
+    ghost use Rattle.iscsi_threads.specs.rules.Outlets.{got, inlet_ring};
 
     /// Takes a header, and writes the event of its arrival on this connection. Whether the ring has more.
     pub(crate) fn hear(&mut self, conn: u16, event: &mut Event) -> Option<bool>

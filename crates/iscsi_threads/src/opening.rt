@@ -3,9 +3,9 @@
 ghost use Rattle.std.specs.Prelude.{◌≡◌, ◌≢◌, ◌<◌, ◌≤◌, [], replicate, map, vec_len, IfOk, Err, IfErr, true, false};
 ghost use Rattle.iscsi_rules.specs.rules.Settings.{is_valid};
 ghost use Rattle.iscsi_session.specs.promises.Settings.{setting_of};
-ghost use Rattle.iscsi_threads.specs.Ports.{posted, taken, answered, port_ring, unit_rings};
-ghost use Rattle.iscsi_threads.specs.Outlets.{given, heard, outlet_rings, got, inlet_ring};
-ghost use Rattle.iscsi_threads.specs.Loops.{Opened};
+ghost use Rattle.iscsi_threads.specs.rules.Ports.{posted, taken, answered, port_ring, unit_rings};
+ghost use Rattle.iscsi_threads.specs.rules.Outlets.{given, heard, outlet_rings, got, inlet_ring};
+ghost use Rattle.iscsi_threads.specs.rules.Loops.{Opened};
 
 use crate::bell::{Bell, Bells, FIRST_UNIT};
 use crate::desk::Desk;

@@ -31,8 +31,8 @@ impl Outlet {
     ghost use Rattle.std.specs.VecDeque.{deque_len};
     ghost use Rattle.iscsi_threads.specs.declared.job.Job.{Job};
     ghost use Rattle.iscsi_rules.specs.declared.event.Event.TheVariants.{Done};
-    ghost use Rattle.iscsi_threads.specs.Ports.{Answer};
-    ghost use Rattle.iscsi_threads.specs.Outlets.{given, heard, outlet_rings, SameOutlet};
+    ghost use Rattle.iscsi_threads.specs.rules.Ports.{Answer};
+    ghost use Rattle.iscsi_threads.specs.rules.Outlets.{given, heard, outlet_rings, SameOutlet};
 
     /// Moves what fits from the backlog into the ring. Whether jobs are left in the backlog.
     pub(crate) fn fill(&mut self) -> bool

@@ -51,7 +51,7 @@ impl Drop for UnitPort {
 impl Port {
     ghost use Rattle.std.specs.Prelude.{◌≡◌, ◌++◌, ◌∷◌, [], ◌<◌, length, OnOk, IfErr, IsOk};
     ghost use Rattle.iscsi_threads.specs.declared.port.PostFault.TheVariants.{Full};
-    ghost use Rattle.iscsi_threads.specs.Ports.{posted, port_ring};
+    ghost use Rattle.iscsi_threads.specs.rules.Ports.{posted, port_ring};
 
     /// Posts the header of a request PDU, for the loop to take. The first 64 posts succeed.
     ///
@@ -72,7 +72,7 @@ impl Port {
 
 impl UnitPort {
     ghost use Rattle.std.specs.Prelude.{◌≡◌, ◌++◌, ◌∷◌, [], OnOk, IfErr, IfSome, IfNone};
-    ghost use Rattle.iscsi_threads.specs.Ports.{taken, answered, unit_rings};
+    ghost use Rattle.iscsi_threads.specs.rules.Ports.{taken, answered, unit_rings};
 
     /// Takes the next job of the unit. None where the ring has none.
     pub fn take(&mut self) -> Option<Job>

@@ -1,9 +1,9 @@
 //! The threads of the connections.
 
 ghost use Rattle.std.specs.Prelude.{◌≡◌, ◌≤◌, ◌++◌, length, OnOk, vec_len, vec_capacity};
-ghost use Rattle.iscsi_threads.specs.Ports.{posted, port_ring};
-ghost use Rattle.iscsi_threads.specs.Posting.{HasPosted};
-ghost use Rattle.iscsi_threads.specs.Promises.{AllPosts, AllPostedOn};
+ghost use Rattle.iscsi_threads.specs.rules.Ports.{posted, port_ring};
+ghost use Rattle.iscsi_threads.specs.private.Posting.{HasPosted};
+ghost use Rattle.iscsi_threads.specs.private.Promises.{AllPosts, AllPostedOn};
 
 use crate::halt::ThreadLost;
 use crate::port::{Port, PostFault};

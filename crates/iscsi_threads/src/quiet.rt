@@ -1,8 +1,8 @@
 //! Whether all was taken and all was answered.
 
 ghost use Rattle.std.specs.Prelude.{◌≡◌, ◌<◌, IsTrue, map, vec_len};
-ghost use Rattle.iscsi_threads.specs.Ports.{posted, port_ring};
-ghost use Rattle.iscsi_threads.specs.Outlets.{got, inlet_ring};
+ghost use Rattle.iscsi_threads.specs.rules.Ports.{posted, port_ring};
+ghost use Rattle.iscsi_threads.specs.rules.Outlets.{got, inlet_ring};
 
 use crate::inlet::Inlet;
 use crate::port::Port;
@@ -60,8 +60,8 @@ fn are_empty(inlets: &mut Vec<Inlet>, ports: &mut Vec<Port>) -> bool
 
 impl Loop {
     ghost use Rattle.std.specs.Prelude.{◌≡◌, IsTrue, map};
-    ghost use Rattle.iscsi_threads.specs.Loops.{SameLoop, journal, sources};
-    ghost use Rattle.iscsi_threads.specs.Serving.{IsQuiet};
+    ghost use Rattle.iscsi_threads.specs.rules.Loops.{SameLoop, journal, sources};
+    ghost use Rattle.iscsi_threads.specs.promises.Serving.{IsQuiet};
 
     /// Whether every header that was posted was taken, and no command is live.
     pub(crate) fn is_quiet(&mut self, ports: &mut Vec<Port>) -> bool

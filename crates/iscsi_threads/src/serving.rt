@@ -3,12 +3,12 @@
 ghost use Rattle.std.specs.Prelude.{◌≡◌, ◌≢◌, ◌≤◌, ◌<◌, ◌==◌, ◌&&◌, [], ℕ, Bool, List, true, false, map, length, IfOk, IfErr, IsOk, IsErrOf, OnErr, Err, vec_len, vec_capacity, slice_index_or};
 ghost use Rattle.iscsi_rules.specs.rules.Settings.{is_valid};
 ghost use Rattle.iscsi_session.specs.promises.Settings.{setting_of};
-ghost use Rattle.iscsi_threads.specs.Ports.{posted, port_ring};
-ghost use Rattle.iscsi_threads.specs.Outlets.{inlet_ring};
-ghost use Rattle.iscsi_threads.specs.Loops.{SameLoop, Belong, Opened};
-ghost use Rattle.iscsi_threads.specs.Serving.{Served, ServedUnlogged, Together, Ran, IsEnd, CameBack, ComesTo, HasRoom, IsFullUnless};
-ghost use Rattle.iscsi_threads.specs.Full.{FillsJournal};
-ghost use Rattle.iscsi_threads.specs.Promises.{AllPostedOn};
+ghost use Rattle.iscsi_threads.specs.rules.Ports.{posted, port_ring};
+ghost use Rattle.iscsi_threads.specs.rules.Outlets.{inlet_ring};
+ghost use Rattle.iscsi_threads.specs.rules.Loops.{SameLoop, Belong, Opened};
+ghost use Rattle.iscsi_threads.specs.promises.Serving.{Served, ServedUnlogged, Together, Ran, IsEnd, CameBack, ComesTo, HasRoom, IsFullUnless};
+ghost use Rattle.iscsi_threads.specs.promises.Full.{FillsJournal};
+ghost use Rattle.iscsi_threads.specs.private.Promises.{AllPostedOn};
 ghost use Rattle.iscsi_threads.specs.declared.port.Port.{Port};
 
 use crate::fault::LoopFault;
@@ -92,7 +92,7 @@ struct Rooms<'s> {
 }
 
 impl<'s> Rooms<'s> {
-    ghost use Rattle.iscsi_threads.specs.Serving.{HasRooms};
+    ghost use Rattle.iscsi_threads.specs.promises.Serving.{HasRooms};
 
     fn new(alloc: Global, conns: usize, units: usize) -> Result<Rooms<'s>, AllocError>
         ensures { IfOk result (λ rooms. HasRooms rooms conns units) }
@@ -161,8 +161,8 @@ fn run_threads<R: Threads + Wait + Sync, W: UnitWork + Sync>(
 
 impl Stopped {
     ghost use Rattle.std.specs.Prelude.{◌≡◌, ◌≢◌, IfOk, IfErr, IsOk, IsErrOf};
-    ghost use Rattle.iscsi_threads.specs.Loops.{Belong};
-    ghost use Rattle.iscsi_threads.specs.Serving.{Emptied};
+    ghost use Rattle.iscsi_threads.specs.rules.Loops.{Belong};
+    ghost use Rattle.iscsi_threads.specs.promises.Serving.{Emptied};
     ghost use Rattle.iscsi_threads.specs.declared.fault.LoopFault.{LoopFault};
     ghost use Rattle.iscsi_threads.specs.declared.serving.End.{End};
 
@@ -300,7 +300,7 @@ fn run_loop<'s, R: Threads + Wait>(
     Ok((ports, end))
 }
 
-ghost use Rattle.iscsi_threads.specs.Loops.{setting, journal};
+ghost use Rattle.iscsi_threads.specs.rules.Loops.{setting, journal};
 
 // What a turn came to.
 #[derive(Clone, Copy)]

@@ -5,10 +5,10 @@ ghost use Rattle.iscsi_session.specs.promises.Settings.{setting_of};
 ghost use Rattle.iscsi_session.specs.private.Standing.{StandsFor};
 ghost use Rattle.iscsi_rules.specs.rules.Run.{run_of};
 ghost use Rattle.iscsi_rules.specs.promises.Enabling.{effects_in};
-ghost use Rattle.iscsi_threads.specs.Outlets.{given, heard, got};
-ghost use Rattle.iscsi_threads.specs.Desks.{seen, nothing, known_after};
-ghost use Rattle.iscsi_threads.specs.Ends.{put_jobs};
-ghost use Rattle.iscsi_threads.specs.Journal.{cids_of, parts, dones, all_jobs, are_sources, AllDiffer};
+ghost use Rattle.iscsi_threads.specs.rules.Outlets.{given, heard, got};
+ghost use Rattle.iscsi_threads.specs.rules.Desks.{seen, nothing, known_after};
+ghost use Rattle.iscsi_threads.specs.private.Ends.{put_jobs};
+ghost use Rattle.iscsi_threads.specs.rules.Journal.{cids_of, parts, dones, all_jobs, are_sources, AllDiffer};
 
 use crate::bell::Bells;
 use crate::desk::Desk;
@@ -70,9 +70,9 @@ impl Drop for Loop {
 }
 
 impl Loop {
-    ghost use Rattle.iscsi_threads.specs.Loops.{Belong};
-    ghost use Rattle.iscsi_threads.specs.Outcomes.{EndedAs};
-    ghost use Rattle.iscsi_threads.specs.Finishing.{FitsAll};
+    ghost use Rattle.iscsi_threads.specs.rules.Loops.{Belong};
+    ghost use Rattle.iscsi_threads.specs.promises.Outcomes.{EndedAs};
+    ghost use Rattle.iscsi_threads.specs.private.Finishing.{FitsAll};
 
     // Empties all rings into the rooms, and hands out what went through them.
     pub(crate) fn drain(self, mut ports: Vec<Port>, mut units: Vec<UnitPort>, rooms: Rooms) -> Ended

@@ -2,7 +2,7 @@
 
 ghost use Rattle.std.specs.Prelude.{◌≡◌, ◌<◌, ◌≤◌, ◌+◌, vec_len, vec_capacity, OnOk};
 ghost use Rattle.std.specs.VecDeque.{deque_len, deque_capacity};
-ghost use Rattle.iscsi_threads.specs.Desks.{seen};
+ghost use Rattle.iscsi_threads.specs.rules.Desks.{seen};
 
 use crate::desk::{Desk, note_all};
 use crate::ends::{fill_all, poll, spread};
@@ -54,7 +54,7 @@ fn make_room(
 
 impl Loop {
     ghost use Rattle.std.specs.Prelude.{◌≡◌, ◌≢◌, ◌↔◌, ◌≤◌, length, IfOk, IfErr, IsErrOf, OnErr};
-    ghost use Rattle.iscsi_threads.specs.Loops.{SameLoop, Turned, journal, sources, setting};
+    ghost use Rattle.iscsi_threads.specs.rules.Loops.{SameLoop, Turned, journal, sources, setting};
 
     /// Moves jobs into their rings, and takes at most one item, from the ring after the one last served on. The event
     /// goes to the journal, and its effects behind those in `out`.

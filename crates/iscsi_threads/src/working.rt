@@ -1,9 +1,9 @@
 //! The workers of the units.
 
 ghost use Rattle.std.specs.Prelude.{◌≡◌, ◌≤◌, ◌<◌, ◌++◌, ◌∷◌, [], ℕ, IsTrue, OnOk, length, vec_len, vec_capacity, slice_index_or, false};
-ghost use Rattle.iscsi_threads.specs.Ports.{taken, answered, unit_rings};
-ghost use Rattle.iscsi_threads.specs.Works.{InTurn, AllAnswered};
-ghost use Rattle.iscsi_threads.specs.Promises.{AllWorks, AllWorkedOn};
+ghost use Rattle.iscsi_threads.specs.rules.Ports.{taken, answered, unit_rings};
+ghost use Rattle.iscsi_threads.specs.rules.Works.{InTurn, AllAnswered};
+ghost use Rattle.iscsi_threads.specs.private.Promises.{AllWorks, AllWorkedOn};
 
 use crate::halt::ThreadLost;
 use crate::job::Job;

@@ -1,7 +1,7 @@
 //! At the end of a call: who may hand out, and what is to be closed.
 
 ghost use Rattle.std.specs.Prelude.{◌≡◌, ◌<◌, length, slice_index_or, false};
-ghost use Rattle.iscsi_outbox.specs.Words.{cid_at};
+ghost use Rattle.iscsi_outbox.specs.rules.Words.{cid_at};
 ghost use Rattle.iscsi_ffi_steps.specs.Steps.{close_each, close_on, tell_each, tell_on};
 ghost use Rattle.iscsi_ffi_desk.specs.Calls.{asleep, ended};
 

@@ -2,7 +2,7 @@
 
 ghost use Rattle.std.specs.Prelude.{◌≡◌, ◌≤◌, IfOk, true, false, replicate};
 ghost use Rattle.iscsi_outbox_steps.specs.State.{opened as outbox_opened};
-ghost use Rattle.iscsi_outbox.specs.Options.{limits_of};
+ghost use Rattle.iscsi_outbox.specs.promises.Options.{limits_of};
 ghost use Rattle.iscsi_ffi_desk.specs.Options.{is_valid as valid_options, opened};
 ghost use Rattle.iscsi_ffi_desk.specs.Rooms.{AreBuffers, AreFew, AreRooms, AreTables};
 

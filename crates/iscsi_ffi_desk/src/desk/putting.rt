@@ -3,7 +3,7 @@
 ghost use Rattle.std.specs.Prelude.{◌≡◌, ◌<◌, length};
 ghost use Rattle.iscsi_outbox_steps.specs.State.{place_of};
 ghost use Rattle.iscsi_outbox_steps.specs.Steps.{put_refusal};
-ghost use Rattle.iscsi_outbox.specs.Choices.{refused};
+ghost use Rattle.iscsi_outbox.specs.private.Choices.{refused};
 ghost use Rattle.iscsi_requests.specs.Cookies.{next_place};
 ghost use Rattle.iscsi_ffi_steps.specs.Steps.{note_as};
 ghost use Rattle.iscsi_ffi_desk.specs.Calls.{noted_more, put};

@@ -18,8 +18,8 @@ use Rattle.iscsi_rules.proofs.general.ElementLemmas.{In}
 use Rattle.iscsi_outbox_rules.specs.rules.Boxes.{Box}
 use Rattle.iscsi_outbox_rules.specs.rules.Items.{after_item}
 use Rattle.iscsi_outbox_rules.specs.rules.Words.{contains}
-use Rattle.iscsi_outbox_law.specs.Pairs.{EachOf}
-use Rattle.iscsi_outbox_law.specs.Sound.{IsSound}
+use Rattle.iscsi_outbox_law.specs.private.Pairs.{EachOf}
+use Rattle.iscsi_outbox_law.specs.private.Sound.{IsSound}
 use Rattle.iscsi_outbox_law.proofs.commands.Stops.{stops_answered}
 use Rattle.iscsi_outbox_steps.specs.State.{State as OutboxState}
 use Rattle.iscsi_outbox_steps.specs.Steps.{after_item as steps_after_item, is_running_ticket}

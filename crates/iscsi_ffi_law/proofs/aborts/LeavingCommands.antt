@@ -9,7 +9,7 @@ use Rattle.iscsi_rules.proofs.general.CountLemmas.{one, count-cons, count-weaker
 use Rattle.iscsi_rules.proofs.general.ElementLemmas.{In, in-filter}
 use Rattle.iscsi_rules.proofs.general.ListLemmas.{list_any-map}
 use Rattle.iscsi_outbox_rules.specs.rules.Words.{contains}
-use Rattle.iscsi_outbox_law.specs.Pairs.{EachOf}
+use Rattle.iscsi_outbox_law.specs.private.Pairs.{EachOf}
 use Rattle.iscsi_ffi_commands.specs.declared.command.Command.{Command}
 use Rattle.iscsi_ffi_commands.specs.declared.command.Stage.TheVariants.{Over}
 use Rattle.iscsi_ffi_commands.specs.Commands.{has_ticket, in_stage, is_going, is_live, is_marked}

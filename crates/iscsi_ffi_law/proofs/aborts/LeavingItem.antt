@@ -15,7 +15,7 @@ use Rattle.iscsi_rules.proofs.items.Forms.{Start}
 use Rattle.iscsi_outbox_rules.specs.rules.Boxes.{Box}
 use Rattle.iscsi_outbox_rules.specs.rules.Due.{settle}
 use Rattle.iscsi_outbox_rules.specs.rules.Items.{after_item, in_phase, phase_enabled, send}
-use Rattle.iscsi_outbox_law.specs.Sound.{IsSound}
+use Rattle.iscsi_outbox_law.specs.private.Sound.{IsSound}
 use Rattle.iscsi_outbox_steps.specs.State.{State as OutboxState}
 use Rattle.iscsi_outbox_steps.specs.Steps.{after_item as steps_after_item}
 use Rattle.iscsi_requests.specs.Conns.{of_conn}

@@ -12,8 +12,8 @@ use Rattle.iscsi_outbox_rules.specs.rules.Boxes.{Answer, Link, Notices, Outgoing
 use Rattle.iscsi_outbox_rules.specs.rules.Queues.{without}
 use Rattle.iscsi_outbox_rules.specs.rules.Run.{new_link}
 use Rattle.iscsi_outbox_rules.specs.rules.Words.{contains, is_of}
-use Rattle.iscsi_outbox_law.specs.Commands.{link_in}
-use Rattle.iscsi_outbox_law.specs.Pairs.{EachOf}
+use Rattle.iscsi_outbox_law.specs.private.Commands.{link_in}
+use Rattle.iscsi_outbox_law.specs.private.Pairs.{EachOf}
 use Rattle.iscsi_outbox_law.proofs.general.PairLemmas.{each-at, each-weaken}
 use Rattle.iscsi_outbox_law.proofs.general.PlaceLemmas.{AreApart as LinksApart}
 use Rattle.iscsi_requests.specs.declared.replies.WaitingReply.{WaitingReply}

@@ -12,7 +12,7 @@ use Rattle.iscsi_rules.proofs.general.BoolLemmas.{and_parts}
 use Rattle.iscsi_rules.proofs.general.CountLemmas.{one, count-cons}
 use Rattle.iscsi_rules.proofs.general.ElementLemmas.{In, append-in_first, append-in_second, in-append}
 use Rattle.iscsi_rules.proofs.traces.HeldLemmas.{held-admits, held-here, held-number}
-use Rattle.iscsi_outbox_law.specs.Pairs.{EachOf}
+use Rattle.iscsi_outbox_law.specs.private.Pairs.{EachOf}
 use Rattle.iscsi_requests.proofs.NumberLemmas.{is_whole, never_meet}
 use Rattle.iscsi_requests.specs.Cookies as cookies
 use Rattle.iscsi_requests.specs.Numbers.{HeldNumbers, index_of, size_for, with_held}

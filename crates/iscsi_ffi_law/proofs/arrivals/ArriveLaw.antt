@@ -25,7 +25,7 @@ use Rattle.iscsi_rules.proofs.general.ElementLemmas.{filter-in}
 use Rattle.iscsi_rules.proofs.traces.NewlyLemmas.{newly-untouched}
 use Rattle.iscsi_outbox_rules.specs.rules.Run.{after_call}
 use Rattle.iscsi_outbox_rules.proofs.closes.ClosedParts.{EachOn}
-use Rattle.iscsi_outbox_law.specs.Sound.{IsSound}
+use Rattle.iscsi_outbox_law.specs.private.Sound.{IsSound}
 use Rattle.iscsi_ffi_rules.specs.rules.Calls.{Interface}
 use Rattle.iscsi_ffi_rules.specs.rules.Happening.{happens as happens_there}
 use Rattle.iscsi_ffi_rules.specs.rules.Run as rules

@@ -10,7 +10,7 @@ use Rattle.iscsi_outbox_rules.specs.rules.Calls as outbox
 use Rattle.iscsi_outbox_rules.specs.rules.Queues.{at_link}
 use Rattle.iscsi_outbox_rules.specs.rules.Words.{may_take}
 use Rattle.iscsi_outbox_rules.specs.rules.Run.{after_call, link_heard}
-use Rattle.iscsi_outbox_law.specs.Stands.{Stands as OutboxStands}
+use Rattle.iscsi_outbox_law.specs.private.Stands.{Stands as OutboxStands}
 use Rattle.iscsi_outbox_law.proofs.general.PairLemmas.{each-weaken}
 use Rattle.iscsi_outbox_law.proofs.arrivals.Hearing.{hears_stands}
 use Rattle.iscsi_outbox_law.proofs.commands.TurningCount.{call_last}

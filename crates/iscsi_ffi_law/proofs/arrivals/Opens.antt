@@ -3,7 +3,7 @@ use Rattle.std.proofs.Common.{◌≡◌, ℕ, ◌==◌, cond, Bool, true, false,
 use Rattle.iscsi_ffi_law.proofs.logouts.Parting.{close_marks, parted_marks}
 use Rattle.iscsi_ffi_rules.specs.rules.Happening.{leaving}
 use Rattle.iscsi_outbox_law.proofs.general.PairLemmas.{each-append, each-filter, each-weaken}
-use Rattle.iscsi_outbox_law.specs.Pairs.{EachOf, InOrder}
+use Rattle.iscsi_outbox_law.specs.private.Pairs.{EachOf, InOrder}
 use Rattle.iscsi_rules.proofs.traces.HeldLemmas.{held-number}
 use Rattle.std.specs.List.{list_all, range_with_len}
 use Rattle.std.proofs.lemmas.Bool.{cond_both}

@@ -8,7 +8,7 @@ use Rattle.iscsi_arrivals.specs.Standing.{StandsFor}
 use Rattle.iscsi_outbox_rules.specs.rules.Boxes.{Link}
 use Rattle.iscsi_outbox_rules.specs.rules.Handing.{link_of}
 use Rattle.iscsi_outbox_rules.specs.rules.Words.{is_open, may_take}
-use Rattle.iscsi_outbox_law.specs.Commands.{is_under_way, link_in}
+use Rattle.iscsi_outbox_law.specs.private.Commands.{is_under_way, link_in}
 use Rattle.iscsi_outbox_law.proofs.general.PlaceLemmas.{IsPlace, conns_of, found_at, known_any}
 use Rattle.iscsi_outbox_law.proofs.connections.Standing.{counts_at, links_apart, stands_nowhere, stands_there}
 use Rattle.iscsi_outbox_law.proofs.queues.Waiting.{may_take_is}

@@ -8,7 +8,7 @@ use Rattle.iscsi_rules.specs.rules.Trace.{Admits, Arrival, ClosesConn, ClosesSes
 use Rattle.iscsi_rules.proofs.general.CountLemmas.{one, count-cons}
 use Rattle.iscsi_rules.proofs.general.ElementLemmas.{In, append-in_first, append-in_second, first-in, in-append, in-cons}
 use Rattle.iscsi_rules.proofs.traces.HeldLemmas.{admitted_of_held, held-number}
-use Rattle.iscsi_outbox_law.specs.Pairs.{EachOf, PairsOf}
+use Rattle.iscsi_outbox_law.specs.private.Pairs.{EachOf, PairsOf}
 use Rattle.iscsi_outbox_law.proofs.general.PairLemmas.{each-append, each-filter, pairs-weaken}
 use Rattle.iscsi_requests.specs.Conns.{of_conn}
 use Rattle.iscsi_requests.specs.Functions.{WaitingFunctions}

@@ -1,6 +1,6 @@
 -- A call that takes off one use at the most, and then ends.
 use Rattle.std.proofs.Common.{◌≡◌, ℕ, ◌*◌, ◌<◌, ◌≤◌, List, [], length, Option, None, refl, ◌∙◌, arith, true}
-use Rattle.iscsi_outbox_law.specs.Stands.{Stands as OutboxStands}
+use Rattle.iscsi_outbox_law.specs.private.Stands.{Stands as OutboxStands}
 use Rattle.iscsi_outbox_rules.specs.rules.Boxes.{Box}
 use Rattle.iscsi_outbox_steps.specs.State.{State as OutboxState}
 use Rattle.iscsi_outbox_steps.specs.Steps.{is_running_ticket}
@@ -20,8 +20,8 @@ use Rattle.iscsi_ffi_law.proofs.calls.Finish.{IsAtEnd, stands_ended, tells_alike
 use Rattle.iscsi_ffi_law.proofs.calls.Moved.{IsMoved, commands_known, requests_moved, with_box, with_outbox}
 use Rattle.iscsi_ffi_law.proofs.requests.Releasing.{Released, ending, released_if}
 use Rattle.iscsi_rules.specs.rules.Settings.{are_distinct}
-use Rattle.iscsi_outbox_law.specs.Sound.{IsSound}
-use Rattle.iscsi_outbox_law.specs.Room.{AreFew}
+use Rattle.iscsi_outbox_law.specs.private.Sound.{IsSound}
+use Rattle.iscsi_outbox_law.specs.rules.Room.{AreFew}
 use Rattle.iscsi_ffi_law.proofs.requests.Releases.{all_released, endings, releases}
 
 pub record EndsAlike (i : Interface) (g : Going) (r : Side) (acts : List Action) : Type 0 where

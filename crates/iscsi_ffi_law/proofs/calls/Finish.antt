@@ -12,10 +12,10 @@ use Rattle.iscsi_outbox_rules.specs.rules.Words.{contains, is_running}
 use Rattle.iscsi_outbox_rules.specs.rules.Boxes.{Answer, Link}
 use Rattle.iscsi_outbox_rules.specs.rules.Handing as box
 use Rattle.iscsi_outbox_rules.specs.rules.Queues.{takes_more}
-use Rattle.iscsi_outbox_law.specs.Room.{AreFew}
-use Rattle.iscsi_outbox_law.specs.Commands.{is_under_way}
-use Rattle.iscsi_outbox_law.specs.Sound.{IsAnswerSound, IsSound}
-use Rattle.iscsi_outbox_law.specs.Stands.{Stands as OutboxStands}
+use Rattle.iscsi_outbox_law.specs.rules.Room.{AreFew}
+use Rattle.iscsi_outbox_law.specs.private.Commands.{is_under_way}
+use Rattle.iscsi_outbox_law.specs.private.Sound.{IsAnswerSound, IsSound}
+use Rattle.iscsi_outbox_law.specs.private.Stands.{Stands as OutboxStands}
 use Rattle.iscsi_outbox_law.proofs.general.PairLemmas.{each-append, each-new, each-weaken}
 use Rattle.iscsi_outbox_law.proofs.general.PlaceLemmas.{AreApart as LinksApart, conns_of}
 use Rattle.iscsi_outbox_law.proofs.connections.Standing.{links_apart}

@@ -9,10 +9,10 @@ use Rattle.iscsi_rules.proofs.general.ElementLemmas.{In}
 use Rattle.iscsi_outbox_rules.specs.rules.Boxes.{Answer, Box, Link}
 use Rattle.iscsi_outbox_rules.specs.rules.Run.{new_link}
 use Rattle.iscsi_outbox_rules.specs.rules.Words.{is_running}
-use Rattle.iscsi_outbox_law.specs.Commands.{is_under_way, link_in}
-use Rattle.iscsi_outbox_law.specs.Pairs.{EachOf, PairsOf}
-use Rattle.iscsi_outbox_law.specs.Sound.{IsAnswerSound, IsSound}
-use Rattle.iscsi_outbox_law.specs.Stands.{Stands as OutboxStands}
+use Rattle.iscsi_outbox_law.specs.private.Commands.{is_under_way, link_in}
+use Rattle.iscsi_outbox_law.specs.private.Pairs.{EachOf, PairsOf}
+use Rattle.iscsi_outbox_law.specs.private.Sound.{IsAnswerSound, IsSound}
+use Rattle.iscsi_outbox_law.specs.private.Stands.{Stands as OutboxStands}
 use Rattle.iscsi_outbox_law.proofs.general.PairLemmas.{each-weaken, pairs-weaken}
 use Rattle.iscsi_outbox_law.proofs.connections.Standing.{links_apart}
 use Rattle.iscsi_outbox_law.proofs.commands.Stops.{stops_answered}

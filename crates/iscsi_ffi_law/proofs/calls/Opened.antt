@@ -2,7 +2,7 @@
 use Rattle.std.proofs.Common.{◌≡◌, ℕ, ◌+◌, ◌<◌, ◌==◌, cond, find, nat_le, unwrap_or, Bool, true, false, List, [], ◌∷◌, length, map, count_by, replicate, get_or, Option, Some, None, refl, ap, sym, subst, arith, ◌≤◌, zero, suc}
 use Rattle.std.proofs.lemmas.List.{get_or-map, length-map, length-replicate}
 use Rattle.iscsi_outbox_rules.specs.rules.Run.{new_link}
-use Rattle.iscsi_outbox_law.specs.Pairs.{EachOf, PairsOf}
+use Rattle.iscsi_outbox_law.specs.private.Pairs.{EachOf, PairsOf}
 use Rattle.iscsi_outbox_law.proofs.calls.Opened.{stands_opened}
 use Rattle.iscsi_requests.specs.Conns.{of_conn}
 use Rattle.iscsi_requests.specs.Numbers as numbers

@@ -12,8 +12,8 @@ use Rattle.iscsi_outbox_rules.specs.rules.Due.{is_due, settle, settle_from}
 use Rattle.iscsi_outbox_rules.specs.rules.Queues.{at_link, enter, takes_more}
 use Rattle.iscsi_outbox_rules.specs.rules.Run.{after_call, arrived_by_ping, arrived_by_stat_sn, cleared, link_heard, link_joined, may_join, waits_for_clear}
 use Rattle.iscsi_outbox_rules.specs.rules.Words.{is_open, is_running}
-use Rattle.iscsi_outbox_law.specs.Commands.{link_in}
-use Rattle.iscsi_outbox_law.specs.Pairs.{EachOf}
+use Rattle.iscsi_outbox_law.specs.private.Commands.{link_in}
+use Rattle.iscsi_outbox_law.specs.private.Pairs.{EachOf}
 use Rattle.iscsi_outbox_law.proofs.general.PairLemmas.{each-weaken}
 use Rattle.iscsi_outbox_law.proofs.general.PlaceLemmas.{AreApart as LinksApart}
 use Rattle.iscsi_outbox_law.proofs.calls.Clears.{clears_stands}

@@ -6,7 +6,7 @@ use Rattle.std.proofs.lemmas.List.Folds.{list_any-append}
 use Rattle.iscsi_outbox_rules.specs.rules.Words.{contains}
 use Rattle.iscsi_outbox_rules.specs.rules.Handing as box
 use Rattle.iscsi_outbox_steps.specs.Steps.{given}
-use Rattle.iscsi_outbox_law.specs.Said.{given_said}
+use Rattle.iscsi_outbox_law.specs.rules.Said.{given_said}
 use Rattle.iscsi_ffi_rules.specs.declared.action.Action.{Action}
 use Rattle.iscsi_ffi_rules.specs.declared.action.Action.TheVariants.{Ready, Close}
 use Rattle.iscsi_ffi_rules.specs.rules.Run.{cids}

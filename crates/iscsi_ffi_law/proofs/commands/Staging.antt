@@ -10,7 +10,7 @@ use Rattle.iscsi_rules.proofs.general.BoolLemmas.{or_false}
 use Rattle.iscsi_rules.proofs.general.ElementLemmas.{In, filter-in, in-filter}
 use Rattle.iscsi_rules.proofs.general.ListLemmas.{any_filter}
 use Rattle.iscsi_outbox_rules.specs.rules.Words.{contains}
-use Rattle.iscsi_outbox_law.specs.Pairs.{EachOf}
+use Rattle.iscsi_outbox_law.specs.private.Pairs.{EachOf}
 use Rattle.iscsi_outbox_law.proofs.general.PairLemmas.{pairs-any}
 use Rattle.iscsi_outbox_steps.specs.State.{State as OutboxState}
 use Rattle.iscsi_outbox_steps.specs.Steps.{is_running_ticket}

@@ -5,7 +5,7 @@ use Rattle.std.proofs.lemmas.List.{append-nil}
 use Rattle.iscsi_rules.specs.rules.Trace.{Command as RulesCommand, are_apart, entered, has, leaves_ticket, was_free}
 use Rattle.iscsi_rules.proofs.general.ElementLemmas.{In}
 use Rattle.iscsi_outbox_rules.specs.rules.Words.{contains}
-use Rattle.iscsi_outbox_law.specs.Pairs.{EachOf}
+use Rattle.iscsi_outbox_law.specs.private.Pairs.{EachOf}
 use Rattle.iscsi_outbox_steps.specs.State.{State as OutboxState}
 use Rattle.iscsi_requests.specs.Cookies.{cookie_at}
 use Rattle.iscsi_ffi_commands.specs.declared.command.Command.{Command}

@@ -12,9 +12,9 @@ use Rattle.iscsi_outbox_rules.specs.rules.Due.{settle}
 use Rattle.iscsi_outbox_rules.specs.rules.Items.{in_phase}
 use Rattle.iscsi_outbox_rules.specs.rules.Run.{after_call, phase_stopped}
 use Rattle.iscsi_outbox_rules.specs.rules.Words.{contains, is_running, is_running_phase}
-use Rattle.iscsi_outbox_law.specs.Commands.{link_in}
-use Rattle.iscsi_outbox_law.specs.Pairs.{EachOf}
-use Rattle.iscsi_outbox_law.specs.Stands.{Stands as OutboxStands}
+use Rattle.iscsi_outbox_law.specs.private.Commands.{link_in}
+use Rattle.iscsi_outbox_law.specs.private.Pairs.{EachOf}
+use Rattle.iscsi_outbox_law.specs.private.Stands.{Stands as OutboxStands}
 use Rattle.iscsi_outbox_law.proofs.general.PairLemmas.{each-weaken}
 use Rattle.iscsi_outbox_law.proofs.commands.Stops.{stops_answered, stops_stands}
 use Rattle.iscsi_outbox_law.proofs.commands.TurningCount.{call_last}

@@ -28,10 +28,10 @@ use Rattle.iscsi_outbox_rules.specs.rules.Queues.{append, enter, takes_more}
 use Rattle.iscsi_outbox_rules.specs.rules.Run.{after_call, new_link}
 use Rattle.iscsi_outbox_rules.specs.rules.Words.{is_live_phase}
 use Rattle.iscsi_outbox_rules.proofs.commands.TaskLives.{item_tasks}
-use Rattle.iscsi_outbox_law.specs.Commands.{is_under_way, link_in}
-use Rattle.iscsi_outbox_law.specs.Pairs.{EachOf, InOrder}
-use Rattle.iscsi_outbox_law.specs.Sound.{IsItemSound, IsLinkSound, conn_closed, entries_of, entry_of, is_close, is_live_in}
-use Rattle.iscsi_outbox_law.specs.Stands.{Stands as OutboxStands}
+use Rattle.iscsi_outbox_law.specs.private.Commands.{is_under_way, link_in}
+use Rattle.iscsi_outbox_law.specs.private.Pairs.{EachOf, InOrder}
+use Rattle.iscsi_outbox_law.specs.private.Sound.{IsItemSound, IsLinkSound, conn_closed, entries_of, entry_of, is_close, is_live_in}
+use Rattle.iscsi_outbox_law.specs.private.Stands.{Stands as OutboxStands}
 use Rattle.iscsi_outbox_law.proofs.general.PairLemmas.{each-at, each-weaken}
 use Rattle.iscsi_outbox_law.proofs.general.PlaceLemmas.{AreApart as LinksApart, IsPlace, conns_of, known_any, none_here, one_place}
 use Rattle.iscsi_outbox_law.proofs.connections.Standing.{cids_are, links_apart, stands_nowhere, stands_there}

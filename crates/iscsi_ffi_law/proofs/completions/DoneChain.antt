@@ -8,7 +8,7 @@ use Rattle.iscsi_rules.specs.rules.Trace.{Command as RulesCommand, are_apart, en
 use Rattle.iscsi_rules.proofs.general.BoolLemmas.{and_parts}
 use Rattle.iscsi_rules.proofs.general.ElementLemmas.{In, filter-in, in-filter}
 use Rattle.iscsi_outbox_rules.specs.rules.Words.{contains}
-use Rattle.iscsi_outbox_law.specs.Pairs.{InOrder}
+use Rattle.iscsi_outbox_law.specs.private.Pairs.{InOrder}
 use Rattle.iscsi_ffi_commands.specs.declared.command.Command.{Command}
 use Rattle.iscsi_ffi_commands.specs.Commands.{has_ticket, is_marked}
 use Rattle.iscsi_ffi_rules.specs.declared.action.Action.{Action}

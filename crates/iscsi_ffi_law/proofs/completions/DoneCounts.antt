@@ -9,7 +9,7 @@ use Rattle.iscsi_rules.specs.rules.Trace.{Command, Mark, Trace, enabled_in, ente
 use Rattle.iscsi_rules.proofs.general.BoolLemmas.{and_false, and_parts}
 use Rattle.iscsi_rules.proofs.general.CountLemmas.{one, count-cons, count-filter, count-weaker}
 use Rattle.iscsi_rules.proofs.general.ElementLemmas.{In, filter-in, flat_map-in, in-filter, range-in}
-use Rattle.iscsi_outbox_law.specs.Pairs.{EachOf}
+use Rattle.iscsi_outbox_law.specs.private.Pairs.{EachOf}
 use Rattle.iscsi_ffi_law.proofs.completions.DoneShape.{done_item, done_trace, entered_same, free_still, left_too, news}
 use Rattle.iscsi_ffi_law.proofs.requests.Kept.{count_members, count_nothing}
 use Rattle.iscsi_ffi_law.proofs.general.Members.{each_in}

@@ -7,7 +7,7 @@ use Rattle.iscsi_rules.specs.rules.Trace.{Command, entered, has, leaves_ticket, 
 use Rattle.iscsi_rules.proofs.general.CountLemmas.{one, count-filter}
 use Rattle.iscsi_rules.proofs.general.ElementLemmas.{In, filter-in, in-filter}
 use Rattle.iscsi_rules.proofs.general.ListLemmas.{count_by-map, list_any-map}
-use Rattle.iscsi_outbox_law.specs.Pairs.{InOrder}
+use Rattle.iscsi_outbox_law.specs.private.Pairs.{InOrder}
 use Rattle.iscsi_outbox_rules.specs.rules.Words.{contains}
 use Rattle.iscsi_ffi_rules.specs.rules.Calls.{Interface}
 use Rattle.iscsi_ffi_rules.specs.rules.Clearing.{is_withheld}

@@ -10,8 +10,8 @@ use Rattle.iscsi_rules.proofs.general.CountLemmas.{one, count-cons}
 use Rattle.iscsi_rules.proofs.general.ElementLemmas.{In}
 use Rattle.iscsi_outbox_rules.specs.promises.Scope.{nth}
 use Rattle.iscsi_outbox_rules.specs.rules.Boxes.{Answer, Link, Outgoing, Task}
-use Rattle.iscsi_outbox_law.specs.Pairs.{EachOf, InOrder}
-use Rattle.iscsi_outbox_law.specs.Sound.{HasHome}
+use Rattle.iscsi_outbox_law.specs.private.Pairs.{EachOf, InOrder}
+use Rattle.iscsi_outbox_law.specs.private.Sound.{HasHome}
 use Rattle.iscsi_outbox_law.proofs.general.PairLemmas.{each-append, each-weaken}
 use Rattle.iscsi_requests.specs.Replies.{has_log_place}
 use Rattle.iscsi_requests.specs.declared.replies.WaitingReply.{WaitingReply}

@@ -9,8 +9,8 @@ use Rattle.iscsi_rules.proofs.general.CountLemmas.{count-weaker}
 use Rattle.iscsi_outbox_rules.specs.promises.Room.{places}
 use Rattle.iscsi_outbox_rules.specs.rules.Boxes.{Answer, Link, Outgoing}
 use Rattle.iscsi_outbox_rules.specs.rules.Words.{is_reply, replies_waiting}
-use Rattle.iscsi_outbox_law.specs.Commands.{link_in}
-use Rattle.iscsi_outbox_law.specs.Stands.{Stands as OutboxStands}
+use Rattle.iscsi_outbox_law.specs.private.Commands.{link_in}
+use Rattle.iscsi_outbox_law.specs.private.Stands.{Stands as OutboxStands}
 use Rattle.iscsi_requests.specs.Conns.{count_all, of_conn}
 use Rattle.iscsi_requests.specs.Replies.{all_of, has_log_place}
 use Rattle.iscsi_requests.specs.declared.replies.WaitingReply.{WaitingReply}
@@ -24,7 +24,7 @@ use Rattle.iscsi_ffi_law.specs.Stands.{AreRequests, AreSizes}
 use Rattle.iscsi_ffi_law.specs.Uses.{count_lists, is_place}
 use Rattle.iscsi_ffi_law.proofs.calls.Finish.{as_many_links}
 use Rattle.iscsi_ffi_law.proofs.calls.Fitting.{count_inside, noted_own, count_map, fewer, sent_place, sent_reply}
-use Rattle.iscsi_outbox_law.specs.Sound.{IsLinkSound, IsSound}
+use Rattle.iscsi_outbox_law.specs.private.Sound.{IsLinkSound, IsSound}
 use Rattle.iscsi_outbox_law.proofs.general.PairLemmas.{each-at}
 use Rattle.iscsi_outbox_rules.specs.rules.Own.{is_own}
 use Rattle.iscsi_outbox_rules.specs.rules.Run.{new_link}

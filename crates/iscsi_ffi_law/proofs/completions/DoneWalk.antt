@@ -6,7 +6,7 @@ use Rattle.iscsi_rules.specs.rules.Run.{numbers_of}
 use Rattle.iscsi_rules.specs.rules.Trace.{Command as RulesCommand}
 use Rattle.iscsi_arrivals.specs.Standing.{StandsFor}
 use Rattle.iscsi_outbox_rules.specs.rules.Items.{ticket_enabled}
-use Rattle.iscsi_outbox_law.specs.Commands.{is_under_way, link_in}
+use Rattle.iscsi_outbox_law.specs.private.Commands.{is_under_way, link_in}
 use Rattle.iscsi_outbox_law.proofs.connections.Standing.{counts_at}
 use Rattle.iscsi_outbox_steps.specs.State.{Limits, State as OutboxState, link_at, place_of}
 use Rattle.iscsi_outbox_steps.specs.Steps.{as_list, taken}

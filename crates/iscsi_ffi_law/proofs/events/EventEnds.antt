@@ -21,9 +21,9 @@ use Rattle.iscsi_outbox_rules.specs.rules.Boxes.{Box, Task}
 use Rattle.iscsi_outbox_rules.specs.rules.Items.{after_event, after_items as box_after_items, phase_told, ticket_enabled}
 use Rattle.iscsi_outbox_rules.specs.rules.Words.{contains, replies_waiting}
 use Rattle.iscsi_outbox_rules.proofs.closes.ClosedParts.{effects_each}
-use Rattle.iscsi_outbox_law.specs.Commands.{link_in}
-use Rattle.iscsi_outbox_law.specs.Sound.{IsSound, NoneIsFresh}
-use Rattle.iscsi_outbox_law.specs.Stands.{Stands as OutboxStands}
+use Rattle.iscsi_outbox_law.specs.private.Commands.{link_in}
+use Rattle.iscsi_outbox_law.specs.private.Sound.{IsSound, NoneIsFresh}
+use Rattle.iscsi_outbox_law.specs.private.Stands.{Stands as OutboxStands}
 use Rattle.iscsi_outbox_law.proofs.general.PairLemmas.{each-weaken, pairs-length, pairs-weaken}
 use Rattle.iscsi_outbox_law.proofs.commands.TurningEach.{event_stands}
 use Rattle.iscsi_outbox_law.proofs.commands.TurningFresh.{event_fresh}

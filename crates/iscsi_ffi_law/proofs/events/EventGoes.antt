@@ -11,8 +11,8 @@ use Rattle.iscsi_outbox_rules.specs.rules.Boxes.{Box}
 use Rattle.iscsi_outbox_rules.specs.rules.Items.{after_item, after_items as box_after_items}
 use Rattle.iscsi_outbox_rules.proofs.closes.ClosedParts.{Parts, effects_each, event_parts}
 use Rattle.iscsi_outbox_rules.proofs.room.RoomSends.{Formed, event_going as event_sends}
-use Rattle.iscsi_outbox_law.specs.Sound.{IsItemSound, IsSound}
-use Rattle.iscsi_outbox_law.specs.Stands.{Stands as OutboxStands}
+use Rattle.iscsi_outbox_law.specs.private.Sound.{IsItemSound, IsSound}
+use Rattle.iscsi_outbox_law.specs.private.Stands.{Stands as OutboxStands}
 use Rattle.iscsi_outbox_law.proofs.items.TakesItem.{item_stands}
 use Rattle.iscsi_outbox_law.proofs.commands.TurningCount.{item_last}
 use Rattle.iscsi_outbox_steps.specs.State.{State as OutboxState}

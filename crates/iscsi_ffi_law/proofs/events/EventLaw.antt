@@ -10,12 +10,12 @@ use Rattle.iscsi_rules.specs.rules.Trace.{was_free, Command as RulesCommand, Mar
 use Rattle.iscsi_rules.proofs.general.CountLemmas.{one, count-cons}
 use Rattle.iscsi_rules.proofs.general.ListLemmas.{filter-shorter}
 use Rattle.iscsi_outbox_rules.specs.rules.Words.{contains}
-use Rattle.iscsi_outbox_law.specs.Pairs.{PairsOf}
+use Rattle.iscsi_outbox_law.specs.private.Pairs.{PairsOf}
 use Rattle.iscsi_outbox_steps.specs.Steps.{is_running_ticket}
 use Rattle.iscsi_ffi_commands.specs.declared.command.Command.{Command}
 use Rattle.iscsi_ffi_commands.specs.Commands.{is_live}
 use Rattle.iscsi_rules.proofs.general.ElementLemmas.{In, filter-in, in-filter}
-use Rattle.iscsi_outbox_law.specs.Stands.{Stands as OutboxStands}
+use Rattle.iscsi_outbox_law.specs.private.Stands.{Stands as OutboxStands}
 use Rattle.iscsi_ffi_rules.specs.declared.action.Action.{Action}
 use Rattle.iscsi_ffi_rules.specs.rules.Calls.{Interface}
 use Rattle.iscsi_ffi_rules.specs.rules.Clearing.{is_withheld, next_withheld}

@@ -12,7 +12,7 @@ use Rattle.iscsi_rules.proofs.general.CountLemmas.{one, count-cons, count-filter
 use Rattle.iscsi_rules.proofs.general.ElementLemmas.{In, append-in_second, in-append}
 use Rattle.iscsi_rules.proofs.traces.NewlyLemmas.{never_free}
 use Rattle.iscsi_outbox_rules.specs.rules.Words.{contains}
-use Rattle.iscsi_outbox_law.specs.Pairs.{EachOf}
+use Rattle.iscsi_outbox_law.specs.private.Pairs.{EachOf}
 use Rattle.iscsi_ffi_law.proofs.completions.DoneCounts.{newly_counted}
 use Rattle.iscsi_ffi_law.proofs.completions.DoneShape.{IsNew, new_ones}
 use Rattle.iscsi_ffi_law.proofs.events.EventRules.{entered_later, free_later, news_of}

@@ -3,7 +3,7 @@ use Rattle.std.proofs.Common.{◌≡◌, ℕ, ◌+◌, ◌<◌, ◌≤◌, ◌==
 use Rattle.std.proofs.lemmas.Bool.{eqb-true, eq-eqb, ltb-false, ltb-true}
 use Rattle.iscsi_rules.specs.rules.Trace.{Command}
 use Rattle.iscsi_rules.proofs.general.CountLemmas.{one, count-cons}
-use Rattle.iscsi_outbox_law.specs.Pairs.{EachOf, InOrder}
+use Rattle.iscsi_outbox_law.specs.private.Pairs.{EachOf, InOrder}
 use Rattle.iscsi_outbox_law.proofs.general.PairLemmas.{each-filter, each-map, each-weaken}
 use Rattle.iscsi_ffi_steps.specs.State.{inserted}
 use Rattle.iscsi_ffi_law.proofs.completions.DoneShape.{tickets_of}

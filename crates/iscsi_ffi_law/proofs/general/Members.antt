@@ -4,7 +4,7 @@ use Rattle.std.specs.List.{list_any}
 use Rattle.std.proofs.lemmas.Bool.{false≢true, or_left, or_right, cases_lt}
 use Rattle.iscsi_rules.proofs.general.CountLemmas.{one, count-cons}
 use Rattle.iscsi_rules.proofs.general.ElementLemmas.{In}
-use Rattle.iscsi_outbox_law.specs.Pairs.{EachOf, PairsOf}
+use Rattle.iscsi_outbox_law.specs.private.Pairs.{EachOf, PairsOf}
 use Rattle.iscsi_requests.specs.Conns.{of_conn}
 use Rattle.iscsi_ffi_law.specs.Uses.{count_lists}
 

@@ -11,9 +11,9 @@ use Rattle.iscsi_rules.proofs.general.CountLemmas.{one}
 use Rattle.iscsi_rules.proofs.items.Forms.{AtArrival, AtTurn, Start}
 use Rattle.iscsi_rules.proofs.traces.HeldLemmas.{held-delivered}
 use Rattle.iscsi_outbox_rules.specs.rules.Queues.{takes_more}
-use Rattle.iscsi_outbox_law.specs.Commands.{link_in}
-use Rattle.iscsi_outbox_law.specs.Pairs.{EachOf}
-use Rattle.iscsi_outbox_law.specs.Stands.{Stands as OutboxStands}
+use Rattle.iscsi_outbox_law.specs.private.Commands.{link_in}
+use Rattle.iscsi_outbox_law.specs.private.Pairs.{EachOf}
+use Rattle.iscsi_outbox_law.specs.private.Stands.{Stands as OutboxStands}
 use Rattle.iscsi_outbox_law.proofs.general.PairLemmas.{each-weaken}
 use Rattle.iscsi_outbox_steps.specs.State.{State as OutboxState, limits_of}
 use Rattle.iscsi_requests.specs.Conns.{of_conn}

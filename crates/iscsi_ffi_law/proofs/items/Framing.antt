@@ -7,7 +7,7 @@ use Rattle.iscsi_rules.proofs.general.CountLemmas.{count-cons}
 use Rattle.iscsi_rules.proofs.general.ElementLemmas.{In}
 use Rattle.iscsi_wire.specs.declared.reply.Reply.{Reply}
 use Rattle.iscsi_outbox_rules.specs.rules.Items.{reply_sent}
-use Rattle.iscsi_outbox_law.specs.Pairs.{EachOf}
+use Rattle.iscsi_outbox_law.specs.private.Pairs.{EachOf}
 use Rattle.iscsi_outbox_steps.specs.State.{State as OutboxState, place_of}
 use Rattle.iscsi_outbox_steps.specs.Steps.{as_list, counted_from}
 use Rattle.iscsi_requests.specs.Conns.{count_all, of_conn}

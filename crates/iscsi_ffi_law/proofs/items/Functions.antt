@@ -7,7 +7,7 @@ use Rattle.iscsi_wire.specs.Fields.{cmd_sn, connection_of}
 use Rattle.iscsi_rules.specs.rules.Trace.{Arrival}
 use Rattle.iscsi_rules.proofs.general.CountLemmas.{one, count-cons}
 use Rattle.iscsi_rules.proofs.general.ElementLemmas.{In, in-filter}
-use Rattle.iscsi_outbox_law.specs.Pairs.{PairsOf}
+use Rattle.iscsi_outbox_law.specs.private.Pairs.{PairsOf}
 use Rattle.iscsi_requests.specs.Conns.{of_conn}
 use Rattle.iscsi_requests.specs.Functions.{WaitingFunctions, find_number, has_number, taken, without_number}
 use Rattle.iscsi_requests.specs.declared.functions.WaitingFunction.{WaitingFunction}

@@ -18,9 +18,9 @@ use Rattle.iscsi_rules.proofs.general.BoolLemmas.{and_parts}
 use Rattle.iscsi_rules.proofs.general.ElementLemmas.{In}
 use Rattle.iscsi_rules.proofs.items.Forms.{AfterWaiting, AtArrival, AtTurn, Deeds, Each, EntersAs, IsDone, Start, if_some, marks_done, start_mark}
 use Rattle.iscsi_outbox_rules.proofs.closes.ClosedParts.{EachOn, effects_each}
-use Rattle.iscsi_outbox_law.specs.Pairs.{EachOf}
+use Rattle.iscsi_outbox_law.specs.private.Pairs.{EachOf}
 use Rattle.iscsi_outbox_law.proofs.general.PairLemmas.{each-filter, each-weaken}
-use Rattle.iscsi_outbox_law.specs.Sound.{IsSound}
+use Rattle.iscsi_outbox_law.specs.private.Sound.{IsSound}
 use Rattle.iscsi_outbox_law.proofs.general.PlaceLemmas.{known_any}
 use Rattle.iscsi_outbox_rules.specs.rules.Words.{contains, replies_waiting}
 use Rattle.iscsi_rules.specs.rules.Logout.{is_open}

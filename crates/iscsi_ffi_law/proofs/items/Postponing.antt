@@ -18,8 +18,8 @@ use Rattle.iscsi_rules.proofs.traces.NewlyLemmas.{Untouched, newly-untouched}
 use Rattle.iscsi_outbox_rules.specs.rules.Boxes.{Box}
 use Rattle.iscsi_outbox_rules.specs.rules.Items.{after_item}
 use Rattle.iscsi_outbox_rules.specs.rules.Words.{is_running}
-use Rattle.iscsi_outbox_law.specs.Pairs.{EachOf, PairsOf}
-use Rattle.iscsi_outbox_law.specs.Sound.{IsSound}
+use Rattle.iscsi_outbox_law.specs.private.Pairs.{EachOf, PairsOf}
+use Rattle.iscsi_outbox_law.specs.private.Sound.{IsSound}
 use Rattle.iscsi_outbox_law.proofs.general.PairLemmas.{pairs-append, pairs-length}
 use Rattle.iscsi_outbox_steps.specs.State.{Limits, State as OutboxState}
 use Rattle.iscsi_outbox_steps.specs.Steps.{after_item as steps_after_item}

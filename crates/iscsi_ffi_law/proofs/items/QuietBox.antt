@@ -13,7 +13,7 @@ use Rattle.iscsi_outbox_rules.specs.rules.Due.{settle}
 use Rattle.iscsi_outbox_rules.specs.rules.Items.{after_item, aim, answer, await, close, conns_closed, enter_tasks, executing, in_phase, leave, newly_closed, outgoing, phase_completed, phase_enabled, phase_taken_out, reply_sent, send, send_as, task_entered, ticket_enabled, tickets_left}
 use Rattle.iscsi_outbox_rules.specs.rules.Queues.{drop_of, takes_more}
 use Rattle.iscsi_outbox_rules.specs.rules.Words.{contains, is_of}
-use Rattle.iscsi_outbox_law.specs.Sound.{IsSound, entries_of}
+use Rattle.iscsi_outbox_law.specs.private.Sound.{IsSound, entries_of}
 use Rattle.iscsi_ffi_law.proofs.requests.Kept.{filter_all}
 use Rattle.iscsi_ffi_law.proofs.calls.Quiet.{settled_tasks}
 

@@ -9,7 +9,7 @@ use Rattle.iscsi_outbox_rules.specs.rules.Boxes.{Aim, Answer, Box, Link, Outgoin
 use Rattle.iscsi_outbox_rules.specs.rules.Due.{settle}
 use Rattle.iscsi_outbox_rules.specs.rules.Items.{aim, answer, in_phase, outgoing, phase_enabled, send, send_as}
 use Rattle.iscsi_outbox_rules.specs.rules.Queues.{append, enter, takes_more}
-use Rattle.iscsi_outbox_law.specs.Commands.{link_in}
+use Rattle.iscsi_outbox_law.specs.private.Commands.{link_in}
 use Rattle.iscsi_requests.specs.Conns.{of_conn}
 use Rattle.iscsi_requests.specs.Replies.{WaitingReplies, pushed}
 use Rattle.iscsi_requests.specs.declared.replies.WaitingReply.{WaitingReply}

@@ -8,8 +8,8 @@ use Rattle.iscsi_outbox_rules.specs.rules.Boxes.{Box, Link}
 use Rattle.iscsi_outbox_rules.specs.rules.Calls.{Opening}
 use Rattle.iscsi_outbox_rules.specs.rules.Queues.{takes_more}
 use Rattle.iscsi_outbox_rules.specs.rules.Run.{new_link}
-use Rattle.iscsi_outbox_law.specs.Commands.{is_under_way, link_in}
-use Rattle.iscsi_outbox_law.specs.Stands.{Stands as OutboxStands}
+use Rattle.iscsi_outbox_law.specs.private.Commands.{is_under_way, link_in}
+use Rattle.iscsi_outbox_law.specs.private.Stands.{Stands as OutboxStands}
 use Rattle.iscsi_outbox_law.proofs.general.PlaceLemmas.{AreApart as LinksApart, IsPlace, conns_of, none_here, one_place}
 use Rattle.iscsi_outbox_law.proofs.connections.Standing.{links_apart, stands_nowhere, stands_there}
 use Rattle.iscsi_outbox_steps.specs.State.{State as OutboxState, place_of}

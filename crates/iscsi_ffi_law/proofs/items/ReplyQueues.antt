@@ -9,7 +9,7 @@ use Rattle.iscsi_rules.proofs.general.CountLemmas.{one, count-cons}
 use Rattle.iscsi_outbox_rules.specs.promises.Scope.{nth}
 use Rattle.iscsi_outbox_rules.specs.rules.Boxes.{Answer, Link, Outgoing}
 use Rattle.iscsi_outbox_rules.specs.rules.Queues.{append, takes_more}
-use Rattle.iscsi_outbox_law.specs.Commands.{link_in}
+use Rattle.iscsi_outbox_law.specs.private.Commands.{link_in}
 use Rattle.iscsi_outbox_law.proofs.general.PairLemmas.{each-append, each-weaken}
 use Rattle.iscsi_outbox_law.proofs.general.PlaceLemmas.{AreApart as LinksApart, one_place}
 use Rattle.iscsi_requests.specs.Replies.{has_log_place}

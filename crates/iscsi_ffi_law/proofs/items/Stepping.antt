@@ -11,11 +11,11 @@ use Rattle.iscsi_outbox_rules.specs.rules.Calls.{Opening}
 use Rattle.iscsi_outbox_rules.specs.rules.Items.{after_item, reply_sent}
 use Rattle.iscsi_outbox_rules.specs.rules.Words.{is_open, is_running}
 use Rattle.iscsi_outbox_rules.specs.rules.Queues.{takes_more}
-use Rattle.iscsi_outbox_law.specs.Commands.{link_in}
+use Rattle.iscsi_outbox_law.specs.private.Commands.{link_in}
 use Rattle.iscsi_ffi_law.proofs.outbox_invariants.FitLinks.{IsCloseRule, Moves, moved_item}
 use Rattle.iscsi_ffi_law.proofs.sending.Queued.{link_map}
-use Rattle.iscsi_outbox_law.specs.Sound.{IsSound}
-use Rattle.iscsi_outbox_law.specs.Stands.{Stands as OutboxStands}
+use Rattle.iscsi_outbox_law.specs.private.Sound.{IsSound}
+use Rattle.iscsi_outbox_law.specs.private.Stands.{Stands as OutboxStands}
 use Rattle.iscsi_outbox_law.proofs.items.TakesItem.{item_stands}
 use Rattle.iscsi_outbox_law.proofs.commands.TurningCount.{item_last, newest_item}
 use Rattle.iscsi_outbox_steps.specs.State.{Limits, State as OutboxState, place_of}

@@ -19,8 +19,8 @@ use Rattle.iscsi_outbox_rules.specs.rules.Boxes.{Box, Handed, Link, Task}
 use Rattle.iscsi_outbox_rules.specs.rules.Due.{settle}
 use Rattle.iscsi_outbox_rules.specs.rules.Items.{after_item, conns_closed, reply_sent, task_entered, ticket_left}
 use Rattle.iscsi_outbox_rules.specs.rules.Words.{is_running}
-use Rattle.iscsi_outbox_law.specs.Pairs.{EachOf}
-use Rattle.iscsi_outbox_law.specs.Sound.{HasHome, IsSound, entries_of, entry_of}
+use Rattle.iscsi_outbox_law.specs.private.Pairs.{EachOf}
+use Rattle.iscsi_outbox_law.specs.private.Sound.{HasHome, IsSound, entries_of, entry_of}
 use Rattle.iscsi_outbox_law.proofs.general.PairLemmas.{each-weaken}
 use Rattle.iscsi_outbox_law.proofs.commands.Stops.{stops_answered}
 use Rattle.iscsi_outbox_steps.specs.State.{State as OutboxState}

@@ -19,8 +19,8 @@ use Rattle.iscsi_outbox_rules.specs.rules.Items.{after_item, phase_enabled, repl
 use Rattle.iscsi_outbox_rules.specs.rules.Queues.{takes_more}
 use Rattle.iscsi_outbox_rules.specs.rules.Run.{new_link}
 use Rattle.iscsi_outbox_rules.specs.rules.Words.{is_running}
-use Rattle.iscsi_outbox_law.specs.Commands.{link_in}
-use Rattle.iscsi_outbox_law.specs.Sound.{IsSound}
+use Rattle.iscsi_outbox_law.specs.private.Commands.{link_in}
+use Rattle.iscsi_outbox_law.specs.private.Sound.{IsSound}
 use Rattle.iscsi_outbox_steps.specs.State.{State as OutboxState, place_of}
 use Rattle.iscsi_outbox_steps.specs.Steps.{after_item as steps_after_item}
 use Rattle.iscsi_requests.specs.Conns.{of_conn}
@@ -40,7 +40,7 @@ use Rattle.iscsi_ffi_law.proofs.events.Unswept.{is_some_effect, more_count, unsw
 use Rattle.iscsi_ffi_law.proofs.completions.DoneShape.{enables}
 use Rattle.iscsi_ffi_law.proofs.items.QuietItems.{IsUnheld, is_held_on}
 use Rattle.iscsi_ffi_law.proofs.arrivals.Slots.{slots_same}
-use Rattle.iscsi_outbox_law.specs.Pairs.{EachOf}
+use Rattle.iscsi_outbox_law.specs.private.Pairs.{EachOf}
 use Rattle.iscsi_outbox_law.proofs.general.PairLemmas.{each-weaken}
 use Rattle.iscsi_requests.specs.Functions.{WaitingFunctions}
 use Rattle.iscsi_requests.specs.declared.functions.WaitingFunction.{WaitingFunction}

@@ -13,7 +13,7 @@ use Rattle.iscsi_rules.specs.declared.effect.Effect.TheVariants.{Empty}
 use Rattle.iscsi_rules.specs.rules.Trace.{Arrival, Empties, Mark, Trace, admits_at, first_of, held, is_delivered, is_emptied, shown, waiting}
 use Rattle.iscsi_rules.proofs.general.CountLemmas.{one}
 use Rattle.iscsi_rules.proofs.items.Forms.{Start}
-use Rattle.iscsi_outbox_law.specs.Pairs.{EachOf, InOrder}
+use Rattle.iscsi_outbox_law.specs.private.Pairs.{EachOf, InOrder}
 use Rattle.iscsi_outbox_steps.specs.State.{State as OutboxState}
 use Rattle.iscsi_requests.specs.Functions.{WaitingFunctions}
 use Rattle.iscsi_requests.specs.declared.functions.WaitingFunction.{WaitingFunction}

@@ -13,7 +13,7 @@ use Rattle.iscsi_rules.proofs.items.Forms.{AfterWaiting}
 use Rattle.iscsi_rules.proofs.general.ListLemmas.{fewer_counted}
 use Rattle.iscsi_outbox_rules.specs.rules.Boxes.{Link}
 use Rattle.iscsi_outbox_rules.specs.rules.Run.{new_link}
-use Rattle.iscsi_outbox_law.specs.Commands.{is_under_way, link_in}
+use Rattle.iscsi_outbox_law.specs.private.Commands.{is_under_way, link_in}
 use Rattle.iscsi_outbox_law.proofs.general.PairLemmas.{each-weaken}
 use Rattle.iscsi_outbox_law.proofs.general.PlaceLemmas.{IsPlace, conns_of, known_any, one_place}
 use Rattle.iscsi_outbox_law.proofs.connections.Standing.{cids_are, links_apart, stands_nowhere, stands_there}

@@ -20,7 +20,7 @@ use Rattle.iscsi_outbox_rules.specs.rules.Calls.{Opening}
 use Rattle.iscsi_outbox_rules.specs.rules.Due.{settle}
 use Rattle.iscsi_outbox_rules.specs.rules.Items.{after_item, aim, answer, close, close_all, close_one, conns_closed, enter_tasks, executing, in_phase, leave, newly_closed, outgoing, phase_enabled, reply_sent, send, send_as, task_entered, ticket_enabled, tickets_left}
 use Rattle.iscsi_outbox_rules.specs.rules.Queues.{at_link, drop_on, takes_more}
-use Rattle.iscsi_outbox_law.specs.Commands.{link_in}
+use Rattle.iscsi_outbox_law.specs.private.Commands.{link_in}
 use Rattle.iscsi_ffi_law.specs.Names.{Name}
 use Rattle.iscsi_ffi_law.proofs.completions.DoneShape.{tickets_of}
 use Rattle.iscsi_ffi_law.proofs.aborts.LeavingBox.{left_box, taken_runs}

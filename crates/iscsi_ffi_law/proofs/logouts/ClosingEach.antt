@@ -7,8 +7,8 @@ use Rattle.iscsi_rules.proofs.general.ElementLemmas.{In}
 use Rattle.iscsi_outbox_rules.specs.rules.Boxes.{Box, Handed, Link}
 use Rattle.iscsi_outbox_rules.specs.rules.Items.{close_all, close_one}
 use Rattle.iscsi_outbox_rules.specs.rules.Queues.{at_link, drop_on, takes_more}
-use Rattle.iscsi_outbox_law.specs.Commands.{link_in}
-use Rattle.iscsi_outbox_law.specs.Pairs.{EachOf}
+use Rattle.iscsi_outbox_law.specs.private.Commands.{link_in}
+use Rattle.iscsi_outbox_law.specs.private.Pairs.{EachOf}
 use Rattle.iscsi_outbox_law.proofs.general.PairLemmas.{each-map}
 use Rattle.iscsi_outbox_law.proofs.general.PlaceLemmas.{IsPlace}
 use Rattle.iscsi_requests.specs.Conns.{count_all, of_conn}

@@ -10,8 +10,8 @@ use Rattle.iscsi_outbox_rules.specs.rules.Boxes.{Answer, Box, Link}
 use Rattle.iscsi_outbox_rules.specs.rules.Items.{close_one}
 use Rattle.iscsi_outbox_rules.specs.rules.Queues.{at_link, drop_on, takes_more}
 use Rattle.iscsi_outbox_rules.specs.rules.Run.{new_link}
-use Rattle.iscsi_outbox_law.specs.Commands.{link_in}
-use Rattle.iscsi_outbox_law.specs.Pairs.{EachOf, PairsOf}
+use Rattle.iscsi_outbox_law.specs.private.Commands.{link_in}
+use Rattle.iscsi_outbox_law.specs.private.Pairs.{EachOf, PairsOf}
 use Rattle.iscsi_outbox_law.proofs.general.PairLemmas.{each-filter, pairs-weaken}
 use Rattle.iscsi_outbox_law.proofs.general.PlaceLemmas.{AreApart as LinksApart, IsPlace, conns_of, one_place}
 use Rattle.iscsi_requests.specs.Conns.{of_conn}

@@ -12,7 +12,7 @@ use Rattle.iscsi_rules.proofs.general.ElementLemmas.{In, in-append}
 use Rattle.iscsi_rules.proofs.items.Forms.{Start}
 use Rattle.iscsi_outbox_rules.specs.rules.Boxes.{Link}
 use Rattle.iscsi_outbox_rules.specs.rules.Items.{newly_closed}
-use Rattle.iscsi_outbox_law.specs.Pairs.{EachOf, PairsOf}
+use Rattle.iscsi_outbox_law.specs.private.Pairs.{EachOf, PairsOf}
 use Rattle.iscsi_outbox_law.proofs.general.PairLemmas.{each-filter, each-weaken}
 use Rattle.iscsi_outbox_law.proofs.general.PlaceLemmas.{IsPlace}
 use Rattle.iscsi_outbox_steps.specs.State.{State as OutboxState, place_of}

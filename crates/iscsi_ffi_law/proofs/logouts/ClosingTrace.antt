@@ -8,7 +8,7 @@ use Rattle.iscsi_rules.proofs.traces.ApartLemmas.{eq_sym}
 use Rattle.iscsi_rules.proofs.general.BoolLemmas.{not_true}
 use Rattle.iscsi_rules.proofs.general.ElementLemmas.{In, in-filter}
 use Rattle.iscsi_outbox_rules.specs.rules.Words.{contains}
-use Rattle.iscsi_outbox_law.specs.Pairs.{EachOf}
+use Rattle.iscsi_outbox_law.specs.private.Pairs.{EachOf}
 use Rattle.iscsi_ffi_rules.specs.rules.Needs.{admitted_by}
 use Rattle.iscsi_ffi_law.proofs.general.Members.{each_in}
 

@@ -5,7 +5,7 @@ use Rattle.iscsi_arrivals.specs.Counts.{Counts}
 use Rattle.iscsi_rules.specs.rules.Settings.{are_distinct}
 use Rattle.iscsi_rules.specs.rules.Trace.{Arrival, ClosesConn, Trace, waiting_through}
 use Rattle.iscsi_outbox_rules.specs.rules.Words.{contains}
-use Rattle.iscsi_outbox_law.specs.Pairs.{EachOf, PairsOf}
+use Rattle.iscsi_outbox_law.specs.private.Pairs.{EachOf, PairsOf}
 use Rattle.iscsi_outbox_law.proofs.general.PairLemmas.{each-filter, each-weaken}
 use Rattle.iscsi_outbox_steps.specs.Steps.{counted_from}
 use Rattle.iscsi_requests.specs.Conns.{of_conn}

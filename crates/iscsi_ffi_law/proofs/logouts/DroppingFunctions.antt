@@ -7,7 +7,7 @@ use Rattle.iscsi_rules.specs.rules.Trace.{Arrival, Executes, Mark, Trace, held, 
 use Rattle.iscsi_rules.proofs.general.CountLemmas.{one}
 use Rattle.iscsi_rules.proofs.general.ElementLemmas.{In, in-filter}
 use Rattle.iscsi_rules.proofs.general.ListLemmas.{fewer_counted}
-use Rattle.iscsi_outbox_law.specs.Pairs.{PairsOf}
+use Rattle.iscsi_outbox_law.specs.private.Pairs.{PairsOf}
 use Rattle.iscsi_outbox_law.proofs.general.PairLemmas.{each-weaken}
 use Rattle.iscsi_requests.specs.Conns.{behind_oldest, of_conn, oldest}
 use Rattle.iscsi_requests.specs.Cookies.{has_place}

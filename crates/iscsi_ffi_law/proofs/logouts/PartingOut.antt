@@ -10,7 +10,7 @@ use Rattle.iscsi_rules.specs.rules.Settings.{are_distinct, is_known}
 use Rattle.iscsi_rules.specs.rules.Trace.{Arrival, Command as RulesCommand, Trace, held, waiting}
 use Rattle.iscsi_rules.proofs.items.Forms.{Start}
 use Rattle.iscsi_outbox_rules.specs.rules.Words.{contains}
-use Rattle.iscsi_outbox_law.specs.Pairs.{EachOf, InOrder, PairsOf}
+use Rattle.iscsi_outbox_law.specs.private.Pairs.{EachOf, InOrder, PairsOf}
 use Rattle.iscsi_outbox_law.proofs.general.PairLemmas.{each-weaken}
 use Rattle.iscsi_outbox_steps.specs.State.{State as OutboxState, place_of}
 use Rattle.iscsi_outbox_steps.specs.Steps.{as_list}

@@ -19,9 +19,9 @@ use Rattle.iscsi_outbox_rules.specs.rules.Items.{after_item, close_all, newly_cl
 use Rattle.iscsi_outbox_rules.specs.rules.Queues.{takes_more, without}
 use Rattle.iscsi_outbox_rules.specs.rules.Run.{new_link}
 use Rattle.iscsi_outbox_rules.specs.rules.Words.{contains}
-use Rattle.iscsi_outbox_law.specs.Commands.{link_in}
-use Rattle.iscsi_outbox_law.specs.Pairs.{EachOf, InOrder, PairsOf}
-use Rattle.iscsi_outbox_law.specs.Sound.{IsSound}
+use Rattle.iscsi_outbox_law.specs.private.Commands.{link_in}
+use Rattle.iscsi_outbox_law.specs.private.Pairs.{EachOf, InOrder, PairsOf}
+use Rattle.iscsi_outbox_law.specs.private.Sound.{IsSound}
 use Rattle.iscsi_outbox_law.proofs.general.PairLemmas.{each-map, each-weaken}
 use Rattle.iscsi_outbox_steps.specs.State.{State as OutboxState}
 use Rattle.iscsi_outbox_steps.specs.Steps.{after_item as steps_after_item, as_list}

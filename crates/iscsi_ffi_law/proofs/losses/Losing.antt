@@ -13,9 +13,9 @@ use Rattle.iscsi_outbox_rules.specs.rules.Boxes.{Answer, Box, Link}
 use Rattle.iscsi_outbox_rules.specs.rules.Handing.{link_of}
 use Rattle.iscsi_outbox_rules.specs.rules.Queues.{at_link, drop_on, emptied, takes_more}
 use Rattle.iscsi_outbox_rules.specs.rules.Run.{after_call, link_lost, new_link}
-use Rattle.iscsi_outbox_law.specs.Commands.{is_under_way, link_in}
-use Rattle.iscsi_outbox_law.specs.Pairs.{EachOf, PairsOf}
-use Rattle.iscsi_outbox_law.specs.Stands.{Stands as OutboxStands}
+use Rattle.iscsi_outbox_law.specs.private.Commands.{is_under_way, link_in}
+use Rattle.iscsi_outbox_law.specs.private.Pairs.{EachOf, PairsOf}
+use Rattle.iscsi_outbox_law.specs.private.Stands.{Stands as OutboxStands}
 use Rattle.iscsi_outbox_law.proofs.connections.Losing.{loses_stands}
 use Rattle.iscsi_outbox_law.proofs.general.PairLemmas.{each-at, each-filter, each-set, each-weaken}
 use Rattle.iscsi_outbox_law.proofs.general.PlaceLemmas.{AreApart as LinksApart, IsPlace, conns_of, found_at, one_place}

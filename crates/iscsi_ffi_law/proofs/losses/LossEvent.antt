@@ -10,8 +10,8 @@ use Rattle.iscsi_rules.specs.rules.Settings.{is_known}
 use Rattle.iscsi_rules.specs.rules.Trace.{Arrival, Command, Mark, is_closed, waiting}
 use Rattle.iscsi_rules.proofs.general.ElementLemmas.{In}
 use Rattle.iscsi_rules.proofs.items.Forms.{AtArrival}
-use Rattle.iscsi_outbox_law.specs.Pairs.{EachOf}
-use Rattle.iscsi_outbox_law.specs.Sound.{IsSound}
+use Rattle.iscsi_outbox_law.specs.private.Pairs.{EachOf}
+use Rattle.iscsi_outbox_law.specs.private.Sound.{IsSound}
 use Rattle.iscsi_ffi_rules.specs.rules.Calls.{Interface}
 use Rattle.iscsi_ffi_rules.specs.rules.Run.{parting}
 use Rattle.iscsi_ffi_rules.specs.rules.Sides.{Side}

@@ -14,7 +14,7 @@ use Rattle.iscsi_outbox_rules.specs.rules.Calls as outbox
 use Rattle.iscsi_outbox_rules.specs.rules.Words.{contains}
 use Rattle.iscsi_outbox_rules.proofs.closes.ClosedParts.{Parts, effects_each, event_parts}
 use Rattle.iscsi_outbox_rules.proofs.room.RoomSends.{Formed, event_going}
-use Rattle.iscsi_outbox_law.specs.Sound.{IsSound, NoneIsFresh}
+use Rattle.iscsi_outbox_law.specs.private.Sound.{IsSound, NoneIsFresh}
 use Rattle.iscsi_outbox_law.proofs.invariants.SoundRuns.{SoundItems}
 use Rattle.iscsi_ffi_rules.specs.rules.Calls.{Interface}
 use Rattle.iscsi_ffi_rules.specs.rules.Run.{is_lost, parting}

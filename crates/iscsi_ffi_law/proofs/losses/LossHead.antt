@@ -3,7 +3,7 @@ use Rattle.std.proofs.Common.{◌≡◌, ℕ, ◌<◌, ◌==◌, not, List, ◌�
 use Rattle.std.specs.List.{list_any}
 use Rattle.iscsi_rules.specs.rules.Trace.{Arrival, waiting}
 use Rattle.iscsi_rules.proofs.items.Forms.{AtArrival}
-use Rattle.iscsi_outbox_law.specs.Pairs.{EachOf}
+use Rattle.iscsi_outbox_law.specs.private.Pairs.{EachOf}
 use Rattle.iscsi_outbox_law.proofs.general.PairLemmas.{each-weaken}
 use Rattle.iscsi_requests.specs.Numbers.{size_for}
 use Rattle.iscsi_ffi_rules.specs.rules.Calls.{Interface}

@@ -19,7 +19,7 @@ use Rattle.iscsi_rules.proofs.items.Forms.{AtArrival, Executed, marks_done}
 use Rattle.iscsi_ffi_rules.specs.rules.Happening.{leaving}
 use Rattle.iscsi_ffi_rules.specs.rules.Run.{parting}
 use Rattle.iscsi_ffi_law.specs.Arrived.{emptying}
-use Rattle.iscsi_outbox_law.specs.Pairs.{EachOf, InOrder}
+use Rattle.iscsi_outbox_law.specs.private.Pairs.{EachOf, InOrder}
 use Rattle.iscsi_ffi_law.proofs.session_invariants.FitArrivals.{AllAre}
 use Rattle.iscsi_ffi_law.proofs.session_invariants.FitEmptied.{emptied_fit}
 use Rattle.iscsi_ffi_law.proofs.session_invariants.FitMarks.{fewer_each}

@@ -16,8 +16,8 @@ use Rattle.iscsi_outbox_rules.specs.promises.Room.{places}
 use Rattle.iscsi_outbox_rules.specs.rules.Calls as outbox
 use Rattle.iscsi_outbox_rules.specs.rules.Run.{after_call}
 use Rattle.iscsi_outbox_rules.specs.rules.Words.{contains, replies_waiting}
-use Rattle.iscsi_outbox_law.specs.Pairs.{EachOf}
-use Rattle.iscsi_outbox_law.specs.Sound.{IsSound}
+use Rattle.iscsi_outbox_law.specs.private.Pairs.{EachOf}
+use Rattle.iscsi_outbox_law.specs.private.Sound.{IsSound}
 use Rattle.iscsi_outbox_law.proofs.general.PairLemmas.{each-filter, each-weaken}
 use Rattle.iscsi_outbox_law.proofs.general.PlaceLemmas.{IsPlace, known_any}
 use Rattle.iscsi_outbox_steps.specs.Steps.{lost}

@@ -7,8 +7,8 @@ use Rattle.iscsi_rules.proofs.general.ElementLemmas.{In, in-append, append-in_se
 use Rattle.iscsi_outbox_rules.specs.promises.Scope.{nth}
 use Rattle.iscsi_outbox_rules.specs.rules.Boxes.{Outgoing}
 use Rattle.iscsi_outbox_rules.specs.rules.Words.{contains}
-use Rattle.iscsi_outbox_law.specs.Commands.{link_in}
-use Rattle.iscsi_outbox_law.specs.Pairs.{EachOf}
+use Rattle.iscsi_outbox_law.specs.private.Commands.{link_in}
+use Rattle.iscsi_outbox_law.specs.private.Pairs.{EachOf}
 use Rattle.iscsi_requests.specs.Conns.{of_conn}
 use Rattle.iscsi_requests.specs.declared.replies.WaitingReply.{WaitingReply}
 use Rattle.iscsi_ffi_rules.specs.rules.Calls.{Interface}

@@ -16,9 +16,9 @@ use Rattle.iscsi_outbox_rules.specs.rules.Boxes.{AtConns, Box, Handed, Link}
 use Rattle.iscsi_outbox_rules.specs.rules.Items.{after_item, answer, close_all, in_phase, newly_closed, outgoing, phase_enabled}
 use Rattle.iscsi_outbox_rules.specs.rules.Queues.{takes_more, without}
 use Rattle.iscsi_outbox_rules.specs.rules.Words.{contains}
-use Rattle.iscsi_outbox_law.specs.Commands.{link_in}
-use Rattle.iscsi_outbox_law.specs.Pairs.{EachOf, InOrder, PairsOf}
-use Rattle.iscsi_outbox_law.specs.Sound.{IsSound}
+use Rattle.iscsi_outbox_law.specs.private.Commands.{link_in}
+use Rattle.iscsi_outbox_law.specs.private.Pairs.{EachOf, InOrder, PairsOf}
+use Rattle.iscsi_outbox_law.specs.private.Sound.{IsSound}
 use Rattle.iscsi_outbox_law.proofs.general.PairLemmas.{each-map, each-weaken}
 use Rattle.iscsi_outbox_steps.specs.State.{State as OutboxState, place_of}
 use Rattle.iscsi_outbox_steps.specs.Steps.{after_item as steps_after_item}

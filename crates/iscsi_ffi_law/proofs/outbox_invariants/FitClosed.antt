@@ -16,7 +16,7 @@ use Rattle.iscsi_outbox_rules.specs.rules.Calls.{Opening}
 use Rattle.iscsi_outbox_rules.specs.rules.Items.{after_item, close, close_all, close_one, closed_in, conns_closed, executing, newly_closed}
 use Rattle.iscsi_outbox_rules.specs.rules.Queues.{at_link, drop_on}
 use Rattle.iscsi_outbox_rules.specs.rules.Words.{contains}
-use Rattle.iscsi_outbox_law.specs.Pairs.{EachOf}
+use Rattle.iscsi_outbox_law.specs.private.Pairs.{EachOf}
 use Rattle.iscsi_outbox_law.proofs.general.PairLemmas.{each-both}
 use Rattle.iscsi_outbox_law.proofs.general.PlaceLemmas.{conns_of}
 use Rattle.iscsi_ffi_law.proofs.outbox_invariants.FitLinks.{IsQueueRule, Moves, before_close, behind_close, moved_before, moved_behind, moved_by, moved_dropped, moved_each, moved_none, moved_then, moved_weaken}

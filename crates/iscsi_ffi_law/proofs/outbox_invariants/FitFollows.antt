@@ -24,7 +24,7 @@ use Rattle.iscsi_outbox_rules.specs.promises.Room.{Both, Happens, Other, after_s
 use Rattle.iscsi_outbox_rules.proofs.closes.ClosedParts.{Parts, effects_each, event_parts}
 use Rattle.iscsi_outbox_rules.proofs.room.RoomLives.{SameLive, first_form, lives_event}
 use Rattle.iscsi_outbox_rules.proofs.room.RoomSends.{Formed, event_going as event_sends}
-use Rattle.iscsi_outbox_law.specs.Pairs.{EachOf, InOrder}
+use Rattle.iscsi_outbox_law.specs.private.Pairs.{EachOf, InOrder}
 use Rattle.iscsi_outbox_law.proofs.general.PairLemmas.{each-new, each-weaken}
 use Rattle.iscsi_outbox_law.proofs.invariants.SoundCalls.{TakesNone}
 use Rattle.iscsi_ffi_law.specs.Parts.{is_live_ticket}

@@ -21,7 +21,7 @@ use Rattle.iscsi_outbox_rules.specs.rules.Queues.{append, at_link, drop_on, empt
 use Rattle.iscsi_outbox_rules.specs.rules.Run.{after_call, cleared, link_heard, link_joined, link_lost, may_join, one_written, phase_stopped}
 use Rattle.iscsi_outbox_rules.specs.rules.Words.{contains, is_of, is_open, is_running}
 use Rattle.iscsi_outbox_rules.proofs.general.Cuts.{Hand, Idle, next}
-use Rattle.iscsi_outbox_law.specs.Pairs.{EachOf}
+use Rattle.iscsi_outbox_law.specs.private.Pairs.{EachOf}
 use Rattle.iscsi_outbox_law.proofs.general.PairLemmas.{each-map}
 
 -- ---- connections that are changed one by one

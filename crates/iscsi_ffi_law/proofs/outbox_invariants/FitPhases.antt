@@ -27,7 +27,7 @@ use Rattle.iscsi_outbox_rules.specs.rules.Run.{after_call, phase_stopped}
 use Rattle.iscsi_outbox_rules.specs.rules.Words.{contains}
 use Rattle.iscsi_outbox_rules.proofs.commands.TaskLives.{entered_tasks, item_tasks, left_tasks}
 use Rattle.iscsi_outbox_rules.proofs.general.TaskWalks.{phased}
-use Rattle.iscsi_outbox_law.specs.Pairs.{EachOf}
+use Rattle.iscsi_outbox_law.specs.private.Pairs.{EachOf}
 use Rattle.iscsi_outbox_law.proofs.general.PairLemmas.{each-append, each-weaken}
 use Rattle.iscsi_outbox_law.proofs.invariants.SoundCalls.{TakesNone}
 use Rattle.iscsi_ffi_law.proofs.arrivals.Asked.{any_nothing}

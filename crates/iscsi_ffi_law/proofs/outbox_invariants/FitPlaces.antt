@@ -16,7 +16,7 @@ use Rattle.iscsi_outbox_rules.proofs.general.Chosen.{Chosen, FromQueue, IsNotice
 use Rattle.iscsi_outbox_rules.proofs.general.Cuts.{Hand, Idle, next}
 use Rattle.iscsi_outbox_rules.proofs.general.EachLemmas.{each-first_of}
 use Rattle.iscsi_outbox_rules.specs.promises.Room.{is_other}
-use Rattle.iscsi_outbox_law.specs.Pairs.{EachOf}
+use Rattle.iscsi_outbox_law.specs.private.Pairs.{EachOf}
 use Rattle.iscsi_outbox_law.proofs.general.PairLemmas.{each-append, each-map, each-new, each-weaken}
 use Rattle.iscsi_ffi_rules.proofs.BoxOuts.{OfBox, OfLink, Putting, Sending, of_item, of_other}
 use Rattle.iscsi_ffi_law.specs.Parts.{IsBefore}

@@ -15,7 +15,7 @@ use Rattle.iscsi_outbox_rules.specs.rules.Words.{is_reply}
 use Rattle.iscsi_outbox_rules.specs.promises.Room.{Both, FitFrom, FitItems, Fits, FitsCall, Happens, Other, Step, after_step, after_steps, all_are, begun, call_of, calls_of, is_read_with_room}
 use Rattle.iscsi_outbox_rules.proofs.room.RoomFollows.{follows_known}
 use Rattle.iscsi_outbox_rules.proofs.room.RoomItems.{room_on_the_way}
-use Rattle.iscsi_outbox_law.specs.Sound.{IsSound, NoneIsFresh}
+use Rattle.iscsi_outbox_law.specs.private.Sound.{IsSound, NoneIsFresh}
 use Rattle.iscsi_outbox_law.proofs.invariants.SoundRuns.{SoundCall, SoundFrom, SoundItems, follows_sound}
 
 -- these steps lead to it

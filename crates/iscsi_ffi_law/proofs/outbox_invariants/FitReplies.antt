@@ -15,8 +15,8 @@ use Rattle.iscsi_outbox_rules.specs.rules.Due.{is_due, settle, settle_from}
 use Rattle.iscsi_outbox_rules.specs.rules.Items.{after_item, close, closed_in, enter_tasks, executing, in_phase, leave, newly_closed, outgoing, phase_enabled, reply_sent, send, ticket_enabled, tickets_left}
 use Rattle.iscsi_outbox_rules.specs.rules.Queues.{append, at_link, enter, takes_more}
 use Rattle.iscsi_outbox_rules.specs.rules.Words.{is_reply, replies_waiting}
-use Rattle.iscsi_outbox_law.specs.Pairs.{EachOf}
-use Rattle.iscsi_outbox_law.specs.Sound.{IsAnswerSound}
+use Rattle.iscsi_outbox_law.specs.private.Pairs.{EachOf}
+use Rattle.iscsi_outbox_law.specs.private.Sound.{IsAnswerSound}
 use Rattle.iscsi_outbox_law.proofs.general.PairLemmas.{each-weaken}
 
 abbrev in_queue : Link → ℕ

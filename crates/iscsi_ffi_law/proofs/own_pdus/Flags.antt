@@ -5,8 +5,8 @@ use Rattle.iscsi_rules.proofs.general.CountLemmas.{one, count-cons, count-weaker
 use Rattle.iscsi_rules.proofs.general.BoolLemmas.{and_second}
 use Rattle.iscsi_rules.proofs.general.ElementLemmas.{In, append-in_first, append-in_second, in-append}
 use Rattle.iscsi_outbox_rules.specs.rules.Boxes.{Handed, Link}
-use Rattle.iscsi_outbox_law.specs.Commands.{link_in}
-use Rattle.iscsi_outbox_law.specs.Pairs.{EachOf, PairsOf}
+use Rattle.iscsi_outbox_law.specs.private.Commands.{link_in}
+use Rattle.iscsi_outbox_law.specs.private.Pairs.{EachOf, PairsOf}
 use Rattle.iscsi_outbox_law.proofs.general.PlaceLemmas.{AreApart as LinksApart, conns_of, one_place}
 use Rattle.iscsi_rules.specs.rules.Trace.{entered}
 use Rattle.iscsi_requests.specs.Conns.{of_conn}

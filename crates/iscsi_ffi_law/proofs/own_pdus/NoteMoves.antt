@@ -7,7 +7,7 @@ use Rattle.std.proofs.lemmas.List.Sums.{sum_by-append}
 use Rattle.iscsi_rules.proofs.general.CountLemmas.{count-cons}
 use Rattle.iscsi_rules.proofs.general.ElementLemmas.{In, append-in_first, append-in_second, in-append}
 use Rattle.iscsi_outbox_rules.specs.rules.Boxes.{Handed, Link}
-use Rattle.iscsi_outbox_law.specs.Pairs.{EachOf}
+use Rattle.iscsi_outbox_law.specs.private.Pairs.{EachOf}
 use Rattle.iscsi_ffi_rules.specs.rules.Needs.{first_noted, is_noted, noted_on, without_first}
 use Rattle.iscsi_ffi_rules.specs.rules.Sides.{Noted, Side}
 use Rattle.iscsi_ffi_steps.specs.State.{State}

@@ -4,7 +4,7 @@ use Rattle.std.specs.List.{list_any}
 use Rattle.std.proofs.lemmas.Bool.{false≢true, eqb-true, eqb-false, eq-eqb, or_parts, cases_eq}
 use Rattle.std.proofs.lemmas.List.{length-map, length-replicate}
 use Rattle.iscsi_outbox_rules.specs.rules.Boxes.{Link}
-use Rattle.iscsi_outbox_law.specs.Pairs.{EachOf}
+use Rattle.iscsi_outbox_law.specs.private.Pairs.{EachOf}
 use Rattle.iscsi_outbox_law.proofs.general.PlaceLemmas.{AreApart, conns_of}
 use Rattle.iscsi_ffi_rules.specs.rules.Needs.{needless_on, noted_on, without_first}
 use Rattle.iscsi_ffi_rules.specs.rules.Run.{parted}

@@ -6,7 +6,7 @@ use Rattle.std.proofs.lemmas.List.Sums.{sum_by-append}
 use Rattle.iscsi_rules.proofs.general.CountLemmas.{one, count-cons}
 use Rattle.iscsi_outbox_rules.specs.rules.Boxes.{Box, Link, Outgoing}
 use Rattle.iscsi_outbox_rules.specs.rules.Queues.{append, enter, takes_more}
-use Rattle.iscsi_outbox_law.specs.Commands.{link_in}
+use Rattle.iscsi_outbox_law.specs.private.Commands.{link_in}
 use Rattle.iscsi_outbox_law.proofs.general.PairLemmas.{each-append}
 use Rattle.iscsi_requests.specs.Conns.{of_conn}
 use Rattle.iscsi_requests.specs.declared.replies.WaitingReply.{WaitingReply}

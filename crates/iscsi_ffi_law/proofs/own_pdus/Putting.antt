@@ -18,10 +18,10 @@ use Rattle.iscsi_outbox_rules.specs.rules.Own.{is_fit, is_full, is_own, live_tas
 use Rattle.iscsi_outbox_rules.specs.rules.Queues.{append, enter, takes_more}
 use Rattle.iscsi_outbox_rules.specs.rules.Run.{after_call, new_link}
 use Rattle.iscsi_outbox_rules.specs.rules.Words.{is_live_phase, is_open, is_usable, is_running}
-use Rattle.iscsi_outbox_law.specs.Commands.{is_under_way, link_in}
-use Rattle.iscsi_outbox_law.specs.Pairs.{EachOf, PairsOf}
-use Rattle.iscsi_outbox_law.specs.Sound.{IsLinkSound}
-use Rattle.iscsi_outbox_law.specs.Stands.{Stands as OutboxStands}
+use Rattle.iscsi_outbox_law.specs.private.Commands.{is_under_way, link_in}
+use Rattle.iscsi_outbox_law.specs.private.Pairs.{EachOf, PairsOf}
+use Rattle.iscsi_outbox_law.specs.private.Sound.{IsLinkSound}
+use Rattle.iscsi_outbox_law.specs.private.Stands.{Stands as OutboxStands}
 use Rattle.iscsi_outbox_law.proofs.general.PairLemmas.{each-append, each-at, each-weaken, pairs-weaken}
 use Rattle.iscsi_outbox_law.proofs.general.PlaceLemmas.{IsPlace, none_here, one_place}
 use Rattle.iscsi_outbox_law.proofs.queues.PutStands.{puts_answered, puts_stands}

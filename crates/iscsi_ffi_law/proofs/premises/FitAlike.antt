@@ -15,7 +15,7 @@ use Rattle.iscsi_ffi_rules.specs.rules.Clearing.{next_withheld, status_of}
 use Rattle.iscsi_ffi_law.specs.Done.{AreDoneFit, IsDoneFit}
 use Rattle.iscsi_ffi_rules.specs.rules.Sides.{Asked, Side, opened}
 use Rattle.iscsi_ffi_steps.specs.Steps.{Side as StepsSide, after, begun, called, ended}
-use Rattle.iscsi_outbox_law.specs.Pairs.{EachOf}
+use Rattle.iscsi_outbox_law.specs.private.Pairs.{EachOf}
 use Rattle.iscsi_ffi_law.specs.Alike.{GoesAlike}
 use Rattle.iscsi_ffi_law.specs.Lists.{AreAlike, Meets}
 use Rattle.iscsi_ffi_law.specs.Sides.{AreFitFrom, IsCallFit, IsOfBytes, IsOpening, IsShort, IsSideFit, asking}

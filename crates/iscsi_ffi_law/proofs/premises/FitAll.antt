@@ -13,7 +13,7 @@ use Rattle.iscsi_ffi_rules.specs.rules.Happening.{Told, happens, other, quiet}
 use Rattle.iscsi_ffi_rules.specs.rules.Run.{Answered, Refused, after_call, answers, done, heard_in, is_going, is_lost, parting, stopped}
 use Rattle.iscsi_ffi_rules.specs.rules.Sides.{Side, opened}
 use Rattle.iscsi_ffi_law.specs.Sides.{AreBytes, AreFitFrom, IsCallFit, IsOfBytes, IsOpening, IsShort, asking}
-use Rattle.iscsi_outbox_law.specs.Pairs.{EachOf}
+use Rattle.iscsi_outbox_law.specs.private.Pairs.{EachOf}
 use Rattle.iscsi_ffi_law.proofs.premises.FitFacts.{limits}
 use Rattle.iscsi_ffi_law.proofs.side_invariants.FitHolds.{Holds, holds_begun, holds_walk}
 use Rattle.iscsi_ffi_law.proofs.premises.FitPremises.{all_done, loss_fit, side_fit, taken_fit}

@@ -20,8 +20,8 @@ use Rattle.iscsi_outbox_rules.specs.rules.Items.{after_item, ticket_enabled}
 use Rattle.iscsi_outbox_rules.specs.rules.Words.{contains, owing, replies_waiting, room}
 use Rattle.iscsi_outbox_rules.proofs.closes.ClosedParts.{Parts, effects_each, event_parts}
 use Rattle.iscsi_outbox_rules.proofs.room.RoomSends.{Formed, event_going}
-use Rattle.iscsi_outbox_law.specs.Pairs.{EachOf}
-use Rattle.iscsi_outbox_law.specs.Sound.{IsSound, NoneIsFresh}
+use Rattle.iscsi_outbox_law.specs.private.Pairs.{EachOf}
+use Rattle.iscsi_outbox_law.specs.private.Sound.{IsSound, NoneIsFresh}
 use Rattle.iscsi_outbox_law.proofs.invariants.SoundRuns.{SoundItems}
 use Rattle.iscsi_ffi_rules.specs.rules.Calls.{Interface}
 use Rattle.iscsi_ffi_rules.specs.rules.Run.{heard_in, refusal_of, tag_heard, word_at}

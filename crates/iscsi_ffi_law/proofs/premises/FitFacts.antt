@@ -14,7 +14,7 @@ use Rattle.iscsi_rules.proofs.general.ListLemmas.{list_any-map}
 use Rattle.iscsi_outbox_rules.specs.rules.Boxes.{Link, Task}
 use Rattle.iscsi_outbox_rules.specs.rules.Queues.{takes_more}
 use Rattle.iscsi_outbox_rules.specs.rules.Words.{contains, is_live_phase}
-use Rattle.iscsi_outbox_law.specs.Pairs.{EachOf}
+use Rattle.iscsi_outbox_law.specs.private.Pairs.{EachOf}
 use Rattle.iscsi_ffi_rules.specs.rules.Calls.{Interface}
 use Rattle.iscsi_ffi_rules.specs.rules.Sides.{Side}
 use Rattle.iscsi_ffi_rules.proofs.Leavings.{has_ticket, one_with}

@@ -27,7 +27,7 @@ use Rattle.iscsi_outbox_rules.specs.rules.Words.{is_running, is_running_phase}
 use Rattle.iscsi_outbox_rules.proofs.closes.ClosedParts.{effects_each}
 use Rattle.iscsi_outbox_rules.proofs.room.RoomLives.{first_form, forms_below}
 use Rattle.iscsi_outbox_rules.proofs.room.RoomSends.{done_replies, mark_reply}
-use Rattle.iscsi_outbox_law.specs.Pairs.{EachOf}
+use Rattle.iscsi_outbox_law.specs.private.Pairs.{EachOf}
 use Rattle.iscsi_outbox_law.proofs.invariants.SoundRuns.{SoundItems}
 use Rattle.iscsi_ffi_rules.specs.rules.Calls.{Interface}
 use Rattle.iscsi_ffi_rules.specs.rules.Sides.{Side}

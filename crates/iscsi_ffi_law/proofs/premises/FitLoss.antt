@@ -15,7 +15,7 @@ use Rattle.iscsi_outbox_rules.specs.rules.Calls as outbox
 use Rattle.iscsi_outbox_rules.specs.rules.Run.{after_call}
 use Rattle.iscsi_outbox_rules.specs.rules.Words.{contains}
 use Rattle.iscsi_outbox_rules.proofs.closes.ClosedParts.{effects_each}
-use Rattle.iscsi_outbox_law.specs.Pairs.{EachOf}
+use Rattle.iscsi_outbox_law.specs.private.Pairs.{EachOf}
 use Rattle.iscsi_outbox_law.proofs.invariants.SoundRuns.{SoundItems}
 use Rattle.iscsi_ffi_rules.specs.rules.Calls.{Interface}
 use Rattle.iscsi_ffi_rules.specs.rules.Happening.{other}

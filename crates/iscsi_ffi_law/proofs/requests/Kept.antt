@@ -4,7 +4,7 @@ use Rattle.std.proofs.lemmas.Bool.{false≢true, eqb-true}
 use Rattle.iscsi_rules.proofs.general.CountLemmas.{one, count-cons, count-filter}
 use Rattle.iscsi_rules.proofs.general.ElementLemmas.{In, filter-in, in-filter}
 use Rattle.iscsi_rules.proofs.general.ListLemmas.{fewer_counted}
-use Rattle.iscsi_outbox_law.specs.Pairs.{EachOf}
+use Rattle.iscsi_outbox_law.specs.private.Pairs.{EachOf}
 use Rattle.iscsi_ffi_law.specs.Names.{Name, Note, place_named}
 use Rattle.iscsi_ffi_law.specs.Parts.{AreApart}
 use Rattle.iscsi_ffi_law.proofs.requests.NameLemmas.{Named, found_named, name_place}

@@ -6,7 +6,7 @@ use Rattle.iscsi_wire.specs.Fields.{connection_of}
 use Rattle.iscsi_rules.specs.rules.Management.{MOST_WAITING}
 use Rattle.iscsi_rules.specs.rules.Trace.{Arrival}
 use Rattle.iscsi_rules.proofs.general.CountLemmas.{count-cons, one}
-use Rattle.iscsi_outbox_law.specs.Pairs.{EachOf}
+use Rattle.iscsi_outbox_law.specs.private.Pairs.{EachOf}
 use Rattle.iscsi_requests.specs.Conns.{of_conn}
 use Rattle.iscsi_requests.specs.Functions.{WaitingFunctions}
 use Rattle.iscsi_requests.specs.declared.functions.WaitingFunction.{WaitingFunction}

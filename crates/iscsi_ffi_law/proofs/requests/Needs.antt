@@ -5,7 +5,7 @@ use Rattle.std.proofs.lemmas.Bool.{false≢true, eqb-true, eq-eqb, ltb-true, or_
 use Rattle.iscsi_rules.proofs.general.ElementLemmas.{In, append-in_second}
 use Rattle.iscsi_outbox_rules.specs.rules.Boxes.{Handed, Link}
 use Rattle.iscsi_outbox_rules.specs.rules.Run.{new_link}
-use Rattle.iscsi_outbox_law.specs.Commands.{link_in}
+use Rattle.iscsi_outbox_law.specs.private.Commands.{link_in}
 use Rattle.iscsi_outbox_law.proofs.general.PairLemmas.{pairs-any}
 use Rattle.iscsi_requests.specs.Conns.{of_conn}
 use Rattle.iscsi_ffi_rules.specs.rules.Needs.{is_about, is_being_written, is_held, is_live as is_live_event, is_needed, is_waiting, left_to_write, runs, waits}

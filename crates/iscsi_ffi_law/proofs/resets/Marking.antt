@@ -7,7 +7,7 @@ use Rattle.iscsi_rules.specs.rules.Trace.{Command as RulesCommand, Trace, are_ap
 use Rattle.iscsi_rules.proofs.general.BoolLemmas.{and_parts}
 use Rattle.iscsi_rules.proofs.general.ElementLemmas.{In, filter-in, in-filter}
 use Rattle.iscsi_outbox_rules.specs.rules.Words.{contains}
-use Rattle.iscsi_outbox_law.specs.Pairs.{EachOf, PairsOf}
+use Rattle.iscsi_outbox_law.specs.private.Pairs.{EachOf, PairsOf}
 use Rattle.iscsi_requests.specs.Cookies.{Cookies, cookie_at}
 use Rattle.iscsi_ffi_commands.specs.declared.command.Command.{Command}
 use Rattle.iscsi_ffi_commands.specs.declared.command.Stage.{Stage}

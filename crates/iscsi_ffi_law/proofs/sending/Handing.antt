@@ -9,9 +9,9 @@ use Rattle.iscsi_rules.proofs.general.CountLemmas.{one, count-cons}
 use Rattle.iscsi_outbox_rules.specs.rules.Boxes.{Box, Handed, Link, Outgoing}
 use Rattle.iscsi_outbox_rules.specs.rules.Handing.{after_given, is_from_queue, taken_from}
 use Rattle.iscsi_outbox_rules.specs.rules.Words.{is_open}
-use Rattle.iscsi_outbox_law.specs.Commands.{is_under_way, link_in}
-use Rattle.iscsi_outbox_law.specs.Pairs.{EachOf, PairsOf}
-use Rattle.iscsi_outbox_law.specs.Stands.{Stands as OutboxStands}
+use Rattle.iscsi_outbox_law.specs.private.Commands.{is_under_way, link_in}
+use Rattle.iscsi_outbox_law.specs.private.Pairs.{EachOf, PairsOf}
+use Rattle.iscsi_outbox_law.specs.private.Stands.{Stands as OutboxStands}
 use Rattle.iscsi_outbox_law.proofs.general.PairLemmas.{each-set, each-weaken, pairs-append, pairs-weaken}
 use Rattle.iscsi_outbox_law.proofs.general.PlaceLemmas.{one_place}
 use Rattle.iscsi_outbox_law.proofs.connections.Standing.{counts_at, links_apart}

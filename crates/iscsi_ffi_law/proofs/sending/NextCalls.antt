@@ -12,8 +12,8 @@ use Rattle.iscsi_outbox_rules.specs.rules.Handing.{Given, Hands, IsOver, Nothing
 use Rattle.iscsi_outbox_rules.specs.rules.Run.{after_call, new_link}
 use Rattle.iscsi_outbox_rules.specs.rules.Words.{is_open, unwritten}
 use Rattle.iscsi_outbox_rules.proofs.general.Chosen.{chosen_from}
-use Rattle.iscsi_outbox_law.specs.Commands.{is_under_way, link_in}
-use Rattle.iscsi_outbox_law.specs.Said.{given_said, handed_said}
+use Rattle.iscsi_outbox_law.specs.private.Commands.{is_under_way, link_in}
+use Rattle.iscsi_outbox_law.specs.rules.Said.{given_said, handed_said}
 use Rattle.iscsi_outbox_law.proofs.sending.Giving.{gives_answered}
 use Rattle.iscsi_outbox_law.proofs.general.PairLemmas.{pairs-length}
 use Rattle.iscsi_outbox_law.proofs.general.PlaceLemmas.{AreApart as LinksApart, IsPlace, conns_of, found_at, found_nowhere}

@@ -8,7 +8,7 @@ use Rattle.iscsi_rules.proofs.general.ElementLemmas.{In}
 use Rattle.iscsi_outbox_rules.specs.rules.Boxes.{Handed, Outgoing}
 use Rattle.iscsi_outbox_rules.specs.rules.Handing.{is_from_queue}
 use Rattle.iscsi_outbox_rules.specs.rules.Words.{is_open}
-use Rattle.iscsi_outbox_law.specs.Commands.{link_in}
+use Rattle.iscsi_outbox_law.specs.private.Commands.{link_in}
 use Rattle.iscsi_outbox_law.proofs.general.PlaceLemmas.{AreApart as LinksApart, conns_of, one_place}
 use Rattle.iscsi_requests.specs.Conns.{behind_oldest, of_conn}
 use Rattle.iscsi_requests.specs.Cookies as cookies

@@ -15,8 +15,8 @@ use Rattle.iscsi_outbox_rules.specs.rules.Words.{is_reply}
 use Rattle.iscsi_outbox_rules.specs.rules.Due.{is_due, settle, settle_from}
 use Rattle.iscsi_outbox_rules.specs.rules.Queues.{append, enter, takes_more}
 use Rattle.iscsi_outbox_rules.specs.rules.Run.{new_link}
-use Rattle.iscsi_outbox_law.specs.Commands.{link_in}
-use Rattle.iscsi_outbox_law.specs.Pairs.{EachOf}
+use Rattle.iscsi_outbox_law.specs.private.Commands.{link_in}
+use Rattle.iscsi_outbox_law.specs.private.Pairs.{EachOf}
 use Rattle.iscsi_outbox_law.proofs.general.PairLemmas.{each-append, each-weaken}
 use Rattle.iscsi_outbox_law.proofs.general.PlaceLemmas.{AreApart as LinksApart, conns_of, one_place}
 use Rattle.iscsi_requests.specs.declared.replies.WaitingReply.{WaitingReply}

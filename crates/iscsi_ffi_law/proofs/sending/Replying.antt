@@ -10,8 +10,8 @@ use Rattle.iscsi_outbox_rules.specs.rules.Boxes.{Answer, Handed, Outgoing}
 use Rattle.iscsi_outbox_rules.specs.rules.Handing.{is_from_queue}
 use Rattle.iscsi_outbox_rules.specs.rules.Words.{is_open}
 use Rattle.iscsi_outbox_rules.specs.promises.Scope.{nth}
-use Rattle.iscsi_outbox_law.specs.Commands.{link_in}
-use Rattle.iscsi_outbox_law.specs.Pairs.{EachOf}
+use Rattle.iscsi_outbox_law.specs.private.Commands.{link_in}
+use Rattle.iscsi_outbox_law.specs.private.Pairs.{EachOf}
 use Rattle.iscsi_outbox_law.proofs.general.PairLemmas.{each-filter}
 use Rattle.iscsi_requests.specs.Conns.{of_conn}
 use Rattle.iscsi_requests.specs.Cookies.{cookie_at}

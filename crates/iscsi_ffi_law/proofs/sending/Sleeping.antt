@@ -5,7 +5,7 @@ use Rattle.std.proofs.lemmas.Bool.{false≢true, eqb-true, eq-eqb, or_parts}
 use Rattle.iscsi_rules.specs.rules.Trace.{entered}
 use Rattle.iscsi_rules.proofs.general.ListLemmas.{filtered_among}
 use Rattle.iscsi_outbox_rules.specs.rules.Words.{contains}
-use Rattle.iscsi_outbox_law.specs.Commands.{link_in}
+use Rattle.iscsi_outbox_law.specs.private.Commands.{link_in}
 use Rattle.iscsi_outbox_law.proofs.general.PairLemmas.{each-weaken, pairs-weaken}
 use Rattle.iscsi_outbox_law.proofs.general.PlaceLemmas.{AreApart as Apart}
 use Rattle.iscsi_requests.specs.Conns.{of_conn}

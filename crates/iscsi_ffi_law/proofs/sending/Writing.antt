@@ -7,9 +7,9 @@ use Rattle.iscsi_outbox_rules.specs.rules.Calls as outbox
 use Rattle.iscsi_outbox_rules.specs.rules.Boxes.{Box, Handed, Link}
 use Rattle.iscsi_outbox_rules.specs.rules.Queues.{at_link}
 use Rattle.iscsi_outbox_rules.specs.rules.Run.{after_call, one_written}
-use Rattle.iscsi_outbox_law.specs.Commands.{is_under_way, link_in}
-use Rattle.iscsi_outbox_law.specs.Pairs.{EachOf, PairsOf}
-use Rattle.iscsi_outbox_law.specs.Stands.{Stands as OutboxStands}
+use Rattle.iscsi_outbox_law.specs.private.Commands.{is_under_way, link_in}
+use Rattle.iscsi_outbox_law.specs.private.Pairs.{EachOf, PairsOf}
+use Rattle.iscsi_outbox_law.specs.private.Stands.{Stands as OutboxStands}
 use Rattle.iscsi_outbox_law.proofs.arrivals.Hearing.{writes_stands}
 use Rattle.iscsi_outbox_law.proofs.general.PlaceLemmas.{IsPlace, none_here, one_place}
 use Rattle.iscsi_outbox_law.proofs.general.PairLemmas.{each-at, each-set, each-weaken, pairs-weaken}

@@ -23,7 +23,7 @@ use Rattle.iscsi_rules.proofs.promises.NumberingLemmas.{to_list, unseen}
 use Rattle.iscsi_rules.proofs.promises.ReplyForms.{replies_seen}
 use Rattle.iscsi_rules.proofs.promises.ReplyTurns.{admitted_there}
 use Rattle.iscsi_rules.proofs.items.TouchLemmas.{entering_in, enters_form}
-use Rattle.iscsi_outbox_law.specs.Pairs.{EachOf}
+use Rattle.iscsi_outbox_law.specs.private.Pairs.{EachOf}
 use Rattle.iscsi_outbox_law.proofs.general.PairLemmas.{each-append, each-filter, each-weaken}
 use Rattle.iscsi_ffi_rules.specs.rules.Needs.{admitted_by}
 use Rattle.iscsi_ffi_law.proofs.general.Members.{each_in}

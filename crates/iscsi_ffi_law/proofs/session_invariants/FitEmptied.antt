@@ -8,7 +8,7 @@ use Rattle.iscsi_rules.specs.rules.Settings.{Setting}
 use Rattle.iscsi_rules.specs.rules.Trace.{Arrival, Mark, Trace, shown}
 use Rattle.iscsi_rules.proofs.general.ElementLemmas.{In}
 use Rattle.iscsi_rules.proofs.items.Forms.{AfterWaiting, AtArrival, AtTurn, Completed, Deeds, Executed, Form, HasForm, Ignored, IsFormed, Postponed, Received, Rejected, Start, begun, marks_done, marks_of_form, start_mark}
-use Rattle.iscsi_outbox_law.specs.Pairs.{EachOf}
+use Rattle.iscsi_outbox_law.specs.private.Pairs.{EachOf}
 use Rattle.iscsi_ffi_rules.specs.rules.Needs.{admitted_by}
 use Rattle.iscsi_ffi_law.specs.Arrived.{emptying}
 use Rattle.iscsi_ffi_law.proofs.session_invariants.FitArrivals.{AllAre}

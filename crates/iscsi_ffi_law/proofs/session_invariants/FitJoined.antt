@@ -13,7 +13,7 @@ use Rattle.iscsi_outbox_rules.specs.rules.Calls.{Call, Clears, Hears, Joins, Los
 use Rattle.iscsi_outbox_rules.specs.rules.Run.{after_call, arrived_by_ping, arrived_by_stat_sn, new_link}
 use Rattle.iscsi_outbox_rules.specs.rules.Words.{is_open}
 use Rattle.iscsi_outbox_rules.specs.promises.Room.{Both, Happens, Other, after_step, begun}
-use Rattle.iscsi_outbox_law.specs.Pairs.{EachOf}
+use Rattle.iscsi_outbox_law.specs.private.Pairs.{EachOf}
 use Rattle.iscsi_outbox_law.proofs.general.PairLemmas.{each-new}
 use Rattle.iscsi_outbox_law.proofs.invariants.SoundCalls.{TakesNone}
 use Rattle.iscsi_ffi_law.proofs.session_invariants.FitArrivals.{AllAre, OfEvent, all_none, all_weaken, event_items, items_end}

@@ -25,8 +25,8 @@ use Rattle.iscsi_outbox_rules.specs.rules.Words.{contains, is_live_phase, is_run
 use Rattle.iscsi_outbox_rules.proofs.closes.ClosedParts.{effects_each}
 use Rattle.iscsi_outbox_rules.proofs.room.RoomLives.{SameLive, forms_below}
 use Rattle.iscsi_outbox_rules.proofs.commands.TaskLives.{entered_tasks, item_tasks, left_tasks}
-use Rattle.iscsi_outbox_law.specs.Pairs.{EachOf, InOrder}
-use Rattle.iscsi_outbox_law.specs.Sound.{IsItemSound, IsSound, is_live_in, NoneIsFresh, is_fresh_phase}
+use Rattle.iscsi_outbox_law.specs.private.Pairs.{EachOf, InOrder}
+use Rattle.iscsi_outbox_law.specs.private.Sound.{IsItemSound, IsSound, is_live_in, NoneIsFresh, is_fresh_phase}
 use Rattle.iscsi_outbox_law.proofs.general.PairLemmas.{each-weaken}
 use Rattle.iscsi_ffi_rules.specs.rules.Calls.{Interface}
 use Rattle.iscsi_ffi_rules.specs.rules.Happening.{leaving}

@@ -13,7 +13,7 @@ use Rattle.iscsi_rules.proofs.general.ListLemmas.{fewer_counted}
 use Rattle.iscsi_outbox_rules.proofs.room.RoomSteps.{shrinks_done}
 use Rattle.iscsi_rules.proofs.promises.NumberingLemmas.{unseen}
 use Rattle.iscsi_rules.proofs.promises.ReplyForms.{replies_seen}
-use Rattle.iscsi_outbox_law.specs.Pairs.{EachOf}
+use Rattle.iscsi_outbox_law.specs.private.Pairs.{EachOf}
 use Rattle.iscsi_ffi_law.proofs.session_invariants.FitArrivals.{through, waits_by}
 use Rattle.iscsi_outbox_law.proofs.general.PairLemmas.{each-append, each-filter}
 

@@ -11,7 +11,7 @@ use Rattle.iscsi_rules.proofs.promises.LifeLemmas.{beyond_entered}
 use Rattle.iscsi_rules.proofs.promises.NumberingLemmas.{to_list}
 use Rattle.iscsi_rules.proofs.promises.ReplyTurns.{awaited, awaited_form, begins_of, executes_of}
 use Rattle.iscsi_rules.proofs.items.TouchLemmas.{entering_in, enters_form}
-use Rattle.iscsi_outbox_law.specs.Pairs.{EachOf}
+use Rattle.iscsi_outbox_law.specs.private.Pairs.{EachOf}
 use Rattle.iscsi_ffi_law.proofs.general.Members.{in_any}
 
 -- ---- the commands of an event

@@ -18,7 +18,7 @@ use Rattle.iscsi_rules.proofs.traces.FlowItems.{same_exp}
 use Rattle.iscsi_rules.proofs.items.Forms.{AtArrival, marks_done}
 use Rattle.iscsi_rules.proofs.general.Missing.{expected_low}
 use Rattle.iscsi_outbox_rules.proofs.closes.ClosedParts.{EachOn}
-use Rattle.iscsi_outbox_law.specs.Pairs.{EachOf}
+use Rattle.iscsi_outbox_law.specs.private.Pairs.{EachOf}
 use Rattle.iscsi_outbox_law.proofs.general.PairLemmas.{each-append, each-weaken}
 use Rattle.iscsi_ffi_law.specs.Arrived.{is_first_waiting}
 use Rattle.iscsi_ffi_law.proofs.session_invariants.FitFirst.{IsInOrder, behind, behind_in_order, postponed_ahead}

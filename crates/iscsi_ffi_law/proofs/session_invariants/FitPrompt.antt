@@ -15,7 +15,7 @@ use Rattle.iscsi_rules.proofs.promises.AbortRuns.{exp_item}
 use Rattle.iscsi_rules.proofs.general.BoolLemmas.{or_none}
 use Rattle.iscsi_rules.proofs.traces.HeldLemmas.{held-here, received-admits}
 use Rattle.iscsi_rules.proofs.general.Missing.{expected_below, expected_gone, expected_low}
-use Rattle.iscsi_outbox_law.specs.Pairs.{EachOf}
+use Rattle.iscsi_outbox_law.specs.private.Pairs.{EachOf}
 use Rattle.iscsi_ffi_law.specs.Arrived.{starts_late}
 use Rattle.iscsi_ffi_law.proofs.session_invariants.FitTurns.{IsTurned, first_immediate}
 

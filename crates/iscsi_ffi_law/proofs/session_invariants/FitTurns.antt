@@ -38,7 +38,7 @@ use Rattle.iscsi_rules.proofs.items.Forms.{AfterWaiting, AtArrival, AtTurn, begu
 use Rattle.iscsi_rules.proofs.traces.HeldLemmas.{held-admits, held-delivered, held-number}
 use Rattle.iscsi_rules.proofs.items.ReceivedItems.{AtMostOne, function_receives_none, immediate_receives_one, turn_receives_none}
 use Rattle.iscsi_rules.proofs.traces.TraceLemmas.{after_items-append}
-use Rattle.iscsi_outbox_law.specs.Pairs.{EachOf}
+use Rattle.iscsi_outbox_law.specs.private.Pairs.{EachOf}
 use Rattle.iscsi_outbox_law.proofs.general.PairLemmas.{each-filter}
 use Rattle.iscsi_ffi_law.proofs.session_invariants.FitMarks.{fewer_each, fewer_wait, IsExecuting, IsWaiter, KeptIn, all_waiters, executing, held_numbered, still_unheld}
 

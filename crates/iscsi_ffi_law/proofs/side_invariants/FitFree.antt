@@ -8,7 +8,7 @@ use Rattle.iscsi_slots.proofs.SlotLemmas.{times_append}
 use Rattle.iscsi_slots.specs.Slots.{times}
 use Rattle.iscsi_ffi_commands.specs.declared.command.Command.{Command}
 use Rattle.iscsi_ffi_steps.specs.State.{State}
-use Rattle.iscsi_outbox_law.specs.Pairs.{EachOf}
+use Rattle.iscsi_outbox_law.specs.private.Pairs.{EachOf}
 use Rattle.iscsi_requests.specs.Conns.{count_all}
 use Rattle.iscsi_requests.specs.Cookies.{Cookies, Request, is_at, next_place, uses_at}
 use Rattle.iscsi_requests.specs.declared.functions.WaitingFunction.{WaitingFunction}

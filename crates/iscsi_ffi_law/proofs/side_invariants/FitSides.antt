@@ -18,7 +18,7 @@ use Rattle.iscsi_outbox_rules.specs.promises.Room.{Both, Happens, Other, after_s
 use Rattle.iscsi_outbox_rules.proofs.closes.ClosedParts.{Parts, effects_each, event_parts}
 use Rattle.iscsi_outbox_rules.proofs.room.RoomSends.{Formed, Going, event_going, sending}
 use Rattle.iscsi_outbox_rules.proofs.room.RoomStored.{at_once}
-use Rattle.iscsi_outbox_law.specs.Pairs.{EachOf}
+use Rattle.iscsi_outbox_law.specs.private.Pairs.{EachOf}
 use Rattle.iscsi_outbox_law.proofs.general.PairLemmas.{each-new, each-weaken}
 use Rattle.iscsi_outbox_law.proofs.general.PlaceLemmas.{conns_of}
 use Rattle.iscsi_outbox_law.proofs.invariants.SoundCalls.{TakesNone}

@@ -13,7 +13,7 @@ use Rattle.iscsi_ffi_commands.specs.Commands.{Commands, entered as command_enter
 use Rattle.iscsi_ffi_commands.specs.declared.command.Command.{Command}
 use Rattle.iscsi_ffi_commands.specs.declared.command.Stage.{Stage}
 use Rattle.iscsi_ffi_steps.specs.Steps.{pushed_with_room}
-use Rattle.iscsi_outbox_law.specs.Pairs.{EachOf}
+use Rattle.iscsi_outbox_law.specs.private.Pairs.{EachOf}
 use Rattle.iscsi_outbox_law.proofs.general.PairLemmas.{each-append, each-filter, each-map}
 use Rattle.iscsi_requests.specs.Conns.{behind_oldest, count_all, of_conn, with_newest, without_oldest}
 use Rattle.iscsi_requests.specs.Functions.{has_number, without_number}

@@ -11,7 +11,7 @@ use Rattle.iscsi_outbox_rules.specs.promises.Room.{tasks_kept}
 use Rattle.iscsi_outbox_rules.specs.rules.Boxes.{Box, Task}
 use Rattle.iscsi_outbox_rules.specs.rules.Words.{has_under_way, is_left_phase, is_running, is_running_phase, owes, owing}
 use Rattle.iscsi_outbox_rules.proofs.room.RoomLives.{same_count}
-use Rattle.iscsi_outbox_law.specs.Pairs.{InOrder}
+use Rattle.iscsi_outbox_law.specs.private.Pairs.{InOrder}
 use Rattle.iscsi_outbox_law.proofs.general.PairLemmas.{pairs-count}
 use Rattle.iscsi_outbox_law.proofs.commands.Stops.{stops_answered}
 use Rattle.iscsi_outbox_steps.specs.Steps.{is_running_ticket}

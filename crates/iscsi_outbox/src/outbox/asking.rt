@@ -4,7 +4,7 @@ ghost use Rattle.std.specs.Prelude.{◌≡◌, ◌<◌, ◌^◌, length};
 ghost use Rattle.iscsi_wire.specs.Serial.{wire};
 ghost use Rattle.iscsi_outbox_steps.specs.State.{link_at};
 ghost use Rattle.iscsi_outbox_steps.specs.Steps.{given, is_running_ticket};
-ghost use Rattle.iscsi_outbox.specs.Words.{gives_no_more, gives_pdu};
+ghost use Rattle.iscsi_outbox.specs.rules.Words.{gives_no_more, gives_pdu};
 
 use crate::outbox::Outbox;
 use crate::outbox::settling::is_running;

@@ -3,8 +3,8 @@
 ghost use Rattle.std.specs.Prelude.{◌≡◌, ◌<◌, ℕ, Bool, length, option_map};
 ghost use Rattle.iscsi_outbox_steps.specs.State.{is_asked_for, is_fence_elsewhere, is_fence_here, is_fence_out, is_over, link_at, passes, wants_notice, wants_ping};
 ghost use Rattle.iscsi_outbox_steps.specs.Steps.{chosen};
-ghost use Rattle.iscsi_outbox.specs.Words.{gives};
-ghost use Rattle.iscsi_outbox.specs.Choices.{choice_of, holds_of, is_clear, lets_pass};
+ghost use Rattle.iscsi_outbox.specs.rules.Words.{gives};
+ghost use Rattle.iscsi_outbox.specs.private.Choices.{choice_of, holds_of, is_clear, lets_pass};
 
 use crate::lifted::lifted;
 use crate::outbox::Outbox;

@@ -4,7 +4,7 @@ ghost use Rattle.std.specs.Prelude.{◌≡◌, ℕ, ◌==◌, ◌<◌, [], ◌�
 ghost use Rattle.std.specs.List.{list_any};
 ghost use Rattle.iscsi_outbox_steps.specs.State.{link_at};
 ghost use Rattle.iscsi_outbox_steps.specs.Steps.{close, close_one, closed_by, closed_in, counted_from, newly_closed};
-ghost use Rattle.iscsi_outbox.specs.Walks.{close_where};
+ghost use Rattle.iscsi_outbox.specs.private.Walks.{close_where};
 
 use crate::items::closes_any;
 use crate::outbox::Outbox;

@@ -4,7 +4,7 @@ ghost use Rattle.std.specs.Prelude.{◌≡◌, ℕ, [], ◌∷◌, None};
 ghost use Rattle.iscsi_tasks.specs.declared.task.Attr.{Attr};
 ghost use Rattle.iscsi_rules.specs.declared.effect.Effect.TheVariants.{Deliver, Enable, Enter, Leave, Send};
 ghost use Rattle.iscsi_outbox_steps.specs.Steps.{placed, send_placed};
-ghost use Rattle.iscsi_outbox.specs.Walks.{after_event};
+ghost use Rattle.iscsi_outbox.specs.private.Walks.{after_event};
 
 use crate::outbox::Outbox;
 use crate::outbox::sending::reply_item;

@@ -5,12 +5,12 @@ ghost use Rattle.iscsi_wire.specs.Serial.{wire};
 ghost use Rattle.iscsi_arrivals.specs.Counts.{is_open_by};
 ghost use Rattle.iscsi_outbox_state.specs.declared.waiting.Waiting.{Waiting as WaitingValue};
 ghost use Rattle.iscsi_outbox_state.specs.Waits.{first_item, queue_at};
-ghost use Rattle.iscsi_outbox_law.specs.Called.{KeepsAllPromises, KeepsToRules};
+ghost use Rattle.iscsi_outbox_law.specs.promises.Called.{KeepsAllPromises, KeepsToRules};
 ghost use Rattle.iscsi_outbox_rules.specs.rules.Calls.{Nexts};
 ghost use Rattle.iscsi_outbox_steps.specs.State.{is_over, link_at};
 ghost use Rattle.iscsi_outbox_steps.specs.Steps.{Noticed, Pinged, Waited, after_out, given, next, numbered, of_command, of_fence};
 ghost use Rattle.iscsi_arrivals.specs.Counts.{tag_of_ping};
-ghost use Rattle.iscsi_outbox.specs.Choices.{pdu_of_content};
+ghost use Rattle.iscsi_outbox.specs.private.Choices.{pdu_of_content};
 
 use crate::outbox::Outbox;
 use crate::outbox::choosing::Choice;

@@ -4,7 +4,7 @@ ghost use Rattle.std.specs.Prelude.{◌≡◌, ◌<◌, ◌≤◌, filter_map, l
 ghost use Rattle.iscsi_outbox_rules.specs.rules.Items.{ticket_enabled, tickets_left};
 ghost use Rattle.iscsi_outbox_steps.specs.Steps.{completed, enable, enter_command, enter_commands, enter_each, in_phase_if, is_numbered, is_started, leave, leave_one, taken_out, tell};
 ghost use Rattle.iscsi_tracked.specs.Tracked.{has_place};
-ghost use Rattle.iscsi_outbox.specs.Walks.{entered_one, is_in, is_numbered_of};
+ghost use Rattle.iscsi_outbox.specs.private.Walks.{entered_one, is_in, is_numbered_of};
 
 use crate::outbox::Outbox;
 use crate::outbox::own::is_live;

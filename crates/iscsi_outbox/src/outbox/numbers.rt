@@ -1,7 +1,7 @@
 //! Room, and MaxCmdSN as it is shown (RFC 7143 section 4.2.2.1).
 
 ghost use Rattle.std.specs.Prelude.{◌≡◌, ◌≤◌};
-ghost use Rattle.iscsi_outbox_law.specs.Called.{MayTakeByRules};
+ghost use Rattle.iscsi_outbox_law.specs.promises.Called.{MayTakeByRules};
 ghost use Rattle.iscsi_outbox_steps.specs.State.{credit_of, max_shown, may_take, most_at_once};
 ghost use Rattle.iscsi_outbox_steps.specs.Steps.{shows};
 

@@ -2,11 +2,11 @@
 
 ghost use Rattle.std.specs.Prelude.{◌≡◌, ◌+◌, ◌<◌, ◌≤◌, length, true, IfSome};
 ghost use Rattle.iscsi_outbox_rules.specs.rules.Own.{is_fit, is_free_tag, own_takes, pdu_opcode, pdu_word};
-ghost use Rattle.iscsi_outbox_law.specs.Called.{KeepsAllPromises, KeepsToRules};
+ghost use Rattle.iscsi_outbox_law.specs.promises.Called.{KeepsAllPromises, KeepsToRules};
 ghost use Rattle.iscsi_outbox_rules.specs.rules.Calls.{Puts};
 ghost use Rattle.iscsi_outbox_steps.specs.Steps.{absent, home_of, is_live, live_command, own_item, put, put_refusal, refusal_on};
 ghost use Rattle.iscsi_tracked.specs.Tracked.{find_ticket, has_place};
-ghost use Rattle.iscsi_outbox.specs.Choices.{refused};
+ghost use Rattle.iscsi_outbox.specs.private.Choices.{refused};
 
 use crate::outbox::Outbox;
 use byteorder::{BigEndian, ByteOrder};

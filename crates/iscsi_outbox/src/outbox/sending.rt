@@ -5,7 +5,7 @@ ghost use Rattle.iscsi_outbox_steps.specs.State.{place_of};
 ghost use Rattle.iscsi_outbox_steps.specs.Steps.{aim_of, aim_of_logout, closed_in, counted, is_of_unit, is_reset, newly_closed, later, placed, reply_item, send, send_on, send_placed};
 ghost use Rattle.iscsi_rules.specs.rules.Execution.{unit_named};
 ghost use Rattle.iscsi_outbox_state.specs.Lane.{is_of_logout};
-ghost use Rattle.iscsi_outbox.specs.Walks.{aim_of_function, ends_with};
+ghost use Rattle.iscsi_outbox.specs.private.Walks.{aim_of_function, ends_with};
 
 use crate::items::closes_session;
 use crate::outbox::Outbox;

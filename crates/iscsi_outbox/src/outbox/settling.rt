@@ -3,7 +3,7 @@
 ghost use Rattle.std.specs.Prelude.{◌≡◌, ◌<◌, ◌≤◌, length, true, IfSome};
 ghost use Rattle.iscsi_outbox_state.specs.Lane.{first_due, without_due};
 ghost use Rattle.iscsi_arrivals.specs.Counts.{heard_by};
-ghost use Rattle.iscsi_outbox_law.specs.Called.{KeepsAllPromises, KeepsToRules};
+ghost use Rattle.iscsi_outbox_law.specs.promises.Called.{KeepsAllPromises, KeepsToRules};
 ghost use Rattle.iscsi_outbox_rules.specs.rules.Calls.{Clears, Hears, Loses, Stops, Writes};
 ghost use Rattle.iscsi_outbox_steps.specs.State.{with_link};
 ghost use Rattle.iscsi_outbox_steps.specs.Steps.{answer_item, arrived_command, cleared_of, heard, is_of_unit, is_running, is_running_ticket, lost, lost_on, next_arrived, settle, stopped, stopped_command, trail, written};

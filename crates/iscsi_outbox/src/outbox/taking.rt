@@ -2,10 +2,10 @@
 
 ghost use Rattle.std.specs.Prelude.{◌≡◌};
 ghost use Rattle.iscsi_rules.specs.promises.Order.{in_parts};
-ghost use Rattle.iscsi_outbox_law.specs.Called.{KeepsAllPromises, KeepsToRules};
+ghost use Rattle.iscsi_outbox_law.specs.promises.Called.{KeepsAllPromises, KeepsToRules};
 ghost use Rattle.iscsi_outbox_rules.specs.rules.Calls.{Takes};
 ghost use Rattle.iscsi_outbox_steps.specs.Steps.{after_item, after_items, taken};
-ghost use Rattle.iscsi_outbox.specs.Walks.{after_event, numbered_by};
+ghost use Rattle.iscsi_outbox.specs.private.Walks.{after_event, numbered_by};
 
 use crate::items::{executing, first_reply, is_request};
 use crate::lifted::lifted;

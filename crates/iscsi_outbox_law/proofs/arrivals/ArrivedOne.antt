@@ -18,12 +18,12 @@ use Rattle.iscsi_tracked.specs.declared.command.Command.{Command}
 use Rattle.iscsi_tracked.specs.declared.command.Phase.{Phase as KeptPhase}
 use Rattle.iscsi_tracked.specs.declared.command.Phase.TheVariants.{Dormant as KeptDormant, Fresh as KeptFresh, Started as KeptStarted, Running as KeptRunning, Gone as KeptGone}
 use Rattle.iscsi_tracked.specs.Tracked.{Tracked, arrived as arrived_at, find_place, find_ticket, has_place, is_at, removed, with_command, with_out}
-use Rattle.iscsi_outbox_law.specs.Pairs.{PairsOf}
-use Rattle.iscsi_outbox_law.specs.Links.{live_place}
-use Rattle.iscsi_outbox_law.specs.Commands.{AreCommands, IsCommand, IsOut, is_kept, link_in, phase_of}
-use Rattle.iscsi_outbox_law.specs.Lanes.{AreAnswers, AreLeft, IsInScope, is_aimed_at, is_gone, left_at, left_of}
-use Rattle.iscsi_outbox_law.specs.Sound.{HaveHomes}
-use Rattle.iscsi_outbox_law.specs.Stands.{StandsWith}
+use Rattle.iscsi_outbox_law.specs.private.Pairs.{PairsOf}
+use Rattle.iscsi_outbox_law.specs.private.Links.{live_place}
+use Rattle.iscsi_outbox_law.specs.private.Commands.{AreCommands, IsCommand, IsOut, is_kept, link_in, phase_of}
+use Rattle.iscsi_outbox_law.specs.private.Lanes.{AreAnswers, AreLeft, IsInScope, is_aimed_at, is_gone, left_at, left_of}
+use Rattle.iscsi_outbox_law.specs.private.Sound.{HaveHomes}
+use Rattle.iscsi_outbox_law.specs.private.Stands.{StandsWith}
 use Rattle.iscsi_outbox_law.proofs.general.PairLemmas.{each-map}
 use Rattle.iscsi_outbox_law.proofs.general.Members.{In, any_from, filter_in, find_in, in_filter, pair_of, same_tests}
 use Rattle.iscsi_outbox_law.proofs.commands.Homes.{one_task}

@@ -13,8 +13,8 @@ use Rattle.iscsi_outbox_rules.specs.rules.Queues.{at_link}
 use Rattle.iscsi_outbox_rules.specs.rules.Handing.{fenced_handed}
 use Rattle.iscsi_outbox_rules.specs.rules.Run.{arrived_by_ping, arrived_by_stat_sn, link_heard, one_written}
 use Rattle.iscsi_outbox_steps.specs.State.{State, link_at, with_link}
-use Rattle.iscsi_outbox_law.specs.Commands.{is_under_way, link_in}
-use Rattle.iscsi_outbox_law.specs.Stands.{Stands, StandsWith}
+use Rattle.iscsi_outbox_law.specs.private.Commands.{is_under_way, link_in}
+use Rattle.iscsi_outbox_law.specs.private.Stands.{Stands, StandsWith}
 use Rattle.iscsi_outbox_law.proofs.general.PlaceLemmas.{IsPlace, at_place}
 use Rattle.iscsi_outbox_law.proofs.connections.Standing.{counts_at, links_apart}
 use Rattle.iscsi_outbox_law.proofs.connections.LinkChanges.{Moves, stands_moved, stays}

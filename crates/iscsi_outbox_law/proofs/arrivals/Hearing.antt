@@ -13,9 +13,9 @@ use Rattle.iscsi_outbox_rules.specs.rules.Run.{link_heard, one_written}
 use Rattle.iscsi_outbox_steps.specs.State.{State, place_of, with_link}
 use Rattle.iscsi_outbox_steps.specs.Steps.{heard, settle, trail, written}
 use Rattle.iscsi_tracked.specs.Tracked.{trail_at}
-use Rattle.iscsi_outbox_law.specs.Commands.{is_under_way, link_in}
-use Rattle.iscsi_outbox_law.specs.Sound.{IsSound}
-use Rattle.iscsi_outbox_law.specs.Stands.{Stands, StandsWith}
+use Rattle.iscsi_outbox_law.specs.private.Commands.{is_under_way, link_in}
+use Rattle.iscsi_outbox_law.specs.private.Sound.{IsSound}
+use Rattle.iscsi_outbox_law.specs.private.Stands.{Stands, StandsWith}
 use Rattle.iscsi_outbox_law.proofs.general.PlaceLemmas.{IsPlace, at_none, at_place}
 use Rattle.iscsi_outbox_law.proofs.connections.Standing.{links_apart, stands_nowhere, stands_there}
 use Rattle.iscsi_outbox_law.proofs.calls.Calm.{calm, room_there}

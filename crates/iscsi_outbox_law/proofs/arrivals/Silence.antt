@@ -9,9 +9,9 @@ use Rattle.iscsi_outbox_rules.specs.rules.Boxes.{Task, Outgoing, Handed, Answer,
 use Rattle.iscsi_outbox_rules.specs.rules.Words.{has_under_way, is_of, is_open, is_reply, looks_for_arrival, unarrived, unwritten}
 use Rattle.iscsi_outbox_rules.specs.rules.Queues.{at_link, emptied}
 use Rattle.iscsi_outbox_rules.specs.rules.Run.{arrived_by_ping, arrived_by_stat_sn, link_heard, link_lost, new_link, one_written}
-use Rattle.iscsi_outbox_law.specs.Pairs.{EachOf}
-use Rattle.iscsi_outbox_law.specs.Commands.{is_under_way, link_in}
-use Rattle.iscsi_outbox_law.specs.Sound.{HasHome, HaveHomes}
+use Rattle.iscsi_outbox_law.specs.private.Pairs.{EachOf}
+use Rattle.iscsi_outbox_law.specs.private.Commands.{is_under_way, link_in}
+use Rattle.iscsi_outbox_law.specs.private.Sound.{HasHome, HaveHomes}
 use Rattle.iscsi_outbox_law.proofs.general.PairLemmas.{each-at, each-map}
 use Rattle.iscsi_outbox_law.proofs.general.Members.{In, any_index, index_any}
 use Rattle.iscsi_outbox_law.proofs.general.PlaceLemmas.{AreApart, IsPlace, conns_of}

@@ -19,10 +19,10 @@ use Rattle.iscsi_tracked.specs.declared.command.Command.{Command}
 use Rattle.iscsi_tracked.specs.declared.command.Phase.{Phase as KeptPhase}
 use Rattle.iscsi_tracked.specs.declared.command.Phase.TheVariants.{Dormant as KeptDormant, Fresh as KeptFresh, Started as KeptStarted, Running as KeptRunning, Gone as KeptGone}
 use Rattle.iscsi_tracked.specs.Tracked.{arrived as arrived_at, find_place, is_out, removed, trail_at}
-use Rattle.iscsi_outbox_law.specs.Pairs.{PairsOf, InOrder}
-use Rattle.iscsi_outbox_law.specs.Commands.{IsCommand, IsLastOut, IsOut, IsTrailed, is_kept, is_under_way, link_in, of_ticket, out_place}
-use Rattle.iscsi_outbox_law.specs.Sound.{HaveHomes}
-use Rattle.iscsi_outbox_law.specs.Stands.{Stands, StandsWith}
+use Rattle.iscsi_outbox_law.specs.private.Pairs.{PairsOf, InOrder}
+use Rattle.iscsi_outbox_law.specs.private.Commands.{IsCommand, IsLastOut, IsOut, IsTrailed, is_kept, is_under_way, link_in, of_ticket, out_place}
+use Rattle.iscsi_outbox_law.specs.private.Sound.{HaveHomes}
+use Rattle.iscsi_outbox_law.specs.private.Stands.{Stands, StandsWith}
 use Rattle.iscsi_outbox_law.proofs.general.PairLemmas.{each-at}
 use Rattle.iscsi_outbox_law.proofs.general.Members.{In, each-in, in_filter, pair_of, pair_for, filter_in}
 use Rattle.iscsi_outbox_law.proofs.general.PlaceLemmas.{AreApart, IsPlace, conns_of, one_place, place_found}

@@ -6,10 +6,10 @@ use Rattle.iscsi_outbox_rules.specs.promises.Deeds.{FollowsKnown}
 use Rattle.iscsi_outbox_rules.specs.rules.Calls.{Opening, Call}
 use Rattle.iscsi_outbox_rules.specs.rules.Run.{opened, after_calls as after_calls_by_rules}
 use Rattle.iscsi_outbox_steps.specs.Run.{begun}
-use Rattle.iscsi_outbox_law.specs.Room.{IsShort}
-use Rattle.iscsi_outbox_law.specs.Called.{after_calls}
-use Rattle.iscsi_outbox_law.specs.Said.{AnswersAlike}
-use Rattle.iscsi_outbox_law.specs.Stands.{Stands}
+use Rattle.iscsi_outbox_law.specs.rules.Room.{IsShort}
+use Rattle.iscsi_outbox_law.specs.promises.Called.{after_calls}
+use Rattle.iscsi_outbox_law.specs.rules.Said.{AnswersAlike}
+use Rattle.iscsi_outbox_law.specs.private.Stands.{Stands}
 use Rattle.iscsi_outbox_law.proofs.calls.CallsGo.{AllGo}
 use Rattle.iscsi_outbox_law.proofs.calls.StepsGo.{ItemsGo, steps_go}
 use Rattle.iscsi_outbox_law.proofs.items.TakesItem.{item_stands}

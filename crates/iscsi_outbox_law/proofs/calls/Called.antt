@@ -10,9 +10,9 @@ use Rattle.iscsi_outbox_rules.proofs.room.RoomFollows.{follows_flow, follows_kno
 use Rattle.iscsi_outbox_rules.proofs.room.RoomItems.{room_on_the_way}
 use Rattle.iscsi_outbox_steps.specs.State.{State, may_take}
 use Rattle.iscsi_outbox_steps.specs.Run.{Answered, after_call, answered, answered_from, begun}
-use Rattle.iscsi_outbox_law.specs.Called.{IsRun, KeepsAllPromises, KeepsToRules, MayTakeByRules, after_calls}
-use Rattle.iscsi_outbox_law.specs.Said.{said}
-use Rattle.iscsi_outbox_law.specs.Stands.{Stands}
+use Rattle.iscsi_outbox_law.specs.promises.Called.{IsRun, KeepsAllPromises, KeepsToRules, MayTakeByRules, after_calls}
+use Rattle.iscsi_outbox_law.specs.rules.Said.{said}
+use Rattle.iscsi_outbox_law.specs.private.Stands.{Stands}
 use Rattle.iscsi_outbox_law.proofs.calls.Alike.{answers_alike, leave_alike}
 use Rattle.iscsi_outbox_law.proofs.queues.Waiting.{may_take_is}
 

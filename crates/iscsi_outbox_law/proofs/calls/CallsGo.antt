@@ -11,11 +11,11 @@ use Rattle.iscsi_outbox_rules.specs.rules.Words.{is_reply}
 use Rattle.iscsi_outbox_rules.specs.rules.Run.{after_call as after_call_by_rules, after_calls as after_calls_by_rules, answered as answered_by_rules, answered_from as answered_from_by_rules, new_link, opened}
 use Rattle.iscsi_outbox_steps.specs.State.{State}
 use Rattle.iscsi_outbox_steps.specs.Run.{Gives, Joined, Put, Stopped, after_call, answered, answered_from, begun}
-use Rattle.iscsi_outbox_law.specs.Room.{AreFew, AreShort, IsShort, ShortFrom}
-use Rattle.iscsi_outbox_law.specs.Called.{after_calls}
-use Rattle.iscsi_outbox_law.specs.Said.{said}
-use Rattle.iscsi_outbox_law.specs.Sound.{IsSound, NoneIsFresh}
-use Rattle.iscsi_outbox_law.specs.Stands.{Stands}
+use Rattle.iscsi_outbox_law.specs.rules.Room.{AreFew, AreShort, IsShort, ShortFrom}
+use Rattle.iscsi_outbox_law.specs.promises.Called.{after_calls}
+use Rattle.iscsi_outbox_law.specs.rules.Said.{said}
+use Rattle.iscsi_outbox_law.specs.private.Sound.{IsSound, NoneIsFresh}
+use Rattle.iscsi_outbox_law.specs.private.Stands.{Stands}
 use Rattle.iscsi_outbox_law.proofs.general.PairLemmas.{each-new}
 use Rattle.iscsi_outbox_law.proofs.calls.Clears.{clears_stands}
 use Rattle.iscsi_outbox_law.proofs.sending.Giving.{gives_answered}

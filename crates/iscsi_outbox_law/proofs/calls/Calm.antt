@@ -6,10 +6,10 @@ use Rattle.iscsi_outbox_rules.specs.rules.Boxes.{Answer, Link, Box}
 use Rattle.iscsi_outbox_rules.specs.rules.Words.{contains, is_left}
 use Rattle.iscsi_outbox_rules.specs.promises.Room.{Fits, places}
 use Rattle.iscsi_outbox_steps.specs.State.{State}
-use Rattle.iscsi_outbox_law.specs.Pairs.{EachOf}
-use Rattle.iscsi_outbox_law.specs.Commands.{is_under_way}
-use Rattle.iscsi_outbox_law.specs.Sound.{IsAnswerSound, IsLinkSound, IsSound}
-use Rattle.iscsi_outbox_law.specs.Stands.{Stands}
+use Rattle.iscsi_outbox_law.specs.private.Pairs.{EachOf}
+use Rattle.iscsi_outbox_law.specs.private.Commands.{is_under_way}
+use Rattle.iscsi_outbox_law.specs.private.Sound.{IsAnswerSound, IsLinkSound, IsSound}
+use Rattle.iscsi_outbox_law.specs.private.Stands.{Stands}
 use Rattle.iscsi_outbox_law.proofs.general.PairLemmas.{each-weaken}
 use Rattle.iscsi_outbox_law.proofs.connections.Standing.{links_apart}
 use Rattle.iscsi_outbox_law.proofs.queues.Rooms.{own_on, replies_queued}

@@ -18,10 +18,10 @@ use Rattle.iscsi_outbox_state.specs.Lane.{as_cleared, cleared, cleared_in, is_co
 use Rattle.iscsi_outbox_steps.specs.State.{State}
 use Rattle.iscsi_outbox_steps.specs.Steps.{cleared_of}
 use Rattle.iscsi_tracked.specs.Tracked.{Tracked}
-use Rattle.iscsi_outbox_law.specs.Pairs.{EachOf}
-use Rattle.iscsi_outbox_law.specs.Lanes.{AreAnswers, IsAim, IsAnswer, is_aimed_at}
-use Rattle.iscsi_outbox_law.specs.Sound.{IsSound}
-use Rattle.iscsi_outbox_law.specs.Stands.{Stands}
+use Rattle.iscsi_outbox_law.specs.private.Pairs.{EachOf}
+use Rattle.iscsi_outbox_law.specs.private.Lanes.{AreAnswers, IsAim, IsAnswer, is_aimed_at}
+use Rattle.iscsi_outbox_law.specs.private.Sound.{IsSound}
+use Rattle.iscsi_outbox_law.specs.private.Stands.{Stands}
 use Rattle.iscsi_outbox_law.proofs.calls.Calm.{calm, room_there}
 use Rattle.iscsi_outbox_law.proofs.queues.Settling.{IsCalm, answers_front, settle_stands}
 

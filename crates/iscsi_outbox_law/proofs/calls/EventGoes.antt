@@ -16,8 +16,8 @@ use Rattle.iscsi_outbox_rules.specs.rules.Queues.{at_link, drop_on, takes_more}
 use Rattle.iscsi_outbox_rules.specs.rules.Items.{after_item as box_after_item, after_items as box_after_items, aim, answer, close, close_all, close_one, closed_in, enter_tasks, executing, in_phase, leave, newly_closed, outgoing, phase_enabled, reply_sent, send, send_as, ticket_enabled, tickets_left}
 use Rattle.iscsi_outbox_steps.specs.State.{State}
 use Rattle.iscsi_outbox_steps.specs.Steps.{after_item, after_items}
-use Rattle.iscsi_outbox_law.specs.Sound.{IsItemSound, IsSound}
-use Rattle.iscsi_outbox_law.specs.Stands.{Stands}
+use Rattle.iscsi_outbox_law.specs.private.Sound.{IsItemSound, IsSound}
+use Rattle.iscsi_outbox_law.specs.private.Stands.{Stands}
 use Rattle.iscsi_outbox_law.proofs.queues.Settling.{settle_time}
 use Rattle.iscsi_outbox_law.proofs.invariants.SoundRuns.{SoundItems}
 use Rattle.iscsi_outbox_law.proofs.commands.TurningCount.{item_last}

@@ -15,10 +15,10 @@ use Rattle.iscsi_outbox_rules.specs.rules.Run.{new_link, opened}
 use Rattle.iscsi_outbox_steps.specs.State.{limits_of, places}
 use Rattle.iscsi_outbox_steps.specs.Run.{begun}
 use Rattle.iscsi_tracked.specs.Tracked.{Tracked}
-use Rattle.iscsi_outbox_law.specs.Pairs.{PairsOf, EachOf, InOrder}
-use Rattle.iscsi_outbox_law.specs.Links.{IsQueue}
-use Rattle.iscsi_outbox_law.specs.Commands.{out_place}
-use Rattle.iscsi_outbox_law.specs.Stands.{Stands}
+use Rattle.iscsi_outbox_law.specs.private.Pairs.{PairsOf, EachOf, InOrder}
+use Rattle.iscsi_outbox_law.specs.private.Links.{IsQueue}
+use Rattle.iscsi_outbox_law.specs.private.Commands.{out_place}
+use Rattle.iscsi_outbox_law.specs.private.Stands.{Stands}
 use Rattle.iscsi_outbox_law.proofs.general.PairLemmas.{each-new}
 
 stands_new : (conn : ℕ) → StandsFor new_counts (new_link conn)

@@ -11,8 +11,8 @@ use Rattle.iscsi_outbox_rules.specs.rules.Run.{opened}
 use Rattle.iscsi_outbox_steps.specs.State.{State}
 use Rattle.iscsi_outbox_steps.specs.Run.{begun}
 use Rattle.iscsi_outbox_steps.specs.Steps.{after_item}
-use Rattle.iscsi_outbox_law.specs.Room.{IsShort}
-use Rattle.iscsi_outbox_law.specs.Stands.{Stands}
+use Rattle.iscsi_outbox_law.specs.rules.Room.{IsShort}
+use Rattle.iscsi_outbox_law.specs.private.Stands.{Stands}
 use Rattle.iscsi_outbox_law.proofs.arrivals.Hearing.{hears_stands, writes_stands}
 use Rattle.iscsi_outbox_law.proofs.connections.Losing.{loses_stands}
 use Rattle.iscsi_outbox_law.proofs.invariants.SoundRuns.{follows_sound}

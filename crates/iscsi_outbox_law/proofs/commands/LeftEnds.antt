@@ -12,9 +12,9 @@ use Rattle.iscsi_outbox_state.specs.Lane.{is_command, owes, still_owes, with_lef
 use Rattle.iscsi_outbox_steps.specs.Steps.{is_live}
 use Rattle.iscsi_tracked.specs.declared.command.Command.{Command}
 use Rattle.iscsi_tracked.specs.Tracked.{Tracked, find_place, is_at, with_command}
-use Rattle.iscsi_outbox_law.specs.Pairs.{EachOf}
-use Rattle.iscsi_outbox_law.specs.Commands.{ArePlaced}
-use Rattle.iscsi_outbox_law.specs.Lanes.{AreAnswers, AreLeft, IsInScope, is_aimed_at, is_gone, left_at, left_of}
+use Rattle.iscsi_outbox_law.specs.private.Pairs.{EachOf}
+use Rattle.iscsi_outbox_law.specs.private.Commands.{ArePlaced}
+use Rattle.iscsi_outbox_law.specs.private.Lanes.{AreAnswers, AreLeft, IsInScope, is_aimed_at, is_gone, left_at, left_of}
 use Rattle.iscsi_outbox_law.proofs.general.Members.{In, find_in}
 use Rattle.iscsi_outbox_law.proofs.commands.LeftOut.{found_there}
 use Rattle.iscsi_outbox_law.proofs.commands.TrackedLemmas.{KeepsPlace, at_place, each_map_in, same_place, same_ticket}

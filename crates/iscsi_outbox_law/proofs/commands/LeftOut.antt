@@ -15,11 +15,11 @@ use Rattle.iscsi_tracked.specs.declared.command.Command.{Command}
 use Rattle.iscsi_tracked.specs.Tracked.{Tracked, find_place, is_at, is_out}
 use Rattle.iscsi_outbox_steps.specs.State.{State}
 use Rattle.iscsi_outbox_steps.specs.Steps.{is_live}
-use Rattle.iscsi_outbox_law.specs.Pairs.{EachOf}
-use Rattle.iscsi_outbox_law.specs.Commands.{ArePlaced, IsCommand, IsOut, is_kept, is_under_way, link_in}
-use Rattle.iscsi_outbox_law.specs.Lanes.{AreLeft, left_at, left_of}
-use Rattle.iscsi_outbox_law.specs.Sound.{HasHome, HaveHomes}
-use Rattle.iscsi_outbox_law.specs.Stands.{Stands}
+use Rattle.iscsi_outbox_law.specs.private.Pairs.{EachOf}
+use Rattle.iscsi_outbox_law.specs.private.Commands.{ArePlaced, IsCommand, IsOut, is_kept, is_under_way, link_in}
+use Rattle.iscsi_outbox_law.specs.private.Lanes.{AreLeft, left_at, left_of}
+use Rattle.iscsi_outbox_law.specs.private.Sound.{HasHome, HaveHomes}
+use Rattle.iscsi_outbox_law.specs.private.Stands.{Stands}
 use Rattle.iscsi_outbox_law.proofs.general.PairLemmas.{each-at}
 use Rattle.iscsi_outbox_law.proofs.general.Members.{In, any_found, any_from, any_more, filter_in, find_in, in_filter, in_find, index_any, order-weaken, pair_for, pair_of, same_tests}
 use Rattle.iscsi_outbox_law.proofs.general.PlaceLemmas.{AreApart, IsPlace, conns_of, one_place, place_found}

@@ -15,8 +15,8 @@ use Rattle.iscsi_outbox_state.specs.Lane.{aims_at, is_command, is_left, owes, st
 use Rattle.iscsi_outbox_steps.specs.Steps.{is_live}
 use Rattle.iscsi_tracked.specs.declared.command.Command.{Command}
 use Rattle.iscsi_tracked.specs.Tracked.{Tracked, find_place, is_at}
-use Rattle.iscsi_outbox_law.specs.Pairs.{EachOf}
-use Rattle.iscsi_outbox_law.specs.Lanes.{AreAnswers, AreLeft, IsInScope, is_aimed_at, left_at, left_of}
+use Rattle.iscsi_outbox_law.specs.private.Pairs.{EachOf}
+use Rattle.iscsi_outbox_law.specs.private.Lanes.{AreAnswers, AreLeft, IsInScope, is_aimed_at, left_at, left_of}
 use Rattle.iscsi_outbox_law.proofs.general.Members.{In, filter_in, find_in}
 
 -- what changes of a command that left is what it owes

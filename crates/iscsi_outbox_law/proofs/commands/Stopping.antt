@@ -14,10 +14,10 @@ use Rattle.iscsi_tracked.specs.declared.command.Command.{Command}
 use Rattle.iscsi_tracked.specs.declared.command.Phase.{Phase as KeptPhase}
 use Rattle.iscsi_tracked.specs.declared.command.Phase.TheVariants.{Dormant as KeptDormant, Fresh as KeptFresh, Started as KeptStarted, Running as KeptRunning, Gone as KeptGone}
 use Rattle.iscsi_tracked.specs.Tracked.{is_out}
-use Rattle.iscsi_outbox_law.specs.Pairs.{PairsOf}
-use Rattle.iscsi_outbox_law.specs.Commands.{IsCommand, is_kept, link_in}
-use Rattle.iscsi_outbox_law.specs.Lanes.{left_of}
-use Rattle.iscsi_outbox_law.specs.Stands.{StandsWith}
+use Rattle.iscsi_outbox_law.specs.private.Pairs.{PairsOf}
+use Rattle.iscsi_outbox_law.specs.private.Commands.{IsCommand, is_kept, link_in}
+use Rattle.iscsi_outbox_law.specs.private.Lanes.{left_of}
+use Rattle.iscsi_outbox_law.specs.private.Stands.{StandsWith}
 use Rattle.iscsi_outbox_law.proofs.general.Members.{In, in_filter, pair_of}
 use Rattle.iscsi_outbox_law.proofs.queues.Waiting.{live_as}
 use Rattle.iscsi_outbox_law.proofs.commands.LeftOut.{out_under}

@@ -16,10 +16,10 @@ use Rattle.iscsi_outbox_steps.specs.Steps.{is_running, is_running_ticket, settle
 use Rattle.iscsi_tracked.specs.declared.command.Command.{Command}
 use Rattle.iscsi_tracked.specs.declared.command.Phase.TheVariants.{Gone as Left}
 use Rattle.iscsi_tracked.specs.Tracked.{find_ticket, in_phase, is_out, removed}
-use Rattle.iscsi_outbox_law.specs.Pairs.{EachOf}
-use Rattle.iscsi_outbox_law.specs.Commands.{IsCommand, is_kept, is_under_way}
-use Rattle.iscsi_outbox_law.specs.Sound.{HasHome, IsSound}
-use Rattle.iscsi_outbox_law.specs.Stands.{Stands}
+use Rattle.iscsi_outbox_law.specs.private.Pairs.{EachOf}
+use Rattle.iscsi_outbox_law.specs.private.Commands.{IsCommand, is_kept, is_under_way}
+use Rattle.iscsi_outbox_law.specs.private.Sound.{HasHome, IsSound}
+use Rattle.iscsi_outbox_law.specs.private.Stands.{Stands}
 use Rattle.iscsi_outbox_law.proofs.general.PairLemmas.{each-weaken}
 use Rattle.iscsi_outbox_law.proofs.general.Members.{In, any_found, any_from, filter_in, find_in, in_filter, pair_for, pair_of, same_tests}
 use Rattle.iscsi_outbox_law.proofs.sending.NextStands.{found_ticket}

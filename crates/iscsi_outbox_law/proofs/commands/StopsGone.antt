@@ -14,12 +14,12 @@ use Rattle.iscsi_outbox_steps.specs.State.{State}
 use Rattle.iscsi_outbox_steps.specs.Steps.{is_live, is_running}
 use Rattle.iscsi_tracked.specs.declared.command.Command.{Command}
 use Rattle.iscsi_tracked.specs.Tracked.{Tracked, find_ticket, is_at, is_out, removed}
-use Rattle.iscsi_outbox_law.specs.Pairs.{PairsOf, InOrder}
-use Rattle.iscsi_outbox_law.specs.Links.{live_place}
-use Rattle.iscsi_outbox_law.specs.Commands.{AreCommands, IsCommand, is_kept, is_under_way}
-use Rattle.iscsi_outbox_law.specs.Lanes.{is_gone}
-use Rattle.iscsi_outbox_law.specs.Sound.{HaveHomes}
-use Rattle.iscsi_outbox_law.specs.Stands.{Stands}
+use Rattle.iscsi_outbox_law.specs.private.Pairs.{PairsOf, InOrder}
+use Rattle.iscsi_outbox_law.specs.private.Links.{live_place}
+use Rattle.iscsi_outbox_law.specs.private.Commands.{AreCommands, IsCommand, is_kept, is_under_way}
+use Rattle.iscsi_outbox_law.specs.private.Lanes.{is_gone}
+use Rattle.iscsi_outbox_law.specs.private.Sound.{HaveHomes}
+use Rattle.iscsi_outbox_law.specs.private.Stands.{Stands}
 use Rattle.iscsi_outbox_law.proofs.general.PairLemmas.{each-weaken}
 use Rattle.iscsi_outbox_law.proofs.general.Members.{In, any_from, each-in, find_in, in_filter, same_tests}
 use Rattle.iscsi_outbox_law.proofs.sending.HandedLemmas.{queues_weaken}

@@ -15,12 +15,12 @@ use Rattle.iscsi_tracked.specs.declared.command.Command.{Command}
 use Rattle.iscsi_tracked.specs.declared.command.Phase.{Phase as KeptPhase}
 use Rattle.iscsi_tracked.specs.declared.command.Phase.TheVariants.{Dormant as KeptDormant, Fresh as KeptFresh, Started as KeptStarted, Running as KeptRunning, Gone as KeptGone}
 use Rattle.iscsi_tracked.specs.Tracked.{Tracked, find_place, find_ticket, in_phase, is_at, is_out, to_phase, with_command}
-use Rattle.iscsi_outbox_law.specs.Pairs.{PairsOf}
-use Rattle.iscsi_outbox_law.specs.Links.{live_place}
-use Rattle.iscsi_outbox_law.specs.Commands.{AreCommands, IsCommand, is_kept, is_under_way, link_in, phase_of}
-use Rattle.iscsi_outbox_law.specs.Lanes.{is_gone, left_at}
-use Rattle.iscsi_outbox_law.specs.Sound.{HaveHomes}
-use Rattle.iscsi_outbox_law.specs.Stands.{Stands}
+use Rattle.iscsi_outbox_law.specs.private.Pairs.{PairsOf}
+use Rattle.iscsi_outbox_law.specs.private.Links.{live_place}
+use Rattle.iscsi_outbox_law.specs.private.Commands.{AreCommands, IsCommand, is_kept, is_under_way, link_in, phase_of}
+use Rattle.iscsi_outbox_law.specs.private.Lanes.{is_gone, left_at}
+use Rattle.iscsi_outbox_law.specs.private.Sound.{HaveHomes}
+use Rattle.iscsi_outbox_law.specs.private.Stands.{Stands}
 use Rattle.iscsi_outbox_law.proofs.general.Members.{In, find_in, in_filter, pair_of}
 use Rattle.iscsi_outbox_law.proofs.commands.Homes.{one_task}
 use Rattle.iscsi_outbox_law.proofs.commands.LeftOut.{found_there, out_under}

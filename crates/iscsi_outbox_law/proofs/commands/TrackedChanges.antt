@@ -13,8 +13,8 @@ use Rattle.iscsi_arrivals.specs.declared.stamp.Stamp.{Stamp}
 use Rattle.iscsi_tracked.specs.declared.command.Command.{Command}
 use Rattle.iscsi_tracked.specs.declared.command.Phase.{Phase}
 use Rattle.iscsi_tracked.specs.Tracked.{Tracked, arrived, conn_at, find_place, handed_out, has_place, in_phase, is_at, is_out, to_phase, trail_at, with_command, with_out}
-use Rattle.iscsi_outbox_law.specs.Pairs.{InOrder}
-use Rattle.iscsi_outbox_law.specs.Commands.{ArePlaced, AreTrails, IsTrailed, out_place}
+use Rattle.iscsi_outbox_law.specs.private.Pairs.{InOrder}
+use Rattle.iscsi_outbox_law.specs.private.Commands.{ArePlaced, AreTrails, IsTrailed, out_place}
 use Rattle.iscsi_outbox_law.proofs.general.PairLemmas.{each-at, each-map, each-set, each-weaken}
 use Rattle.iscsi_outbox_law.proofs.general.Members.{In, any_from, any_found, each-in, order-weaken}
 use Rattle.iscsi_outbox_law.proofs.commands.LeftOut.{found_there}

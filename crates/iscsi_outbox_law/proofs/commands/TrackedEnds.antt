@@ -10,8 +10,8 @@ use Rattle.iscsi_lists.proofs.SequenceLemmas.{nth_map}
 use Rattle.iscsi_lists.proofs.WithoutLemmas.{times_in_other, times_in_without, times_other, times_same, times_without_other}
 use Rattle.iscsi_tracked.specs.declared.command.Command.{Command}
 use Rattle.iscsi_tracked.specs.Tracked.{Tracked, has_place, is_at, removed, trail_at}
-use Rattle.iscsi_outbox_law.specs.Pairs.{EachOf, InOrder}
-use Rattle.iscsi_outbox_law.specs.Commands.{ArePlaced, AreTrails, IsTrailed, out_place}
+use Rattle.iscsi_outbox_law.specs.private.Pairs.{EachOf, InOrder}
+use Rattle.iscsi_outbox_law.specs.private.Commands.{ArePlaced, AreTrails, IsTrailed, out_place}
 use Rattle.iscsi_outbox_law.proofs.general.PairLemmas.{each-filter, each-weaken}
 use Rattle.iscsi_outbox_law.proofs.commands.TrackedLemmas.{onward_without, out_of}
 

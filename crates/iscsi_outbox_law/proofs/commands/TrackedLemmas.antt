@@ -9,8 +9,8 @@ use Rattle.iscsi_lists.proofs.WithoutLemmas.{times_same}
 use Rattle.iscsi_arrivals.specs.declared.stamp.Stamp.{Stamp}
 use Rattle.iscsi_tracked.specs.declared.command.Command.{Command}
 use Rattle.iscsi_tracked.specs.Tracked.{Tracked, is_at, with_command}
-use Rattle.iscsi_outbox_law.specs.Pairs.{EachOf, InOrder}
-use Rattle.iscsi_outbox_law.specs.Commands.{ArePlaced}
+use Rattle.iscsi_outbox_law.specs.private.Pairs.{EachOf, InOrder}
+use Rattle.iscsi_outbox_law.specs.private.Commands.{ArePlaced}
 use Rattle.iscsi_outbox_law.proofs.general.PairLemmas.{each-append, each-map}
 use Rattle.iscsi_outbox_law.proofs.general.Members.{In, find_in}
 

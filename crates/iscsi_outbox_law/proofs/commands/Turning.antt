@@ -15,11 +15,11 @@ use Rattle.iscsi_outbox_steps.specs.Steps.{in_phase_if, is_live}
 use Rattle.iscsi_tracked.specs.declared.command.Command.{Command}
 use Rattle.iscsi_tracked.specs.declared.command.Phase.{Phase as KeptPhase}
 use Rattle.iscsi_tracked.specs.Tracked.{Tracked, find_place, find_ticket, in_phase, is_at, to_phase}
-use Rattle.iscsi_outbox_law.specs.Pairs.{PairsOf, EachOf}
-use Rattle.iscsi_outbox_law.specs.Links.{live_place}
-use Rattle.iscsi_outbox_law.specs.Commands.{AreCommands, ArePlaced, AreTrails, IsCommand, is_kept, phase_of}
-use Rattle.iscsi_outbox_law.specs.Lanes.{AreLeft, IsInScope, is_aimed_at, is_gone, left_at, left_of}
-use Rattle.iscsi_outbox_law.specs.Stands.{StandsWith}
+use Rattle.iscsi_outbox_law.specs.private.Pairs.{PairsOf, EachOf}
+use Rattle.iscsi_outbox_law.specs.private.Links.{live_place}
+use Rattle.iscsi_outbox_law.specs.private.Commands.{AreCommands, ArePlaced, AreTrails, IsCommand, is_kept, phase_of}
+use Rattle.iscsi_outbox_law.specs.private.Lanes.{AreLeft, IsInScope, is_aimed_at, is_gone, left_at, left_of}
+use Rattle.iscsi_outbox_law.specs.private.Stands.{StandsWith}
 use Rattle.iscsi_outbox_law.proofs.general.PairLemmas.{each-map}
 use Rattle.iscsi_outbox_law.proofs.general.Members.{In, find_in, same_tests}
 use Rattle.iscsi_outbox_law.proofs.commands.LeftOut.{found_there}

@@ -23,8 +23,8 @@ use Rattle.iscsi_outbox_rules.proofs.commands.TaskLives.{entered_tasks, item_tas
 use Rattle.iscsi_outbox_steps.specs.State.{State}
 use Rattle.iscsi_outbox_steps.specs.Run.{after_call}
 use Rattle.iscsi_outbox_steps.specs.Steps.{after_item, after_items, close, closed_in, enable, enter_commands, is_numbered, leave, newly_closed, send}
-use Rattle.iscsi_outbox_law.specs.Pairs.{EachOf}
-use Rattle.iscsi_outbox_law.specs.Sound.{IsItemSound, entries_of}
+use Rattle.iscsi_outbox_law.specs.private.Pairs.{EachOf}
+use Rattle.iscsi_outbox_law.specs.private.Sound.{IsItemSound, entries_of}
 use Rattle.iscsi_outbox_law.proofs.invariants.SoundRuns.{SoundCall, SoundItems}
 use Rattle.iscsi_outbox_law.proofs.invariants.SoundTurns.{phased}
 use Rattle.iscsi_outbox_law.proofs.commands.TurningLast.{cleared_last, close_last, each_entered, enable_last, heard_last, joined_last, last_of, leave_last, lost_last, next_last, put_last, send_last, settle_last, stopped_last, tell_last, written_last}

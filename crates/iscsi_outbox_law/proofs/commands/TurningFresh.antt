@@ -13,7 +13,7 @@ use Rattle.iscsi_outbox_rules.specs.rules.Boxes.{Phase, Dormant, Fresh, Started,
 use Rattle.iscsi_outbox_rules.specs.rules.Words.{contains}
 use Rattle.iscsi_outbox_rules.specs.rules.Items.{after_item, after_items, executing, phase_completed, phase_enabled, phase_taken_out, task_entered, ticket_enabled, tickets_left}
 use Rattle.iscsi_outbox_rules.proofs.commands.TaskLives.{entered_tasks, item_tasks, left_tasks}
-use Rattle.iscsi_outbox_law.specs.Sound.{NoneIsFresh, is_fresh_phase}
+use Rattle.iscsi_outbox_law.specs.private.Sound.{NoneIsFresh, is_fresh_phase}
 use Rattle.iscsi_outbox_law.proofs.general.PairLemmas.{each-append, each-map, each-weaken}
 use Rattle.iscsi_outbox_law.proofs.invariants.SoundTurns.{phased}
 use Rattle.iscsi_outbox_law.proofs.commands.TurningEach.{AreFreshOf}

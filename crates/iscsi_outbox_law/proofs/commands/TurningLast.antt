@@ -20,8 +20,8 @@ use Rattle.iscsi_tracked.specs.declared.command.Phase.TheVariants.{Dormant, Fres
 use Rattle.iscsi_tracked.specs.Tracked.{arrived as arrived_at, entered, find_ticket, handed_out, has_place, in_phase, is_out, next_place, removed}
 use Rattle.iscsi_outbox_steps.specs.State.{State, link_at, place_of, with_link}
 use Rattle.iscsi_outbox_steps.specs.Steps.{Out, Waited, Pinged, Noticed, after_out, aim_of, answer_item, arrived_command, await, chosen, cleared_of, close, close_each, close_itself, close_one, close_other, completed, enable, enter, enter_command, enter_each, enter_one, entering, heard, home_of, in_phase_if, is_dormant, is_fresh, is_of_unit, is_reset, is_running, is_started, joined, later, leave, leave_one, live_command, lost, lost_on, may_enter, next, next_arrived, of_command, of_fence, own_item, placed, put, put_refusal, reply_item, send, send_on, settle, settled, shows, stopped, stopped_command, taken_out, tell, trail, trailed, without, written}
-use Rattle.iscsi_outbox_law.specs.Pairs.{EachOf}
-use Rattle.iscsi_outbox_law.specs.Sound.{entries_of}
+use Rattle.iscsi_outbox_law.specs.private.Pairs.{EachOf}
+use Rattle.iscsi_outbox_law.specs.private.Sound.{entries_of}
 
 abbrev pub last_of : State → ℕ
 last_of s = s.tracked.last

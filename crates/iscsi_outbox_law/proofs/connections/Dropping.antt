@@ -12,8 +12,8 @@ use Rattle.iscsi_outbox_state.specs.declared.lane.Standing.TheVariants.{Left as 
 use Rattle.iscsi_outbox_state.specs.Lane.{goes_out_on, is_command, is_left}
 use Rattle.iscsi_outbox_steps.specs.Steps.{is_live}
 use Rattle.iscsi_tracked.specs.Tracked.{Tracked}
-use Rattle.iscsi_outbox_law.specs.Pairs.{EachOf}
-use Rattle.iscsi_outbox_law.specs.Lanes.{AreAnswers, AreLeft, IsAnswer, is_aimed_at}
+use Rattle.iscsi_outbox_law.specs.private.Pairs.{EachOf}
+use Rattle.iscsi_outbox_law.specs.private.Lanes.{AreAnswers, AreLeft, IsAnswer, is_aimed_at}
 
 -- what stays: all but the answers of this connection
 abbrev pub kept_items : ℕ → List Standing → List Standing

@@ -15,8 +15,8 @@ use Rattle.iscsi_outbox_rules.specs.rules.Handing.{fenced_handed}
 use Rattle.iscsi_outbox_rules.specs.rules.Run.{link_joined, may_join as may_join_box, new_link}
 use Rattle.iscsi_outbox_steps.specs.State.{State, link_at, place_of}
 use Rattle.iscsi_outbox_steps.specs.Steps.{joined, may_join}
-use Rattle.iscsi_outbox_law.specs.Commands.{is_under_way, link_in}
-use Rattle.iscsi_outbox_law.specs.Stands.{Stands}
+use Rattle.iscsi_outbox_law.specs.private.Commands.{is_under_way, link_in}
+use Rattle.iscsi_outbox_law.specs.private.Stands.{Stands}
 use Rattle.iscsi_outbox_law.proofs.general.PairLemmas.{any-set}
 use Rattle.iscsi_outbox_law.proofs.general.PlaceLemmas.{any_at, any_nowhere, at_place, IsPlace}
 use Rattle.iscsi_outbox_law.proofs.connections.LinkChanges.{Moves, stands_moved, stands_under}

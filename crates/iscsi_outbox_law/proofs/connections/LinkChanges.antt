@@ -17,11 +17,11 @@ use Rattle.iscsi_outbox_steps.specs.declared.sent.Sent.{Sent}
 use Rattle.iscsi_outbox_steps.specs.State.{State}
 use Rattle.iscsi_tracked.specs.declared.command.Command.{Command}
 use Rattle.iscsi_tracked.specs.Tracked.{Tracked}
-use Rattle.iscsi_outbox_law.specs.Pairs.{PairsOf}
-use Rattle.iscsi_outbox_law.specs.Links.{AreLinks, AreQueues, IsEntry, IsQueue}
-use Rattle.iscsi_outbox_law.specs.Commands.{AreCommands, IsCommand, IsLastOut, IsOut, link_in, of_ticket}
-use Rattle.iscsi_outbox_law.specs.Fences.{IsFence, IsLastFence}
-use Rattle.iscsi_outbox_law.specs.Stands.{StandsWith}
+use Rattle.iscsi_outbox_law.specs.private.Pairs.{PairsOf}
+use Rattle.iscsi_outbox_law.specs.private.Links.{AreLinks, AreQueues, IsEntry, IsQueue}
+use Rattle.iscsi_outbox_law.specs.private.Commands.{AreCommands, IsCommand, IsLastOut, IsOut, link_in, of_ticket}
+use Rattle.iscsi_outbox_law.specs.private.Fences.{IsFence, IsLastFence}
+use Rattle.iscsi_outbox_law.specs.private.Stands.{StandsWith}
 use Rattle.iscsi_outbox_law.proofs.general.PairLemmas.{pairs-weaken, pairs-set, pairs-at, each-at, each-set}
 use Rattle.iscsi_outbox_law.proofs.general.PlaceLemmas.{conns_of}
 

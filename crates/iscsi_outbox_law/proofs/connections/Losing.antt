@@ -16,11 +16,11 @@ use Rattle.iscsi_outbox_state.specs.declared.lane.Standing.TheVariants.{Left as 
 use Rattle.iscsi_outbox_steps.specs.State.{State, link_at, place_of}
 use Rattle.iscsi_outbox_steps.specs.Steps.{lost, lost_on, settle, trail}
 use Rattle.iscsi_tracked.specs.Tracked.{Tracked, trail_at}
-use Rattle.iscsi_outbox_law.specs.Pairs.{place_in}
-use Rattle.iscsi_outbox_law.specs.Commands.{is_under_way, link_in}
-use Rattle.iscsi_outbox_law.specs.Lanes.{AreAnswers, IsAnswer}
-use Rattle.iscsi_outbox_law.specs.Sound.{IsSound}
-use Rattle.iscsi_outbox_law.specs.Stands.{Stands, StandsWith}
+use Rattle.iscsi_outbox_law.specs.private.Pairs.{place_in}
+use Rattle.iscsi_outbox_law.specs.private.Commands.{is_under_way, link_in}
+use Rattle.iscsi_outbox_law.specs.private.Lanes.{AreAnswers, IsAnswer}
+use Rattle.iscsi_outbox_law.specs.private.Sound.{IsSound}
+use Rattle.iscsi_outbox_law.specs.private.Stands.{Stands, StandsWith}
 use Rattle.iscsi_outbox_law.proofs.general.PairLemmas.{each-filter}
 use Rattle.iscsi_outbox_law.proofs.general.Members.{same_tests}
 use Rattle.iscsi_outbox_law.proofs.general.PlaceLemmas.{AreApart, IsPlace, at_none, at_place, conns_of, one_place, place_found}

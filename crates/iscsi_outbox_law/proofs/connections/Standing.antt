@@ -8,8 +8,8 @@ use Rattle.iscsi_outbox_rules.specs.rules.Calls.{Opening}
 use Rattle.iscsi_outbox_rules.specs.rules.Boxes.{Box}
 use Rattle.iscsi_outbox_rules.specs.rules.Run.{new_link}
 use Rattle.iscsi_outbox_steps.specs.State.{State, Limits, link_at, place_of}
-use Rattle.iscsi_outbox_law.specs.Commands.{link_in}
-use Rattle.iscsi_outbox_law.specs.Stands.{StandsWith}
+use Rattle.iscsi_outbox_law.specs.private.Commands.{link_in}
+use Rattle.iscsi_outbox_law.specs.private.Stands.{StandsWith}
 use Rattle.iscsi_outbox_law.proofs.general.PairLemmas.{pairs-at, pairs-length}
 use Rattle.iscsi_outbox_law.proofs.general.PlaceLemmas.{AreApart, IsPlace, conns_of, distinct_apart, place_found, place_nowhere}
 

@@ -2,7 +2,7 @@
 use Rattle.std.proofs.Common.{◌≡◌, ℕ, zero, suc, ◌<◌, ◌⊎◌, inl, inr, ⊎_elim, cond, Bool, true, false, List, [], ◌∷◌, length, filter, get_or, Some, refl, ap, sym, subst, ◌∙◌, arith}
 use Rattle.std.specs.List.{find, list_any}
 use Rattle.std.proofs.lemmas.Bool.{false≢true, or_cases, or_left, or_right}
-use Rattle.iscsi_outbox_law.specs.Pairs.{PairsOf, EachOf, InOrder}
+use Rattle.iscsi_outbox_law.specs.private.Pairs.{PairsOf, EachOf, InOrder}
 
 pub same_tests : (x y : Bool) → (x ≡ true → y ≡ true) → (y ≡ true → x ≡ true) → x ≡ y
 same_tests true y f g = sym (f refl)

@@ -3,7 +3,7 @@ use Rattle.std.proofs.Common.{◌≡◌, ℕ, zero, suc, ◌+◌, ◌<◌, ◌||
 use Rattle.std.specs.List.{list_any}
 use Rattle.std.proofs.lemmas.Bool.{cond_both}
 use Rattle.std.proofs.lemmas.List.Sums.{sum_by-cons}
-use Rattle.iscsi_outbox_law.specs.Pairs.{PairsOf, EachOf}
+use Rattle.iscsi_outbox_law.specs.private.Pairs.{PairsOf, EachOf}
 
 -- ---- each element
 

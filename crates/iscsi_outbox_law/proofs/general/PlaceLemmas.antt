@@ -9,8 +9,8 @@ use Rattle.iscsi_rules.specs.rules.Trace.{first_of}
 use Rattle.iscsi_outbox_rules.specs.rules.Boxes.{Link}
 use Rattle.iscsi_outbox_rules.specs.rules.Queues.{at_link}
 use Rattle.iscsi_outbox_rules.specs.rules.Run.{new_link}
-use Rattle.iscsi_outbox_law.specs.Pairs.{place_in}
-use Rattle.iscsi_outbox_law.specs.Commands.{link_in}
+use Rattle.iscsi_outbox_law.specs.private.Pairs.{place_in}
+use Rattle.iscsi_outbox_law.specs.private.Commands.{link_in}
 
 abbrev pub conns_of : List Link → List ℕ
 conns_of links = map (λ (l : Link). l.conn) links

@@ -21,8 +21,8 @@ use Rattle.iscsi_outbox_rules.specs.rules.Run.{after_call, opened, new_link, pha
 use Rattle.iscsi_outbox_rules.proofs.general.Chosen.{FromQueue, IsPing, IsNotice, Chosen, chosen_from}
 use Rattle.iscsi_outbox_rules.proofs.general.Cuts.{Hand, Idle, next}
 use Rattle.iscsi_outbox_rules.proofs.room.RoomTasks.{settled_tasks}
-use Rattle.iscsi_outbox_law.specs.Pairs.{EachOf}
-use Rattle.iscsi_outbox_law.specs.Sound.{HasHome, NoneIsFresh, is_fresh_phase}
+use Rattle.iscsi_outbox_law.specs.private.Pairs.{EachOf}
+use Rattle.iscsi_outbox_law.specs.private.Sound.{HasHome, NoneIsFresh, is_fresh_phase}
 use Rattle.iscsi_outbox_law.proofs.general.PairLemmas.{each-map, each-new}
 use Rattle.iscsi_outbox_law.proofs.general.Members.{In, any_from, each-in, in_filter}
 use Rattle.iscsi_outbox_law.proofs.general.PlaceLemmas.{AreApart, conns_of, distinct_apart}

@@ -10,8 +10,8 @@ use Rattle.iscsi_outbox_rules.specs.rules.Words.{contains, is_left_phase, is_of,
 use Rattle.iscsi_outbox_rules.specs.rules.Due.{settle}
 use Rattle.iscsi_outbox_rules.specs.rules.Own.{is_own}
 use Rattle.iscsi_outbox_rules.specs.rules.Queues.{at_link, takes_more, without}
-use Rattle.iscsi_outbox_law.specs.Pairs.{EachOf, InOrder}
-use Rattle.iscsi_outbox_law.specs.Sound.{HasHome, IsAlive, IsFenceFit, IsLinkSound, IsAnswerSound, IsSound}
+use Rattle.iscsi_outbox_law.specs.private.Pairs.{EachOf, InOrder}
+use Rattle.iscsi_outbox_law.specs.private.Sound.{HasHome, IsAlive, IsFenceFit, IsLinkSound, IsAnswerSound, IsSound}
 use Rattle.iscsi_outbox_law.proofs.general.PairLemmas.{each-map, each-weaken}
 use Rattle.iscsi_outbox_law.proofs.general.PlaceLemmas.{conns_of}
 use Rattle.iscsi_outbox_law.proofs.invariants.SoundLists.{any_mapped, each_passing}

@@ -24,7 +24,7 @@ use Rattle.iscsi_outbox_rules.specs.rules.Words.{contains, is_live_phase}
 use Rattle.iscsi_outbox_rules.specs.rules.Items.{executing}
 use Rattle.iscsi_outbox_rules.proofs.room.RoomLives.{tickets_of, none_counted}
 use Rattle.iscsi_outbox_rules.proofs.room.RoomTasks.{live_tickets}
-use Rattle.iscsi_outbox_law.specs.Sound.{entry_of, conn_closed, is_close}
+use Rattle.iscsi_outbox_law.specs.private.Sound.{entry_of, conn_closed, is_close}
 use Rattle.iscsi_outbox_law.proofs.general.Members.{any_found, any_from, in_filter}
 use Rattle.iscsi_outbox_law.proofs.invariants.SoundFirm.{has_home}
 use Rattle.iscsi_outbox_law.proofs.invariants.SoundLists.{any_unmapped}

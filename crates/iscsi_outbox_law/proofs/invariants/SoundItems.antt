@@ -29,8 +29,8 @@ use Rattle.iscsi_outbox_rules.proofs.closes.ClosedItems.{send_of, sent_item}
 use Rattle.iscsi_outbox_rules.proofs.room.RoomLives.{tickets_of, entered_form, left_marks, live_tickets_item}
 use Rattle.iscsi_outbox_rules.proofs.room.RoomTasks.{live_after_item, ticket_entered, tickets_entered}
 use Rattle.iscsi_outbox_rules.proofs.commands.TaskLives.{item_tasks, entered_tasks, left_tasks}
-use Rattle.iscsi_outbox_law.specs.Pairs.{EachOf, InOrder}
-use Rattle.iscsi_outbox_law.specs.Sound.{entries_of, entry_of, is_live_in, conn_closed, is_close, IsLogout, IsItemSound}
+use Rattle.iscsi_outbox_law.specs.private.Pairs.{EachOf, InOrder}
+use Rattle.iscsi_outbox_law.specs.private.Sound.{entries_of, entry_of, is_live_in, conn_closed, is_close, IsLogout, IsItemSound}
 use Rattle.iscsi_outbox_law.proofs.general.PairLemmas.{each-weaken}
 use Rattle.iscsi_outbox_law.proofs.general.Members.{any_from}
 use Rattle.iscsi_outbox_law.proofs.invariants.SoundCalls.{each_member}

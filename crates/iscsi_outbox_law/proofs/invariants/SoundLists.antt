@@ -2,7 +2,7 @@
 use Rattle.std.proofs.Common.{◌≡◌, ⊎_elim, cond, Bool, true, false, List, [], ◌∷◌, ◌++◌, map, filter, refl}
 use Rattle.std.specs.List.{list_any}
 use Rattle.std.proofs.lemmas.Bool.{or_cases, or_left, or_right}
-use Rattle.iscsi_outbox_law.specs.Pairs.{EachOf, InOrder}
+use Rattle.iscsi_outbox_law.specs.private.Pairs.{EachOf, InOrder}
 
 module _ {A B : Type 0} (p : A → Bool) (q : B → Bool) (g : A → B) where
   pub any_mapped : (xs : List A) → ((x : A) → p x ≡ true → q (g x) ≡ true) → list_any p xs ≡ true → list_any q (map g xs) ≡ true

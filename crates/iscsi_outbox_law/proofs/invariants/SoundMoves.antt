@@ -11,8 +11,8 @@ use Rattle.iscsi_outbox_rules.specs.rules.Queues.{at_link, takes_more, append, e
 use Rattle.iscsi_outbox_rules.specs.rules.Due.{is_due, settle_from, settle}
 use Rattle.iscsi_outbox_rules.specs.rules.Handing.{is_from_queue, taken_from, after_given}
 use Rattle.iscsi_outbox_rules.specs.rules.Run.{one_written, link_heard, link_joined, link_lost, cleared, waits_for_clear}
-use Rattle.iscsi_outbox_law.specs.Pairs.{EachOf, InOrder}
-use Rattle.iscsi_outbox_law.specs.Sound.{HasHome, IsAlive, IsFenceFit}
+use Rattle.iscsi_outbox_law.specs.private.Pairs.{EachOf, InOrder}
+use Rattle.iscsi_outbox_law.specs.private.Sound.{HasHome, IsAlive, IsFenceFit}
 use Rattle.iscsi_outbox_law.proofs.general.PairLemmas.{each-append, each-both, each-map, each-weaken}
 use Rattle.iscsi_outbox_law.proofs.commands.TrackedLemmas.{order_push}
 use Rattle.iscsi_outbox_law.proofs.invariants.SoundFirm.{has_home, left_in, own_queued, IsEntryFirm, IsLinkFirm, IsAnswerFirm, Firm, IsFirm, conns_map, still_taken, taken_elsewhere, at_conn, at_same, at_twice}

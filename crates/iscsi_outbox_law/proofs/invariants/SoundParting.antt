@@ -29,7 +29,7 @@ use Rattle.iscsi_rules.specs.promises.Replies.{executed_in}
 use Rattle.iscsi_rules.proofs.promises.AbortMarks.{none_mapped, none_viewed}
 use Rattle.iscsi_rules.proofs.items.DeedTable.{with_answers, through_deed, is_parting, refused_plainly}
 use Rattle.iscsi_outbox_rules.proofs.closes.ClosedItems.{send_of, some_pair}
-use Rattle.iscsi_outbox_law.specs.Pairs.{EachOf}
+use Rattle.iscsi_outbox_law.specs.private.Pairs.{EachOf}
 use Rattle.iscsi_outbox_law.proofs.general.PairLemmas.{each-append}
 
 abbrev pub closes_any : Mark → Bool

@@ -33,8 +33,8 @@ use Rattle.iscsi_outbox_rules.proofs.room.RoomSends.{Formed}
 use Rattle.iscsi_outbox_rules.proofs.room.RoomSends.{event_going as event_sends}
 use Rattle.iscsi_outbox_rules.proofs.room.RoomTasks.{live_tickets, live_same, same_told, settled_tasks, live_after_item}
 use Rattle.iscsi_outbox_rules.proofs.commands.TaskLives.{item_tasks}
-use Rattle.iscsi_outbox_law.specs.Pairs.{EachOf}
-use Rattle.iscsi_outbox_law.specs.Sound.{IsSound, IsItemSound, NoneIsFresh}
+use Rattle.iscsi_outbox_law.specs.private.Pairs.{EachOf}
+use Rattle.iscsi_outbox_law.specs.private.Sound.{IsSound, IsItemSound, NoneIsFresh}
 use Rattle.iscsi_outbox_law.proofs.invariants.SoundSettled.{stays_settled}
 use Rattle.iscsi_outbox_law.proofs.invariants.SoundFirm.{IsFirm, sound_of}
 use Rattle.iscsi_outbox_law.proofs.invariants.SoundCalls.{TakesNone, firm_call, firm_opened, firm_told, stale_call}

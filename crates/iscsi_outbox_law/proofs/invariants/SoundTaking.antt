@@ -13,8 +13,8 @@ use Rattle.iscsi_outbox_rules.specs.rules.Boxes.{Phase, Task, Aim, Answer, Link,
 use Rattle.iscsi_outbox_rules.specs.rules.Words.{contains, is_left_phase}
 use Rattle.iscsi_outbox_rules.specs.rules.Queues.{at_link, takes_more, drop_on}
 use Rattle.iscsi_outbox_rules.specs.rules.Items.{executing, tickets_left, ticket_enabled, reply_sent, closed_in, newly_closed, phase_taken_out, phase_completed, phase_enabled, in_phase, leave, task_entered, enter_tasks, close_one, close_all, close, outgoing, answer, send_as, aim, send, is_aimed_at, after_item}
-use Rattle.iscsi_outbox_law.specs.Pairs.{EachOf, InOrder}
-use Rattle.iscsi_outbox_law.specs.Sound.{entries_of, is_live_in}
+use Rattle.iscsi_outbox_law.specs.private.Pairs.{EachOf, InOrder}
+use Rattle.iscsi_outbox_law.specs.private.Sound.{entries_of, is_live_in}
 use Rattle.iscsi_outbox_law.proofs.general.PairLemmas.{each-append, each-map, each-weaken}
 use Rattle.iscsi_outbox_law.proofs.invariants.SoundFirm.{has_home, left_in, own_queued, IsLinkFirm, IsAnswerFirm, IsFirm, turned, dropped}
 use Rattle.iscsi_outbox_law.proofs.invariants.SoundMoves.{entered, firm_closed, firm_cut, firm_settled}

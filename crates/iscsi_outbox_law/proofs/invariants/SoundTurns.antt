@@ -13,8 +13,8 @@ use Rattle.iscsi_outbox_rules.specs.rules.Boxes.{Phase, Dormant, Fresh, Started,
 use Rattle.iscsi_outbox_rules.specs.rules.Words.{contains, is_left_phase, is_live_phase}
 use Rattle.iscsi_outbox_rules.specs.rules.Items.{phase_taken_out, phase_completed, phase_enabled, phase_told, task_entered}
 use Rattle.iscsi_outbox_rules.specs.rules.Run.{phase_stopped}
-use Rattle.iscsi_outbox_law.specs.Pairs.{EachOf, InOrder}
-use Rattle.iscsi_outbox_law.specs.Sound.{entries_of}
+use Rattle.iscsi_outbox_law.specs.private.Pairs.{EachOf, InOrder}
+use Rattle.iscsi_outbox_law.specs.private.Sound.{entries_of}
 use Rattle.iscsi_outbox_law.proofs.general.PairLemmas.{each-append, each-map, each-weaken}
 use Rattle.iscsi_outbox_law.proofs.general.Members.{In, any_found, each-in}
 use Rattle.iscsi_outbox_law.proofs.commands.TrackedLemmas.{order_map}

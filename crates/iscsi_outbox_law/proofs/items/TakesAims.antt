@@ -16,10 +16,10 @@ use Rattle.iscsi_outbox_state.specs.Lane.{aims_at}
 use Rattle.iscsi_outbox_steps.specs.State.{State, place_of}
 use Rattle.iscsi_outbox_steps.specs.Steps.{aim_of_logout}
 use Rattle.iscsi_tracked.specs.declared.command.Command.{Command}
-use Rattle.iscsi_outbox_law.specs.Commands.{is_under_way, link_in}
-use Rattle.iscsi_outbox_law.specs.Lanes.{left_of}
-use Rattle.iscsi_outbox_law.specs.Sound.{conn_closed}
-use Rattle.iscsi_outbox_law.specs.Stands.{Stands}
+use Rattle.iscsi_outbox_law.specs.private.Commands.{is_under_way, link_in}
+use Rattle.iscsi_outbox_law.specs.private.Lanes.{left_of}
+use Rattle.iscsi_outbox_law.specs.private.Sound.{conn_closed}
+use Rattle.iscsi_outbox_law.specs.private.Stands.{Stands}
 use Rattle.iscsi_outbox_law.proofs.general.PlaceLemmas.{AreApart, IsPlace, conns_of, none_here, one_place}
 use Rattle.iscsi_outbox_law.proofs.connections.Standing.{stands_there}
 

@@ -12,8 +12,8 @@ use Rattle.iscsi_outbox_rules.specs.rules.Words.{contains}
 use Rattle.iscsi_outbox_rules.specs.rules.Items.{closed_in as closed_in_box, conns_closed, newly_closed as newly_closed_box}
 use Rattle.iscsi_outbox_steps.specs.State.{State, link_at, place_of}
 use Rattle.iscsi_outbox_steps.specs.Steps.{as_list, closed_by, closed_in, counted_from, newly_closed}
-use Rattle.iscsi_outbox_law.specs.Commands.{is_under_way, link_in}
-use Rattle.iscsi_outbox_law.specs.Stands.{Stands}
+use Rattle.iscsi_outbox_law.specs.private.Commands.{is_under_way, link_in}
+use Rattle.iscsi_outbox_law.specs.private.Stands.{Stands}
 use Rattle.iscsi_outbox_law.proofs.general.PlaceLemmas.{AreApart, IsPlace, any_at, any_nowhere, conns_of, none_here, one_place}
 use Rattle.iscsi_outbox_law.proofs.connections.Standing.{as_many, counts_at, stands_nowhere, stands_there}
 

@@ -15,10 +15,10 @@ use Rattle.iscsi_outbox_state.specs.declared.lane.Standing.TheVariants.{Left as 
 use Rattle.iscsi_outbox_steps.specs.State.{State, link_at}
 use Rattle.iscsi_outbox_steps.specs.Steps.{close_each, close_itself, close_one, close_other}
 use Rattle.iscsi_tracked.specs.Tracked.{Tracked}
-use Rattle.iscsi_outbox_law.specs.Pairs.{place_in}
-use Rattle.iscsi_outbox_law.specs.Commands.{is_under_way, link_in}
-use Rattle.iscsi_outbox_law.specs.Lanes.{AreAnswers, IsAnswer}
-use Rattle.iscsi_outbox_law.specs.Stands.{Stands}
+use Rattle.iscsi_outbox_law.specs.private.Pairs.{place_in}
+use Rattle.iscsi_outbox_law.specs.private.Commands.{is_under_way, link_in}
+use Rattle.iscsi_outbox_law.specs.private.Lanes.{AreAnswers, IsAnswer}
+use Rattle.iscsi_outbox_law.specs.private.Stands.{Stands}
 use Rattle.iscsi_outbox_law.proofs.general.PairLemmas.{any-set}
 use Rattle.iscsi_outbox_law.proofs.general.PlaceLemmas.{AreApart, IsPlace, at_none, at_place, conns_of, one_place, place_found, place_nowhere}
 use Rattle.iscsi_outbox_law.proofs.connections.Standing.{counts_at, links_apart}

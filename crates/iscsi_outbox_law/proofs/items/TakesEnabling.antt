@@ -13,11 +13,11 @@ use Rattle.iscsi_tracked.specs.declared.command.Command.{Command}
 use Rattle.iscsi_tracked.specs.declared.command.Phase.{Phase as KeptPhase}
 use Rattle.iscsi_tracked.specs.declared.command.Phase.TheVariants.{Dormant, Fresh, Started, Running, Gone}
 use Rattle.iscsi_tracked.specs.Tracked.{Tracked, find_ticket, in_phase, is_at, to_phase, with_command}
-use Rattle.iscsi_outbox_law.specs.Pairs.{InOrder}
-use Rattle.iscsi_outbox_law.specs.Links.{live_place}
-use Rattle.iscsi_outbox_law.specs.Commands.{IsCommand, is_kept, is_under_way, phase_of}
-use Rattle.iscsi_outbox_law.specs.Lanes.{is_gone, left_at, left_of}
-use Rattle.iscsi_outbox_law.specs.Stands.{Stands}
+use Rattle.iscsi_outbox_law.specs.private.Pairs.{InOrder}
+use Rattle.iscsi_outbox_law.specs.private.Links.{live_place}
+use Rattle.iscsi_outbox_law.specs.private.Commands.{IsCommand, is_kept, is_under_way, phase_of}
+use Rattle.iscsi_outbox_law.specs.private.Lanes.{is_gone, left_at, left_of}
+use Rattle.iscsi_outbox_law.specs.private.Stands.{Stands}
 use Rattle.iscsi_outbox_law.proofs.general.Members.{In, filter_in, pair_for}
 use Rattle.iscsi_outbox_law.proofs.sending.NextStands.{found_ticket, live_kept}
 use Rattle.iscsi_outbox_law.proofs.sending.HandedLemmas.{queues_weaken}

@@ -19,12 +19,12 @@ use Rattle.iscsi_outbox_steps.specs.Steps.{is_live}
 use Rattle.iscsi_tracked.specs.declared.command.Command.{Command}
 use Rattle.iscsi_tracked.specs.declared.command.Entering.{Entering}
 use Rattle.iscsi_tracked.specs.Tracked.{Tracked, as_command, entered, find_place, has_place, is_at, next_place}
-use Rattle.iscsi_outbox_law.specs.Pairs.{EachOf, InOrder, PairsOf, place_in}
-use Rattle.iscsi_outbox_law.specs.Links.{AreQueues, IsEntry, IsQueue, live_place, place_of_command}
-use Rattle.iscsi_outbox_law.specs.Commands.{AreCommands, ArePlaced, AreTrails, IsCommand, IsTrailed, is_kept, is_under_way, out_place}
-use Rattle.iscsi_outbox_law.specs.Lanes.{AreLeft, IsInScope, is_gone, left_at}
-use Rattle.iscsi_outbox_law.specs.Sound.{HasHome}
-use Rattle.iscsi_outbox_law.specs.Stands.{Stands}
+use Rattle.iscsi_outbox_law.specs.private.Pairs.{EachOf, InOrder, PairsOf, place_in}
+use Rattle.iscsi_outbox_law.specs.private.Links.{AreQueues, IsEntry, IsQueue, live_place, place_of_command}
+use Rattle.iscsi_outbox_law.specs.private.Commands.{AreCommands, ArePlaced, AreTrails, IsCommand, IsTrailed, is_kept, is_under_way, out_place}
+use Rattle.iscsi_outbox_law.specs.private.Lanes.{AreLeft, IsInScope, is_gone, left_at}
+use Rattle.iscsi_outbox_law.specs.private.Sound.{HasHome}
+use Rattle.iscsi_outbox_law.specs.private.Stands.{Stands}
 use Rattle.iscsi_outbox_law.proofs.general.PairLemmas.{each-append, each-weaken, pairs-append}
 use Rattle.iscsi_outbox_law.proofs.general.Members.{In, any_found, any_from, each-in, order-weaken}
 use Rattle.iscsi_outbox_law.proofs.commands.Homes.{none_under}

@@ -16,10 +16,10 @@ use Rattle.iscsi_outbox_rules.specs.rules.Items.{task_entered}
 use Rattle.iscsi_outbox_steps.specs.State.{State, Limits, place_of}
 use Rattle.iscsi_outbox_steps.specs.Steps.{enter_command, enter_each, entering, may_enter}
 use Rattle.iscsi_tracked.specs.Tracked.{as_command, entered, next_place}
-use Rattle.iscsi_outbox_law.specs.Pairs.{EachOf, InOrder}
-use Rattle.iscsi_outbox_law.specs.Commands.{is_under_way}
-use Rattle.iscsi_outbox_law.specs.Sound.{HasHome, entries_of}
-use Rattle.iscsi_outbox_law.specs.Stands.{Stands}
+use Rattle.iscsi_outbox_law.specs.private.Pairs.{EachOf, InOrder}
+use Rattle.iscsi_outbox_law.specs.private.Commands.{is_under_way}
+use Rattle.iscsi_outbox_law.specs.private.Sound.{HasHome, entries_of}
+use Rattle.iscsi_outbox_law.specs.private.Stands.{Stands}
 use Rattle.iscsi_outbox_law.proofs.general.PairLemmas.{each-append, each-both, each-weaken}
 use Rattle.iscsi_outbox_law.proofs.general.PlaceLemmas.{IsPlace}
 use Rattle.iscsi_outbox_law.proofs.connections.Standing.{cids_are, stands_nowhere, stands_there}

@@ -16,11 +16,11 @@ use Rattle.iscsi_outbox_steps.specs.State.{State}
 use Rattle.iscsi_outbox_steps.specs.Steps.{is_live, is_numbered}
 use Rattle.iscsi_tracked.specs.declared.command.Command.{Command}
 use Rattle.iscsi_tracked.specs.Tracked.{find_ticket}
-use Rattle.iscsi_outbox_law.specs.Pairs.{EachOf, InOrder}
-use Rattle.iscsi_outbox_law.specs.Links.{place_of_command}
-use Rattle.iscsi_outbox_law.specs.Commands.{IsCommand, is_kept, is_under_way}
-use Rattle.iscsi_outbox_law.specs.Sound.{HasHome, IsItemSound, is_close, is_live_in}
-use Rattle.iscsi_outbox_law.specs.Stands.{Stands}
+use Rattle.iscsi_outbox_law.specs.private.Pairs.{EachOf, InOrder}
+use Rattle.iscsi_outbox_law.specs.private.Links.{place_of_command}
+use Rattle.iscsi_outbox_law.specs.private.Commands.{IsCommand, is_kept, is_under_way}
+use Rattle.iscsi_outbox_law.specs.private.Sound.{HasHome, IsItemSound, is_close, is_live_in}
+use Rattle.iscsi_outbox_law.specs.private.Stands.{Stands}
 use Rattle.iscsi_outbox_law.proofs.general.PairLemmas.{each-filter, each-map, each-weaken}
 use Rattle.iscsi_outbox_law.proofs.general.Members.{In, any_found, any_from, each-in, find_in, in_filter, pair_of, same_tests}
 use Rattle.iscsi_outbox_law.proofs.commands.Homes.{one_task}

@@ -14,9 +14,9 @@ use Rattle.iscsi_outbox_rules.specs.rules.Items.{after_item as after_item_box, a
 use Rattle.iscsi_outbox_rules.specs.promises.Room.{Fits, places as places_of, tasks_kept}
 use Rattle.iscsi_outbox_steps.specs.State.{State}
 use Rattle.iscsi_outbox_steps.specs.Steps.{after_item, close, closed_in, counted, enable, enter_commands, is_numbered, later, leave, newly_closed, placed, send, send_on}
-use Rattle.iscsi_outbox_law.specs.Pairs.{EachOf}
-use Rattle.iscsi_outbox_law.specs.Sound.{IsItemSound, IsSound, entries_of}
-use Rattle.iscsi_outbox_law.specs.Stands.{Stands}
+use Rattle.iscsi_outbox_law.specs.private.Pairs.{EachOf}
+use Rattle.iscsi_outbox_law.specs.private.Sound.{IsItemSound, IsSound, entries_of}
+use Rattle.iscsi_outbox_law.specs.private.Stands.{Stands}
 use Rattle.iscsi_outbox_law.proofs.queues.Settling.{all_replies, settle_stands, settle_time}
 use Rattle.iscsi_outbox_law.proofs.items.TakesEnabling.{enable_stands}
 use Rattle.iscsi_outbox_law.proofs.items.TakesEnters.{place_known}

@@ -15,10 +15,10 @@ use Rattle.iscsi_outbox_rules.specs.rules.Due.{settle}
 use Rattle.iscsi_outbox_rules.specs.rules.Items.{aim as aim_box, answer, close, close_all, close_one, in_phase, outgoing, phase_enabled, send, send_as, task_entered}
 use Rattle.iscsi_outbox_rules.specs.promises.Room.{tasks_kept}
 use Rattle.iscsi_outbox_steps.specs.State.{State}
-use Rattle.iscsi_outbox_law.specs.Pairs.{EachOf, InOrder}
-use Rattle.iscsi_outbox_law.specs.Commands.{IsCommand, is_kept, is_under_way}
-use Rattle.iscsi_outbox_law.specs.Sound.{entries_of}
-use Rattle.iscsi_outbox_law.specs.Stands.{Stands}
+use Rattle.iscsi_outbox_law.specs.private.Pairs.{EachOf, InOrder}
+use Rattle.iscsi_outbox_law.specs.private.Commands.{IsCommand, is_kept, is_under_way}
+use Rattle.iscsi_outbox_law.specs.private.Sound.{entries_of}
+use Rattle.iscsi_outbox_law.specs.private.Stands.{Stands}
 use Rattle.iscsi_outbox_law.proofs.general.PairLemmas.{each-append, pairs-length}
 use Rattle.iscsi_outbox_law.proofs.commands.TrackedLemmas.{any_map}
 use Rattle.iscsi_outbox_law.proofs.commands.Lessening.{count_filter}

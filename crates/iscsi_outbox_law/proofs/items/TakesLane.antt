@@ -15,9 +15,9 @@ use Rattle.iscsi_outbox_state.specs.Lane.{aims_at, is_command, is_left}
 use Rattle.iscsi_outbox_steps.specs.Steps.{is_live}
 use Rattle.iscsi_tracked.specs.declared.command.Command.{Command}
 use Rattle.iscsi_tracked.specs.Tracked.{Tracked, find_place, is_at, with_command}
-use Rattle.iscsi_outbox_law.specs.Pairs.{EachOf}
-use Rattle.iscsi_outbox_law.specs.Commands.{ArePlaced}
-use Rattle.iscsi_outbox_law.specs.Lanes.{AreAnswers, AreLeft, IsAnswer, IsInScope, is_aimed_at, is_gone, left_at, left_of}
+use Rattle.iscsi_outbox_law.specs.private.Pairs.{EachOf}
+use Rattle.iscsi_outbox_law.specs.private.Commands.{ArePlaced}
+use Rattle.iscsi_outbox_law.specs.private.Lanes.{AreAnswers, AreLeft, IsAnswer, IsInScope, is_aimed_at, is_gone, left_at, left_of}
 use Rattle.iscsi_outbox_law.proofs.general.PairLemmas.{each-append, each-filter}
 use Rattle.iscsi_outbox_law.proofs.general.Members.{In}
 use Rattle.iscsi_outbox_law.proofs.commands.LeftOut.{found_there}

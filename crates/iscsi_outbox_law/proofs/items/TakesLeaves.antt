@@ -13,9 +13,9 @@ use Rattle.iscsi_outbox_rules.specs.rules.Items.{leave as leave_box, phase_compl
 use Rattle.iscsi_outbox_steps.specs.State.{State}
 use Rattle.iscsi_outbox_steps.specs.Steps.{completed, leave, leave_one, taken_out}
 use Rattle.iscsi_tracked.specs.declared.command.Command.{Command}
-use Rattle.iscsi_outbox_law.specs.Pairs.{EachOf, InOrder}
-use Rattle.iscsi_outbox_law.specs.Sound.{HasHome, is_live_in}
-use Rattle.iscsi_outbox_law.specs.Stands.{Stands}
+use Rattle.iscsi_outbox_law.specs.private.Pairs.{EachOf, InOrder}
+use Rattle.iscsi_outbox_law.specs.private.Sound.{HasHome, is_live_in}
+use Rattle.iscsi_outbox_law.specs.private.Stands.{Stands}
 use Rattle.iscsi_outbox_law.proofs.general.PairLemmas.{each-map, each-weaken}
 use Rattle.iscsi_outbox_law.proofs.general.PlaceLemmas.{AreApart}
 use Rattle.iscsi_outbox_law.proofs.commands.TrackedLemmas.{any_map, order_map}

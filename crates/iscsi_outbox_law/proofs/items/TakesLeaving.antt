@@ -20,12 +20,12 @@ use Rattle.iscsi_tracked.specs.declared.command.Command.{Command}
 use Rattle.iscsi_tracked.specs.declared.command.Phase.{Phase as KeptPhase}
 use Rattle.iscsi_tracked.specs.declared.command.Phase.TheVariants.{Dormant, Fresh, Started, Running, Gone}
 use Rattle.iscsi_tracked.specs.Tracked.{Tracked, find_ticket, in_phase, is_at, is_out, removed, to_phase}
-use Rattle.iscsi_outbox_law.specs.Pairs.{EachOf, InOrder}
-use Rattle.iscsi_outbox_law.specs.Links.{live_place}
-use Rattle.iscsi_outbox_law.specs.Commands.{AreCommands, IsCommand, is_kept, is_under_way, phase_of}
-use Rattle.iscsi_outbox_law.specs.Lanes.{is_gone, left_at, left_of}
-use Rattle.iscsi_outbox_law.specs.Sound.{is_live_in}
-use Rattle.iscsi_outbox_law.specs.Stands.{Stands}
+use Rattle.iscsi_outbox_law.specs.private.Pairs.{EachOf, InOrder}
+use Rattle.iscsi_outbox_law.specs.private.Links.{live_place}
+use Rattle.iscsi_outbox_law.specs.private.Commands.{AreCommands, IsCommand, is_kept, is_under_way, phase_of}
+use Rattle.iscsi_outbox_law.specs.private.Lanes.{is_gone, left_at, left_of}
+use Rattle.iscsi_outbox_law.specs.private.Sound.{is_live_in}
+use Rattle.iscsi_outbox_law.specs.private.Stands.{Stands}
 use Rattle.iscsi_outbox_law.proofs.general.PairLemmas.{each-weaken}
 use Rattle.iscsi_outbox_law.proofs.general.Members.{In, any_found, any_from, filter_in, find_in, in_filter, pair_for, pair_of}
 use Rattle.iscsi_outbox_law.proofs.queues.Waiting.{live_as}

@@ -19,10 +19,10 @@ use Rattle.iscsi_outbox_steps.specs.Steps.{close, close_each, closed_in, complet
 use Rattle.iscsi_tracked.specs.declared.command.Command.{Command}
 use Rattle.iscsi_tracked.specs.declared.command.Phase.TheVariants.{Running, Gone}
 use Rattle.iscsi_tracked.specs.Tracked.{in_phase, is_out, removed}
-use Rattle.iscsi_outbox_law.specs.Pairs.{EachOf, InOrder, place_in}
-use Rattle.iscsi_outbox_law.specs.Commands.{is_under_way}
-use Rattle.iscsi_outbox_law.specs.Sound.{HasHome, IsAnswerSound, IsLinkSound, IsSound, entries_of, is_live_in}
-use Rattle.iscsi_outbox_law.specs.Stands.{Stands}
+use Rattle.iscsi_outbox_law.specs.private.Pairs.{EachOf, InOrder, place_in}
+use Rattle.iscsi_outbox_law.specs.private.Commands.{is_under_way}
+use Rattle.iscsi_outbox_law.specs.private.Sound.{HasHome, IsAnswerSound, IsLinkSound, IsSound, entries_of, is_live_in}
+use Rattle.iscsi_outbox_law.specs.private.Stands.{Stands}
 use Rattle.iscsi_outbox_law.proofs.general.PairLemmas.{each-map, each-weaken}
 use Rattle.iscsi_outbox_law.proofs.connections.Standing.{cids_are, links_apart}
 use Rattle.iscsi_outbox_law.proofs.calls.Calm.{calm}

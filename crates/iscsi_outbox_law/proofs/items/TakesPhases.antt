@@ -11,11 +11,11 @@ use Rattle.iscsi_outbox_steps.specs.Steps.{is_live}
 use Rattle.iscsi_tracked.specs.declared.command.Command.{Command}
 use Rattle.iscsi_tracked.specs.declared.command.Phase.{Phase as KeptPhase}
 use Rattle.iscsi_tracked.specs.Tracked.{find_place, find_ticket, in_phase, is_at, is_out, removed, to_phase, with_command}
-use Rattle.iscsi_outbox_law.specs.Pairs.{PairsOf, InOrder}
-use Rattle.iscsi_outbox_law.specs.Links.{live_place}
-use Rattle.iscsi_outbox_law.specs.Commands.{AreCommands, IsCommand, is_kept, is_under_way, link_in, phase_of}
-use Rattle.iscsi_outbox_law.specs.Lanes.{is_gone}
-use Rattle.iscsi_outbox_law.specs.Stands.{Stands}
+use Rattle.iscsi_outbox_law.specs.private.Pairs.{PairsOf, InOrder}
+use Rattle.iscsi_outbox_law.specs.private.Links.{live_place}
+use Rattle.iscsi_outbox_law.specs.private.Commands.{AreCommands, IsCommand, is_kept, is_under_way, link_in, phase_of}
+use Rattle.iscsi_outbox_law.specs.private.Lanes.{is_gone}
+use Rattle.iscsi_outbox_law.specs.private.Stands.{Stands}
 use Rattle.iscsi_outbox_law.proofs.general.PairLemmas.{each-weaken}
 use Rattle.iscsi_outbox_law.proofs.general.Members.{In, each-in, find_in, in_filter, pair_of, same_tests}
 use Rattle.iscsi_outbox_law.proofs.commands.Homes.{one_task}

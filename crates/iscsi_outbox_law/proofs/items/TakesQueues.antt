@@ -17,10 +17,10 @@ use Rattle.iscsi_outbox_state.specs.Waits.{Entry, entry, is_of as is_of_command,
 use Rattle.iscsi_outbox_steps.specs.declared.sent.Sent.{Sent}
 use Rattle.iscsi_tracked.specs.declared.command.Command.{Command}
 use Rattle.iscsi_tracked.specs.Tracked.{Tracked}
-use Rattle.iscsi_outbox_law.specs.Pairs.{PairsOf}
-use Rattle.iscsi_outbox_law.specs.Links.{AreLinks, AreQueues, IsEntry, IsQueue, live_place, place_of_command}
-use Rattle.iscsi_outbox_law.specs.Commands.{AreCommands, IsCommand, IsLastOut, IsOut, is_under_way, link_in, of_ticket}
-use Rattle.iscsi_outbox_law.specs.Fences.{IsFence, IsLastFence}
+use Rattle.iscsi_outbox_law.specs.private.Pairs.{PairsOf}
+use Rattle.iscsi_outbox_law.specs.private.Links.{AreLinks, AreQueues, IsEntry, IsQueue, live_place, place_of_command}
+use Rattle.iscsi_outbox_law.specs.private.Commands.{AreCommands, IsCommand, IsLastOut, IsOut, is_under_way, link_in, of_ticket}
+use Rattle.iscsi_outbox_law.specs.private.Fences.{IsFence, IsLastFence}
 use Rattle.iscsi_outbox_law.proofs.general.PairLemmas.{each-map, pairs-filter, pairs-map, pairs-weaken}
 use Rattle.iscsi_outbox_law.proofs.general.Members.{in_filter}
 use Rattle.iscsi_outbox_law.proofs.general.PlaceLemmas.{conns_of}

@@ -11,8 +11,8 @@ use Rattle.iscsi_outbox_rules.specs.rules.Words.{contains, is_left, is_left_phas
 use Rattle.iscsi_outbox_rules.specs.rules.Queues.{append, at_link, emptied, enter, takes_more}
 use Rattle.iscsi_outbox_rules.specs.rules.Own.{is_own}
 use Rattle.iscsi_outbox_rules.specs.rules.Items.{answer, await, close_all, close_one, is_aimed_at, outgoing, send_as}
-use Rattle.iscsi_outbox_law.specs.Pairs.{EachOf, InOrder}
-use Rattle.iscsi_outbox_law.specs.Sound.{HasHome}
+use Rattle.iscsi_outbox_law.specs.private.Pairs.{EachOf, InOrder}
+use Rattle.iscsi_outbox_law.specs.private.Sound.{HasHome}
 use Rattle.iscsi_outbox_law.proofs.general.PairLemmas.{each-append, each-filter, each-map, each-weaken}
 use Rattle.iscsi_outbox_law.proofs.general.PlaceLemmas.{AreApart, conns_of}
 use Rattle.iscsi_outbox_law.proofs.commands.TrackedLemmas.{any_map}

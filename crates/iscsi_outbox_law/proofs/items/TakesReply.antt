@@ -14,10 +14,10 @@ use Rattle.iscsi_outbox_rules.specs.rules.Items.{aim as aim_box, closed_in as cl
 use Rattle.iscsi_outbox_rules.specs.promises.Room.{places as places_of}
 use Rattle.iscsi_outbox_steps.specs.State.{State, place_of}
 use Rattle.iscsi_outbox_steps.specs.Steps.{closed_in, has_room, has_time, is_numbered, newly_closed, placed, send_on}
-use Rattle.iscsi_outbox_law.specs.Pairs.{EachOf, place_in}
-use Rattle.iscsi_outbox_law.specs.Commands.{is_under_way, link_in}
-use Rattle.iscsi_outbox_law.specs.Sound.{IsItemSound, IsSound, is_live_in}
-use Rattle.iscsi_outbox_law.specs.Stands.{Stands}
+use Rattle.iscsi_outbox_law.specs.private.Pairs.{EachOf, place_in}
+use Rattle.iscsi_outbox_law.specs.private.Commands.{is_under_way, link_in}
+use Rattle.iscsi_outbox_law.specs.private.Sound.{IsItemSound, IsSound, is_live_in}
+use Rattle.iscsi_outbox_law.specs.private.Stands.{Stands}
 use Rattle.iscsi_outbox_law.proofs.general.PlaceLemmas.{AreApart, IsPlace, any_at, conns_of}
 use Rattle.iscsi_outbox_law.proofs.connections.Standing.{cids_are, links_apart, stands_there}
 use Rattle.iscsi_outbox_law.proofs.commands.TrackedLemmas.{any_map}

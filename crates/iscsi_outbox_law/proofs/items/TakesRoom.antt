@@ -9,7 +9,7 @@ use Rattle.iscsi_outbox_rules.specs.rules.Boxes.{Outgoing, Answer, Link, Box}
 use Rattle.iscsi_outbox_rules.specs.rules.Words.{has_under_way, is_reply, replies_waiting}
 use Rattle.iscsi_outbox_rules.specs.rules.Queues.{append, at_link, enter, takes_more}
 use Rattle.iscsi_outbox_rules.specs.rules.Due.{is_due, settle, settle_from}
-use Rattle.iscsi_outbox_law.specs.Commands.{is_under_way}
+use Rattle.iscsi_outbox_law.specs.private.Commands.{is_under_way}
 use Rattle.iscsi_outbox_law.proofs.general.PairLemmas.{each-weaken}
 use Rattle.iscsi_outbox_law.proofs.commands.TrackedLemmas.{any_map}
 use Rattle.iscsi_outbox_law.proofs.queues.Rooms.{replies_queued}

@@ -23,12 +23,12 @@ use Rattle.iscsi_outbox_state.specs.Lane.{aims_at, is_of_logout}
 use Rattle.iscsi_outbox_steps.specs.State.{State, Limits, place_of}
 use Rattle.iscsi_outbox_steps.specs.Steps.{aim_of, aim_of_logout, await, enter, has_room, has_time, is_of_unit, is_reset, placed, reply_item, send_on}
 use Rattle.iscsi_tracked.specs.declared.command.Command.{Command}
-use Rattle.iscsi_outbox_law.specs.Pairs.{InOrder}
-use Rattle.iscsi_outbox_law.specs.Links.{place_of_command}
-use Rattle.iscsi_outbox_law.specs.Commands.{IsCommand, is_under_way, link_in}
-use Rattle.iscsi_outbox_law.specs.Lanes.{IsAim, IsAnswer, left_of}
-use Rattle.iscsi_outbox_law.specs.Sound.{conn_closed}
-use Rattle.iscsi_outbox_law.specs.Stands.{Stands}
+use Rattle.iscsi_outbox_law.specs.private.Pairs.{InOrder}
+use Rattle.iscsi_outbox_law.specs.private.Links.{place_of_command}
+use Rattle.iscsi_outbox_law.specs.private.Commands.{IsCommand, is_under_way, link_in}
+use Rattle.iscsi_outbox_law.specs.private.Lanes.{IsAim, IsAnswer, left_of}
+use Rattle.iscsi_outbox_law.specs.private.Sound.{conn_closed}
+use Rattle.iscsi_outbox_law.specs.private.Stands.{Stands}
 use Rattle.iscsi_outbox_law.proofs.general.PlaceLemmas.{AreApart, IsPlace, conns_of}
 use Rattle.iscsi_outbox_law.proofs.connections.Standing.{stands_there}
 use Rattle.iscsi_outbox_law.proofs.items.TakesSends.{await_stands, reply_enters, scope_is}

@@ -23,10 +23,10 @@ use Rattle.iscsi_outbox_state.specs.Waits.{entered}
 use Rattle.iscsi_outbox_steps.specs.State.{State, link_at, places}
 use Rattle.iscsi_outbox_steps.specs.Steps.{await, counted, enter, has_room, has_time, is_live, later}
 use Rattle.iscsi_tracked.specs.declared.command.Command.{Command}
-use Rattle.iscsi_outbox_law.specs.Pairs.{EachOf, InOrder}
-use Rattle.iscsi_outbox_law.specs.Commands.{IsCommand, is_kept, is_under_way, link_in}
-use Rattle.iscsi_outbox_law.specs.Lanes.{IsAnswer, is_aimed_at, left_at, left_of}
-use Rattle.iscsi_outbox_law.specs.Stands.{Stands}
+use Rattle.iscsi_outbox_law.specs.private.Pairs.{EachOf, InOrder}
+use Rattle.iscsi_outbox_law.specs.private.Commands.{IsCommand, is_kept, is_under_way, link_in}
+use Rattle.iscsi_outbox_law.specs.private.Lanes.{IsAnswer, is_aimed_at, left_at, left_of}
+use Rattle.iscsi_outbox_law.specs.private.Stands.{Stands}
 use Rattle.iscsi_outbox_law.proofs.general.Members.{In, any_found, any_from, in_filter, pair_of, same_tests}
 use Rattle.iscsi_outbox_law.proofs.general.PlaceLemmas.{AreApart, IsPlace, any_at, at_place, conns_of}
 use Rattle.iscsi_outbox_law.proofs.connections.Standing.{counts_at}

@@ -20,11 +20,11 @@ use Rattle.iscsi_tracked.specs.declared.command.Command.{Command}
 use Rattle.iscsi_tracked.specs.declared.command.Phase.{Phase as KeptPhase}
 use Rattle.iscsi_tracked.specs.declared.command.Phase.TheVariants.{Dormant as KeptDormant, Fresh as KeptFresh, Started as KeptStarted, Running as KeptRunning, Gone as KeptGone}
 use Rattle.iscsi_tracked.specs.Tracked.{find_place, is_out}
-use Rattle.iscsi_outbox_law.specs.Pairs.{EachOf}
-use Rattle.iscsi_outbox_law.specs.Commands.{is_under_way, link_in, phase_of}
-use Rattle.iscsi_outbox_law.specs.Lanes.{AreAnswers, IsAim, IsAnswer, IsInScope, is_aimed_at, left_at, left_of}
-use Rattle.iscsi_outbox_law.specs.Sound.{HasHome, HaveHomes}
-use Rattle.iscsi_outbox_law.specs.Stands.{Stands}
+use Rattle.iscsi_outbox_law.specs.private.Pairs.{EachOf}
+use Rattle.iscsi_outbox_law.specs.private.Commands.{is_under_way, link_in, phase_of}
+use Rattle.iscsi_outbox_law.specs.private.Lanes.{AreAnswers, IsAim, IsAnswer, IsInScope, is_aimed_at, left_at, left_of}
+use Rattle.iscsi_outbox_law.specs.private.Sound.{HasHome, HaveHomes}
+use Rattle.iscsi_outbox_law.specs.private.Stands.{Stands}
 use Rattle.iscsi_outbox_law.proofs.general.PairLemmas.{each-at}
 use Rattle.iscsi_outbox_law.proofs.general.Members.{In, any_found, any_from, any_index, any_more, each-in, filter_in, find_in, index_any, same_tests}
 use Rattle.iscsi_outbox_law.proofs.general.PlaceLemmas.{AreApart, IsPlace, conns_of, one_place, place_found, same_conn}

@@ -13,9 +13,9 @@ use Rattle.iscsi_outbox_state.specs.Waits.{Entry, entered, entry, queue_at}
 use Rattle.iscsi_outbox_steps.specs.State.{State, link_at}
 use Rattle.iscsi_outbox_steps.specs.Steps.{enter, has_room, has_time, later}
 use Rattle.iscsi_tracked.specs.Tracked.{Tracked}
-use Rattle.iscsi_outbox_law.specs.Links.{IsEntry, IsQueue, pdu_of, place_of_command, sent_of, word_of}
-use Rattle.iscsi_outbox_law.specs.Commands.{is_under_way, link_in}
-use Rattle.iscsi_outbox_law.specs.Stands.{Stands, StandsWith}
+use Rattle.iscsi_outbox_law.specs.private.Links.{IsEntry, IsQueue, pdu_of, place_of_command, sent_of, word_of}
+use Rattle.iscsi_outbox_law.specs.private.Commands.{is_under_way, link_in}
+use Rattle.iscsi_outbox_law.specs.private.Stands.{Stands, StandsWith}
 use Rattle.iscsi_outbox_law.proofs.general.PairLemmas.{any-set, pairs-append, pairs-at}
 use Rattle.iscsi_outbox_law.proofs.general.PlaceLemmas.{AreApart, IsPlace, at_place, conns_of}
 use Rattle.iscsi_outbox_law.proofs.connections.Standing.{counts_at}

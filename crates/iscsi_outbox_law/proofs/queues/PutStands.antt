@@ -15,10 +15,10 @@ use Rattle.iscsi_outbox_rules.specs.rules.Own.{after_put, is_fit, own_conn, own_
 use Rattle.iscsi_outbox_steps.specs.State.{State, link_at, place_of}
 use Rattle.iscsi_outbox_steps.specs.Steps.{absent, enter, has_time, home_of, is_full, is_live, own_item, put, put_refusal, refusal_on}
 use Rattle.iscsi_tracked.specs.declared.command.Command.{Command}
-use Rattle.iscsi_outbox_law.specs.Links.{place_of_command}
-use Rattle.iscsi_outbox_law.specs.Commands.{is_under_way, link_in}
-use Rattle.iscsi_outbox_law.specs.Sound.{IsSound}
-use Rattle.iscsi_outbox_law.specs.Stands.{Stands}
+use Rattle.iscsi_outbox_law.specs.private.Links.{place_of_command}
+use Rattle.iscsi_outbox_law.specs.private.Commands.{is_under_way, link_in}
+use Rattle.iscsi_outbox_law.specs.private.Sound.{IsSound}
+use Rattle.iscsi_outbox_law.specs.private.Stands.{Stands}
 use Rattle.iscsi_outbox_law.proofs.general.PlaceLemmas.{IsPlace, place_found}
 use Rattle.iscsi_outbox_law.proofs.connections.Standing.{links_apart, stands_there}
 use Rattle.iscsi_outbox_law.proofs.queues.Entering.{enter_stands}

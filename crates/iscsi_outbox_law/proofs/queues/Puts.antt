@@ -20,11 +20,11 @@ use Rattle.iscsi_outbox_steps.specs.State.{State, Limits, link_at, place_of}
 use Rattle.iscsi_outbox_steps.specs.Steps.{is_full, is_live, live_command, refusal_on}
 use Rattle.iscsi_tracked.specs.declared.command.Command.{Command}
 use Rattle.iscsi_tracked.specs.Tracked.{find_ticket}
-use Rattle.iscsi_outbox_law.specs.Pairs.{EachOf}
-use Rattle.iscsi_outbox_law.specs.Links.{IsQueue, pdu_of}
-use Rattle.iscsi_outbox_law.specs.Commands.{IsCommand, is_kept, is_under_way, link_in}
-use Rattle.iscsi_outbox_law.specs.Sound.{IsSound}
-use Rattle.iscsi_outbox_law.specs.Stands.{Stands}
+use Rattle.iscsi_outbox_law.specs.private.Pairs.{EachOf}
+use Rattle.iscsi_outbox_law.specs.private.Links.{IsQueue, pdu_of}
+use Rattle.iscsi_outbox_law.specs.private.Commands.{IsCommand, is_kept, is_under_way, link_in}
+use Rattle.iscsi_outbox_law.specs.private.Sound.{IsSound}
+use Rattle.iscsi_outbox_law.specs.private.Stands.{Stands}
 use Rattle.iscsi_outbox_law.proofs.general.PairLemmas.{pairs-at}
 use Rattle.iscsi_outbox_law.proofs.general.Members.{In, filter_in, find_in, in_filter, pair_for, pair_of}
 use Rattle.iscsi_outbox_law.proofs.general.PlaceLemmas.{AreApart, IsPlace, conns_of, none_behind, other_first}

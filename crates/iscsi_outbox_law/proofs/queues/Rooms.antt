@@ -13,9 +13,9 @@ use Rattle.iscsi_outbox_state.specs.declared.waiting.Content.TheVariants.{Reply,
 use Rattle.iscsi_outbox_state.specs.Waits.{Entry, count_in, is_any, is_own as is_own_entry, is_reply as is_reply_entry}
 use Rattle.iscsi_outbox_steps.specs.State.{State, Limits, waiting_room}
 use Rattle.iscsi_outbox_steps.specs.Steps.{has_room, has_time}
-use Rattle.iscsi_outbox_law.specs.Pairs.{EachOf}
-use Rattle.iscsi_outbox_law.specs.Links.{pdu_of}
-use Rattle.iscsi_outbox_law.specs.Stands.{StandsWith}
+use Rattle.iscsi_outbox_law.specs.private.Pairs.{EachOf}
+use Rattle.iscsi_outbox_law.specs.private.Links.{pdu_of}
+use Rattle.iscsi_outbox_law.specs.private.Stands.{StandsWith}
 use Rattle.iscsi_outbox_law.proofs.queues.Waiting.{queues_counted}
 
 -- how many replies and own PDUs wait on connections

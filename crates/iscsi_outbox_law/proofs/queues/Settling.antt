@@ -22,12 +22,12 @@ use Rattle.iscsi_outbox_state.specs.Lane.{due_behind, first_due, is_command, is_
 use Rattle.iscsi_outbox_steps.specs.State.{State}
 use Rattle.iscsi_outbox_steps.specs.Steps.{answer_item, enter, has_time, settle, settled}
 use Rattle.iscsi_tracked.specs.Tracked.{Tracked}
-use Rattle.iscsi_outbox_law.specs.Pairs.{EachOf}
-use Rattle.iscsi_outbox_law.specs.Links.{place_of_command}
-use Rattle.iscsi_outbox_law.specs.Commands.{is_under_way}
-use Rattle.iscsi_outbox_law.specs.Lanes.{AreAnswers, AreLeft, is_aimed_at}
-use Rattle.iscsi_outbox_law.specs.Sound.{HasHome, HaveHomes}
-use Rattle.iscsi_outbox_law.specs.Stands.{Stands}
+use Rattle.iscsi_outbox_law.specs.private.Pairs.{EachOf}
+use Rattle.iscsi_outbox_law.specs.private.Links.{place_of_command}
+use Rattle.iscsi_outbox_law.specs.private.Commands.{is_under_way}
+use Rattle.iscsi_outbox_law.specs.private.Lanes.{AreAnswers, AreLeft, is_aimed_at}
+use Rattle.iscsi_outbox_law.specs.private.Sound.{HasHome, HaveHomes}
+use Rattle.iscsi_outbox_law.specs.private.Stands.{Stands}
 use Rattle.iscsi_outbox_law.proofs.general.PairLemmas.{each-map}
 use Rattle.iscsi_outbox_law.proofs.general.PlaceLemmas.{AreApart, at_none, conns_of, none_behind, place_found}
 use Rattle.iscsi_outbox_law.proofs.queues.Waiting.{answers_counted}

@@ -20,10 +20,10 @@ use Rattle.iscsi_tracked.specs.declared.command.Phase.TheVariants.{Dormant as Ke
 use Rattle.iscsi_tracked.specs.Tracked.{Tracked}
 use Rattle.iscsi_outbox_steps.specs.State.{State, Limits, credit_of as credit_of_steps, max_shown as max_shown_steps, may_take as may_take_steps, numbered_waiting as numbered_waiting_steps, owing as owing_steps, replies_waiting as replies_waiting_steps}
 use Rattle.iscsi_outbox_steps.specs.Steps.{is_live}
-use Rattle.iscsi_outbox_law.specs.Links.{AreQueues, IsEntry, IsQueue, pdu_of}
-use Rattle.iscsi_outbox_law.specs.Commands.{IsCommand, is_kept, is_under_way, phase_of}
-use Rattle.iscsi_outbox_law.specs.Lanes.{AreAnswers, IsAnswer, is_gone}
-use Rattle.iscsi_outbox_law.specs.Stands.{Stands}
+use Rattle.iscsi_outbox_law.specs.private.Links.{AreQueues, IsEntry, IsQueue, pdu_of}
+use Rattle.iscsi_outbox_law.specs.private.Commands.{IsCommand, is_kept, is_under_way, phase_of}
+use Rattle.iscsi_outbox_law.specs.private.Lanes.{AreAnswers, IsAnswer, is_gone}
+use Rattle.iscsi_outbox_law.specs.private.Stands.{Stands}
 use Rattle.iscsi_outbox_law.proofs.general.PairLemmas.{pairs-any, pairs-count}
 
 -- ---- what waits in queues

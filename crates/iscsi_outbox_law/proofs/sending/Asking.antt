@@ -23,13 +23,13 @@ use Rattle.iscsi_outbox_state.specs.Lane.{goes_out_on, is_under_way_on}
 use Rattle.iscsi_tracked.specs.Tracked.{Tracked}
 use Rattle.iscsi_outbox_steps.specs.declared.sent.Sent.{Sent}
 use Rattle.iscsi_outbox_steps.specs.State.{State, first_usable, is_asked_for as is_asked_for_steps, is_fence_here, is_over as is_over_steps, link_at, looks, max_shown as max_shown_steps, wants_notice as wants_notice_steps, wants_ping as wants_ping_steps}
-use Rattle.iscsi_outbox_law.specs.Pairs.{PairsOf}
-use Rattle.iscsi_outbox_law.specs.Links.{IsEntry, IsQueue}
-use Rattle.iscsi_outbox_law.specs.Commands.{is_under_way, link_in}
-use Rattle.iscsi_outbox_law.specs.Fences.{IsFence}
-use Rattle.iscsi_outbox_law.specs.Lanes.{IsAnswer}
-use Rattle.iscsi_outbox_law.specs.Sound.{IsSound}
-use Rattle.iscsi_outbox_law.specs.Stands.{Stands}
+use Rattle.iscsi_outbox_law.specs.private.Pairs.{PairsOf}
+use Rattle.iscsi_outbox_law.specs.private.Links.{IsEntry, IsQueue}
+use Rattle.iscsi_outbox_law.specs.private.Commands.{is_under_way, link_in}
+use Rattle.iscsi_outbox_law.specs.private.Fences.{IsFence}
+use Rattle.iscsi_outbox_law.specs.private.Lanes.{IsAnswer}
+use Rattle.iscsi_outbox_law.specs.private.Sound.{IsSound}
+use Rattle.iscsi_outbox_law.specs.private.Stands.{Stands}
 use Rattle.iscsi_outbox_law.proofs.general.PairLemmas.{each-at, pairs-at, pairs-length}
 use Rattle.iscsi_outbox_law.proofs.general.PlaceLemmas.{IsPlace, place_found, same_conn}
 use Rattle.iscsi_outbox_law.proofs.connections.Standing.{counts_at}

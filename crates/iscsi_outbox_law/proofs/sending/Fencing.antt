@@ -20,12 +20,12 @@ use Rattle.iscsi_outbox_rules.specs.rules.Run.{new_link}
 use Rattle.iscsi_outbox_state.specs.Waits.{Entry, any_in, count_in, is_fenced_before, is_taking_before, queue_at}
 use Rattle.iscsi_outbox_steps.specs.declared.sent.Sent.{Sent}
 use Rattle.iscsi_outbox_steps.specs.State.{State, Limits, is_busy_elsewhere, is_fence_elsewhere, link_at, looks, passes}
-use Rattle.iscsi_outbox_law.specs.Pairs.{EachOf, InOrder}
-use Rattle.iscsi_outbox_law.specs.Links.{IsEntry, IsQueue}
-use Rattle.iscsi_outbox_law.specs.Commands.{is_under_way, link_in}
-use Rattle.iscsi_outbox_law.specs.Fences.{IsFence, IsLastFence}
-use Rattle.iscsi_outbox_law.specs.Stands.{Stands}
-use Rattle.iscsi_outbox_law.specs.Sound.{IsLinkSound, IsSound}
+use Rattle.iscsi_outbox_law.specs.private.Pairs.{EachOf, InOrder}
+use Rattle.iscsi_outbox_law.specs.private.Links.{IsEntry, IsQueue}
+use Rattle.iscsi_outbox_law.specs.private.Commands.{is_under_way, link_in}
+use Rattle.iscsi_outbox_law.specs.private.Fences.{IsFence, IsLastFence}
+use Rattle.iscsi_outbox_law.specs.private.Stands.{Stands}
+use Rattle.iscsi_outbox_law.specs.private.Sound.{IsLinkSound, IsSound}
 use Rattle.iscsi_outbox_law.proofs.general.PairLemmas.{each-at, each-weaken, pairs-at, pairs-count}
 use Rattle.iscsi_outbox_law.proofs.general.PlaceLemmas.{AreApart, conns_of, none_of_any, only_at, other_first, same_conn}
 use Rattle.iscsi_outbox_law.proofs.connections.Standing.{counts_at, links_apart}

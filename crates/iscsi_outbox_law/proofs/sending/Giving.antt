@@ -24,12 +24,12 @@ use Rattle.iscsi_outbox_steps.specs.declared.given.Handed.{Handed}
 use Rattle.iscsi_outbox_steps.specs.declared.given.Pdu.{Pdu}
 use Rattle.iscsi_outbox_steps.specs.State.{State, is_over as is_over_steps, link_at, max_shown as max_shown_steps, passes, place_of, wants_notice as wants_notice_steps, wants_ping as wants_ping_steps}
 use Rattle.iscsi_outbox_steps.specs.Steps.{Out, Waited, Pinged, Noticed, chosen, from_queue, given, given_on, numbered, pdu_of as pdu_of_out, without}
-use Rattle.iscsi_outbox_law.specs.Pairs.{EachOf, PairsOf}
-use Rattle.iscsi_outbox_law.specs.Said.{given_said, handed_said, pdu_said}
-use Rattle.iscsi_outbox_law.specs.Links.{IsEntry, IsQueue, pdu_of, sent_of, word_of}
-use Rattle.iscsi_outbox_law.specs.Commands.{is_under_way, link_in}
-use Rattle.iscsi_outbox_law.specs.Sound.{IsSound}
-use Rattle.iscsi_outbox_law.specs.Stands.{Stands, StandsWith}
+use Rattle.iscsi_outbox_law.specs.private.Pairs.{EachOf, PairsOf}
+use Rattle.iscsi_outbox_law.specs.rules.Said.{given_said, handed_said, pdu_said}
+use Rattle.iscsi_outbox_law.specs.private.Links.{IsEntry, IsQueue, pdu_of, sent_of, word_of}
+use Rattle.iscsi_outbox_law.specs.private.Commands.{is_under_way, link_in}
+use Rattle.iscsi_outbox_law.specs.private.Sound.{IsSound}
+use Rattle.iscsi_outbox_law.specs.private.Stands.{Stands, StandsWith}
 use Rattle.iscsi_outbox_law.proofs.general.PairLemmas.{any-set, each-at, pairs-at, pairs-drop}
 use Rattle.iscsi_outbox_law.proofs.general.PlaceLemmas.{IsPlace, at_place, found_at, found_nowhere}
 use Rattle.iscsi_outbox_law.proofs.connections.Standing.{counts_at, stands_nowhere, stands_there}

@@ -18,11 +18,11 @@ use Rattle.iscsi_outbox_state.specs.declared.lane.Standing.TheVariants.{Left as 
 use Rattle.iscsi_outbox_state.specs.Waits.{Entry}
 use Rattle.iscsi_outbox_steps.specs.declared.sent.Sent.{Sent}
 use Rattle.iscsi_tracked.specs.Tracked.{Tracked}
-use Rattle.iscsi_outbox_law.specs.Pairs.{PairsOf, EachOf}
-use Rattle.iscsi_outbox_law.specs.Links.{AreQueues, IsEntry, IsQueue, live_place, place_of_command}
-use Rattle.iscsi_outbox_law.specs.Commands.{IsLastOut, IsOut, is_kept, is_under_way, link_in, of_ticket}
-use Rattle.iscsi_outbox_law.specs.Lanes.{AreAnswers, IsInScope}
-use Rattle.iscsi_outbox_law.specs.Fences.{IsFence, IsLastFence}
+use Rattle.iscsi_outbox_law.specs.private.Pairs.{PairsOf, EachOf}
+use Rattle.iscsi_outbox_law.specs.private.Links.{AreQueues, IsEntry, IsQueue, live_place, place_of_command}
+use Rattle.iscsi_outbox_law.specs.private.Commands.{IsLastOut, IsOut, is_kept, is_under_way, link_in, of_ticket}
+use Rattle.iscsi_outbox_law.specs.private.Lanes.{AreAnswers, IsInScope}
+use Rattle.iscsi_outbox_law.specs.private.Fences.{IsFence, IsLastFence}
 use Rattle.iscsi_outbox_law.proofs.general.PairLemmas.{each-at, each-set, pairs-weaken}
 use Rattle.iscsi_outbox_law.proofs.general.Members.{In}
 use Rattle.iscsi_outbox_law.proofs.connections.LinkChanges.{up_within}

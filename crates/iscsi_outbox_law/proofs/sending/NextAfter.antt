@@ -24,12 +24,12 @@ use Rattle.iscsi_outbox_steps.specs.declared.sent.Sent.{Sent}
 use Rattle.iscsi_outbox_steps.specs.State.{State, link_at, max_shown as max_shown_steps, place_of, with_link}
 use Rattle.iscsi_outbox_steps.specs.Steps.{Out, Waited, Pinged, Noticed, after_out, chosen, next, of_command, of_fence, shows}
 use Rattle.iscsi_tracked.specs.Tracked.{handed_out, has_place, is_at}
-use Rattle.iscsi_outbox_law.specs.Pairs.{EachOf}
-use Rattle.iscsi_outbox_law.specs.Links.{pdu_of}
-use Rattle.iscsi_outbox_law.specs.Commands.{is_under_way, link_in}
-use Rattle.iscsi_outbox_law.specs.Fences.{IsFence}
-use Rattle.iscsi_outbox_law.specs.Sound.{IsFenceFit, IsLinkSound, IsSound}
-use Rattle.iscsi_outbox_law.specs.Stands.{Stands}
+use Rattle.iscsi_outbox_law.specs.private.Pairs.{EachOf}
+use Rattle.iscsi_outbox_law.specs.private.Links.{pdu_of}
+use Rattle.iscsi_outbox_law.specs.private.Commands.{is_under_way, link_in}
+use Rattle.iscsi_outbox_law.specs.private.Fences.{IsFence}
+use Rattle.iscsi_outbox_law.specs.private.Sound.{IsFenceFit, IsLinkSound, IsSound}
+use Rattle.iscsi_outbox_law.specs.private.Stands.{Stands}
 use Rattle.iscsi_outbox_law.proofs.general.PairLemmas.{each-at}
 use Rattle.iscsi_outbox_law.proofs.general.Members.{In, any_from, each-in, filter_in, index_in}
 use Rattle.iscsi_outbox_law.proofs.general.PlaceLemmas.{AreApart, IsPlace, at_place, conns_of, same_conn}

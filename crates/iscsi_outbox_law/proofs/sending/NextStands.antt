@@ -15,10 +15,10 @@ use Rattle.iscsi_outbox_steps.specs.State.{State, link_at, max_shown as max_show
 use Rattle.iscsi_outbox_steps.specs.Steps.{is_live}
 use Rattle.iscsi_tracked.specs.declared.command.Command.{Command}
 use Rattle.iscsi_tracked.specs.Tracked.{Tracked, find_ticket}
-use Rattle.iscsi_outbox_law.specs.Links.{place_of_command}
-use Rattle.iscsi_outbox_law.specs.Commands.{ArePlaced, IsCommand, is_kept, is_under_way, link_in}
-use Rattle.iscsi_outbox_law.specs.Sound.{HasHome, IsAlive, IsLinkSound, IsSound}
-use Rattle.iscsi_outbox_law.specs.Stands.{Stands}
+use Rattle.iscsi_outbox_law.specs.private.Links.{place_of_command}
+use Rattle.iscsi_outbox_law.specs.private.Commands.{ArePlaced, IsCommand, is_kept, is_under_way, link_in}
+use Rattle.iscsi_outbox_law.specs.private.Sound.{HasHome, IsAlive, IsLinkSound, IsSound}
+use Rattle.iscsi_outbox_law.specs.private.Stands.{Stands}
 use Rattle.iscsi_outbox_law.proofs.general.PairLemmas.{each-at}
 use Rattle.iscsi_outbox_law.proofs.general.Members.{In, any_from, each-in, filter_in, find_in, in_find, order-weaken, pair_for, pair_of, in_filter}
 use Rattle.iscsi_outbox_law.proofs.general.PlaceLemmas.{IsPlace, one_place, place_found}

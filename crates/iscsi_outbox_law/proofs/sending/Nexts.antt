@@ -22,12 +22,12 @@ use Rattle.iscsi_outbox_steps.specs.State.{State, link_at}
 use Rattle.iscsi_outbox_steps.specs.Steps.{is_live}
 use Rattle.iscsi_tracked.specs.declared.command.Command.{Command}
 use Rattle.iscsi_tracked.specs.Tracked.{Tracked, conn_at, find_place, handed_out, is_at, trail_at, with_command, with_out}
-use Rattle.iscsi_outbox_law.specs.Pairs.{PairsOf, EachOf, InOrder}
-use Rattle.iscsi_outbox_law.specs.Links.{AreQueues, IsQueue, live_place}
-use Rattle.iscsi_outbox_law.specs.Commands.{AreCommands, ArePlaced, AreTrails, IsCommand, IsLastOut, IsOut, is_kept, is_under_way, link_in, of_ticket, out_place}
-use Rattle.iscsi_outbox_law.specs.Lanes.{AreLeft, IsInScope, is_gone, left_at, left_of}
-use Rattle.iscsi_outbox_law.specs.Fences.{IsFence}
-use Rattle.iscsi_outbox_law.specs.Stands.{Stands}
+use Rattle.iscsi_outbox_law.specs.private.Pairs.{PairsOf, EachOf, InOrder}
+use Rattle.iscsi_outbox_law.specs.private.Links.{AreQueues, IsQueue, live_place}
+use Rattle.iscsi_outbox_law.specs.private.Commands.{AreCommands, ArePlaced, AreTrails, IsCommand, IsLastOut, IsOut, is_kept, is_under_way, link_in, of_ticket, out_place}
+use Rattle.iscsi_outbox_law.specs.private.Lanes.{AreLeft, IsInScope, is_gone, left_at, left_of}
+use Rattle.iscsi_outbox_law.specs.private.Fences.{IsFence}
+use Rattle.iscsi_outbox_law.specs.private.Stands.{Stands}
 use Rattle.iscsi_outbox_law.proofs.general.PairLemmas.{each-map, pairs-set, pairs-at}
 use Rattle.iscsi_outbox_law.proofs.general.Members.{In, find_in, in_filter, in_find, order-weaken, pair_of}
 use Rattle.iscsi_outbox_law.proofs.general.PlaceLemmas.{conns_of}

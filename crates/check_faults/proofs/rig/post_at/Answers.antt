@@ -1,4 +1,4 @@
-use Rattle.iscsi_threads.specs.Ports.{port_ring}
+use Rattle.iscsi_threads.specs.rules.Ports.{port_ring}
 use Rattle.iscsi_threads.proofs.Lists.{map_kept}
 use Rattle.check_faults.proofs.rig.post_at.Goals as goal
 

@@ -1,4 +1,4 @@
-use Rattle.iscsi_threads.specs.Ports.{unit_rings}
+use Rattle.iscsi_threads.specs.rules.Ports.{unit_rings}
 use Rattle.iscsi_threads.proofs.Lists.{map_kept}
 use Rattle.check_faults.proofs.rig.take_at.Goals as goal
 

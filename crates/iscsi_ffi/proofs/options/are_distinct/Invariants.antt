@@ -1,5 +1,5 @@
 use Rattle.std.proofs.Common.{◌≡◌, drop}
-use Rattle.iscsi_outbox.specs.Options.{are_distinct}
+use Rattle.iscsi_outbox.specs.promises.Options.{are_distinct}
 use Rattle.iscsi_ffi.proofs.options.are_distinct.Given as goal
 
 -- those that were looked at are unlike all after them

@@ -1,7 +1,7 @@
 use Rattle.std.proofs.Common.{◌∙◌, ◌++◌, sym, ap}
 use Rattle.iscsi_outbox_rules.specs.rules.Handing.{header_with}
 use Rattle.iscsi_outbox_steps.specs.declared.given.Pdu.{Pdu}
-use Rattle.iscsi_outbox.specs.Headers.{as_rules}
+use Rattle.iscsi_outbox.specs.rules.Headers.{as_rules}
 use Rattle.iscsi_ffi_handle.specs.Bytes.{put_first, tail_in}
 use Rattle.iscsi_ffi_handle.proofs.bytes.write_bytes.Goals as goal
 

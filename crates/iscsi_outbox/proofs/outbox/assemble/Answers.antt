@@ -4,8 +4,8 @@ use Rattle.iscsi_links.specs.Links.{Links}
 use Rattle.iscsi_outbox_state.specs.Lane.{Lane}
 use Rattle.iscsi_outbox_state.specs.Waits.{Waits}
 use Rattle.iscsi_tracked.specs.Tracked.{Tracked}
-use Rattle.iscsi_outbox.specs.Kept.{IsOutbox}
-use Rattle.iscsi_outbox.specs.Options.{lane_of, links_of, tracked_of, waits_of}
+use Rattle.iscsi_outbox.specs.private.Kept.{IsOutbox}
+use Rattle.iscsi_outbox.specs.promises.Options.{lane_of, links_of, tracked_of, waits_of}
 use Rattle.iscsi_outbox.proofs.OpenLemmas.{assembled, is_outbox, valid}
 use Rattle.iscsi_outbox.proofs.outbox.assemble.Goals as goal
 

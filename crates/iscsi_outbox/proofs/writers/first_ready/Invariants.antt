@@ -1,5 +1,5 @@
 use Rattle.std.proofs.Common.{◌≡◌, drop}
-use Rattle.iscsi_outbox.specs.Words.{first_ready, ready_from}
+use Rattle.iscsi_outbox.specs.rules.Words.{first_ready, ready_from}
 use Rattle.iscsi_outbox.proofs.writers.first_ready.Given as goal
 
 abbrev pub invariant-loop-conn : goal.invariant-loop-conn

@@ -1,7 +1,7 @@
 use Rattle.std.proofs.Common.{ℕ, List, Some, map, subst}
 use Rattle.clap.specs.Words.{matches_of}
 use Rattle.iscsi_settings.specs.Command.{replay_app, SettingsAre}
-use Rattle.iscsi_replay.specs.Told.{IsReplayAsTold}
+use Rattle.iscsi_replay.specs.promises.Told.{IsReplayAsTold}
 use Rattle.iscsi_replay.proofs.ToldLemmas.{Replays, nothing_said, replays_as_told}
 use Rattle.iscsi_replay.proofs.program.replay_as_told.Goals.{then-threads, else-threads}
 use Rattle.iscsi_replay.proofs.program.replay_as_told.Goals as goal

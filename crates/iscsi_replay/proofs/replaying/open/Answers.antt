@@ -1,4 +1,4 @@
-use Rattle.iscsi_replay.specs.Replayed.{setting_with}
+use Rattle.iscsi_replay.specs.promises.Replayed.{setting_with}
 use Rattle.iscsi_replay.proofs.RefusalLemmas.{memory_alone, options_taken}
 use Rattle.iscsi_replay.proofs.replaying.open.Goals as goal
 

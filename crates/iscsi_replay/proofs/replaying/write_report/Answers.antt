@@ -8,7 +8,7 @@ use Rattle.iscsi_session.proofs.PromiseLemmas.{promises_kept}
 use Rattle.iscsi_session.specs.private.Standing.{StandsFor}
 use Rattle.iscsi_recording.specs.declared.fault.ReplayFault.{ReplayFault}
 use Rattle.iscsi_recording.specs.declared.fault.ReplayFault.TheVariants.{Write, NoMemory}
-use Rattle.iscsi_replay.specs.Replayed.{setting_with}
+use Rattle.iscsi_replay.specs.promises.Replayed.{setting_with}
 use Rattle.iscsi_recording.proofs.Written.{front_before, front_after, waits_not, waits_less}
 use Rattle.iscsi_replay.proofs.ReportLemmas.{front_of_all, effects_alone, waits_next, all_written}
 use Rattle.iscsi_replay.proofs.RefusalLemmas.{memory_alone, event_taken}

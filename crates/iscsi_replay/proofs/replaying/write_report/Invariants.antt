@@ -2,7 +2,7 @@ use Rattle.std.proofs.Common.{◌≡◌, ◌++◌, List, length, false}
 use Rattle.iscsi_rules.specs.declared.event.Event.{Event}
 use Rattle.iscsi_rules.specs.promises.Flow.{FlowsThrough}
 use Rattle.iscsi_session.specs.private.Standing.{StandsFor}
-use Rattle.iscsi_replay.specs.Replayed.{setting_with, report_by}
+use Rattle.iscsi_replay.specs.promises.Replayed.{setting_with, report_by}
 use Rattle.iscsi_recording.specs.Writing.{AppendsBut}
 use Rattle.iscsi_replay.proofs.replaying.write_report.Given as goal
 

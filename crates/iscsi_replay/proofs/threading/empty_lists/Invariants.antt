@@ -1,5 +1,5 @@
 use Rattle.std.proofs.Common.{◌≡◌, ◌≤◌, [], map, replicate, vec_len, vec_capacity}
-use Rattle.iscsi_replay.specs.Threaded.{headers}
+use Rattle.iscsi_replay.specs.promises.Threaded.{headers}
 use Rattle.iscsi_replay.proofs.threading.empty_lists.Given as goal
 
 abbrev pub invariant-loop-place : goal.invariant-loop-place

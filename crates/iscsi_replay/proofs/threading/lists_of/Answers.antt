@@ -5,10 +5,10 @@ use Rattle.std.proofs.lemmas.List.{length-map}
 use Rattle.iscsi_rules.specs.declared.event.Event.{Event}
 use Rattle.iscsi_rules.specs.declared.event.Event.TheVariants.{Arrive, Done}
 use Rattle.iscsi_rules.specs.rules.Settings.{is_known}
-use Rattle.iscsi_threads.specs.Journal.{cids_in}
+use Rattle.iscsi_threads.specs.rules.Journal.{cids_in}
 use Rattle.iscsi_threads.proofs.OpenLemmas.{parts_none}
 use Rattle.iscsi_recording.specs.Recorded.{belongs_to}
-use Rattle.iscsi_replay.specs.Threaded.{headers}
+use Rattle.iscsi_replay.specs.promises.Threaded.{headers}
 use Rattle.iscsi_replay.proofs.RefusalLemmas.{each_belongs}
 use Rattle.iscsi_recording.proofs.SourceLemmas.{with_next, past_next}
 use Rattle.iscsi_replay.proofs.ThreadLemmas.{place_is, place_some, parts_arrive, parts_done}

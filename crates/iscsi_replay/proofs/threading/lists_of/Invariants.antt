@@ -1,7 +1,7 @@
 use Rattle.std.proofs.Common.{◌≡◌, ◌++◌, List, length, map}
 use Rattle.iscsi_rules.specs.declared.event.Event.{Event}
-use Rattle.iscsi_threads.specs.Journal.{cids_in, parts}
-use Rattle.iscsi_replay.specs.Threaded.{headers}
+use Rattle.iscsi_threads.specs.rules.Journal.{cids_in, parts}
+use Rattle.iscsi_replay.specs.promises.Threaded.{headers}
 use Rattle.iscsi_replay.proofs.threading.lists_of.Given as goal
 
 abbrev pub invariant-events : goal.invariant-events

@@ -1,5 +1,5 @@
 use Rattle.std.proofs.Common.{◌<◌, length, rules}
-use Rattle.iscsi_replay.specs.Threaded.{headers}
+use Rattle.iscsi_replay.specs.promises.Threaded.{headers}
 use Rattle.iscsi_threads.proofs.Lists.{map_grown}
 use Rattle.iscsi_replay.proofs.threading.push_at.Goals as goal
 

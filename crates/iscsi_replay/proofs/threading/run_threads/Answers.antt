@@ -1,7 +1,7 @@
 use Rattle.std.proofs.Common.{◌≡◌, ℕ, List, map, subst, rules, ap}
 use Rattle.std.specs.Prelude.{Err}
-use Rattle.iscsi_replay.specs.Threaded.{headers, IsJournalOf, ComesOfThreads}
-use Rattle.iscsi_threads.specs.Journal.{cids_in, parts}
+use Rattle.iscsi_replay.specs.promises.Threaded.{headers, IsJournalOf, ComesOfThreads}
+use Rattle.iscsi_threads.specs.rules.Journal.{cids_in, parts}
 use Rattle.iscsi_recording.specs.Recorded.{Recorded}
 use Rattle.iscsi_replay.proofs.ThreadLemmas.{ran_of, filled_of, stopped_for}
 use Rattle.iscsi_replay.proofs.threading.run_threads.Goals as goal

@@ -1,6 +1,6 @@
 use Rattle.std.proofs.Common.{◌≡◌, ◌∙◌, ◌∷◌, ◌++◌, [], List, ap, sym, rules}
 use Rattle.iscsi_threads.specs.declared.job.Job.{Job}
-use Rattle.iscsi_threads.specs.Desks.{seen}
+use Rattle.iscsi_threads.specs.rules.Desks.{seen}
 use Rattle.iscsi_threads.proofs.StraightLemmas.{job_goes_out, none_waits}
 use Rattle.iscsi_threads.proofs.desk.note_all.Goals as goal
 

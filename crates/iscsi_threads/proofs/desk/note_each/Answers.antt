@@ -3,7 +3,7 @@ use Rattle.std.proofs.lemmas.List.{take_more, drop_more}
 use Rattle.iscsi_rules.specs.declared.effect.Effect.{Effect}
 use Rattle.iscsi_rules.specs.declared.effect.Effect.TheVariants.{Deliver}
 use Rattle.iscsi_threads.specs.declared.job.Job.{Job}
-use Rattle.iscsi_threads.specs.Desks.{Known, seen, listed, job_at, jobs_from, known_after, EnterAbove}
+use Rattle.iscsi_threads.specs.rules.Desks.{Known, seen, listed, job_at, jobs_from, known_after, EnterAbove}
 use Rattle.iscsi_threads.proofs.DeskLemmas.{known_after-append, jobs_from-append, rest_above}
 use Rattle.iscsi_threads.proofs.desk.note_each.Goals as goal
 use Rattle.iscsi_threads.proofs.desk.note_each.Goals.{in-Some, in_default}

@@ -1,6 +1,6 @@
 use Rattle.std.proofs.Common.{◌≡◌, ◌+◌, ◌-◌, ◌≤◌, ◌++◌, take, drop, length}
 use Rattle.std.specs.VecDeque.{deque_len, deque_capacity}
-use Rattle.iscsi_threads.specs.Desks.{seen, jobs_from, known_after, EnterAbove}
+use Rattle.iscsi_threads.specs.rules.Desks.{seen, jobs_from, known_after, EnterAbove}
 use Rattle.iscsi_threads.proofs.desk.note_each.Given as goal
 
 abbrev pub invariant-loop-effect : goal.invariant-loop-effect

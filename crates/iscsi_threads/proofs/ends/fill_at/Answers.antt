@@ -1,4 +1,4 @@
-use Rattle.iscsi_threads.specs.Outlets.{given, heard, outlet_rings}
+use Rattle.iscsi_threads.specs.rules.Outlets.{given, heard, outlet_rings}
 use Rattle.iscsi_threads.proofs.Lists.{map_kept}
 use Rattle.iscsi_threads.proofs.ends.fill_at.Goals as goal
 

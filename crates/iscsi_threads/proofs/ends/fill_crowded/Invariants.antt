@@ -1,5 +1,5 @@
 use Rattle.std.proofs.Common.{◌≡◌, ◌≤◌, map, vec_len}
-use Rattle.iscsi_threads.specs.Outlets.{given, heard, outlet_rings}
+use Rattle.iscsi_threads.specs.rules.Outlets.{given, heard, outlet_rings}
 use Rattle.iscsi_threads.proofs.ends.fill_crowded.Given as goal
 
 abbrev pub invariant-loop : goal.invariant-loop

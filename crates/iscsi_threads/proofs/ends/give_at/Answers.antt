@@ -1,5 +1,5 @@
 use Rattle.std.proofs.Common.{◌≡◌, ◌<◌, length, rules}
-use Rattle.iscsi_threads.specs.Outlets.{given, heard, outlet_rings}
+use Rattle.iscsi_threads.specs.rules.Outlets.{given, heard, outlet_rings}
 use Rattle.iscsi_threads.proofs.Lists.{map_kept, map_grown, on_ok, if_err}
 use Rattle.iscsi_threads.proofs.ends.give_at.Goals as goal
 

@@ -1,6 +1,6 @@
 use Rattle.std.proofs.Common.{◌≡◌, ◌+◌, ◌++◌, map, vec_len, vec_capacity}
 use Rattle.std.specs.VecDeque.{deque_len}
-use Rattle.iscsi_threads.specs.Outcomes.{ticket_of}
+use Rattle.iscsi_threads.specs.promises.Outcomes.{ticket_of}
 use Rattle.iscsi_threads.proofs.finish.drain_backlog.Given as goal
 
 abbrev pub invariant-loop : goal.invariant-loop

@@ -3,8 +3,8 @@ use Rattle.std.proofs.lemmas.List.{nil_from_length}
 use Rattle.std.specs.VecDeque.{deque_len}
 use Rattle.std.specs.declared.alloc.Global.{Global}
 use Rattle.iscsi_threads.specs.declared.job.Job.{Job}
-use Rattle.iscsi_threads.specs.Journal.{jobs_of}
-use Rattle.iscsi_threads.specs.Outcomes.{ticket_of}
+use Rattle.iscsi_threads.specs.rules.Journal.{jobs_of}
+use Rattle.iscsi_threads.specs.promises.Outcomes.{ticket_of}
 use Rattle.iscsi_threads.proofs.Lists.{each_set}
 use Rattle.iscsi_threads.proofs.FinishLemmas.{noted_next, not_of}
 use Rattle.iscsi_threads.proofs.finish.drain_fresh.Goals as goal

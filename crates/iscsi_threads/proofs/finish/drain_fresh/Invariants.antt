@@ -1,9 +1,9 @@
 use Rattle.std.proofs.Common.{◌≡◌, ℕ, ◌+◌, ◌<◌, ◌++◌, length, map, slice_index_or, vec_len, Vec}
 use Rattle.std.specs.VecDeque.{deque_len}
 use Rattle.std.specs.declared.alloc.Global.{Global}
-use Rattle.iscsi_threads.specs.Journal.{jobs_of}
-use Rattle.iscsi_threads.specs.Outcomes.{ticket_of}
-use Rattle.iscsi_threads.specs.Finishing.{HaveRoom}
+use Rattle.iscsi_threads.specs.rules.Journal.{jobs_of}
+use Rattle.iscsi_threads.specs.promises.Outcomes.{ticket_of}
+use Rattle.iscsi_threads.specs.private.Finishing.{HaveRoom}
 use Rattle.iscsi_threads.proofs.finish.drain_fresh.Given as goal
 
 abbrev pub invariant-loop : goal.invariant-loop

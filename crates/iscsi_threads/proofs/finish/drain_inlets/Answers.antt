@@ -1,6 +1,6 @@
 use Rattle.std.proofs.Common.{◌<◌, ◌≤◌, ◌∙◌, ap, sym, length, rules, arith}
-use Rattle.iscsi_threads.specs.Ports.{port_ring}
-use Rattle.iscsi_threads.specs.Outlets.{inlet_ring}
+use Rattle.iscsi_threads.specs.rules.Ports.{port_ring}
+use Rattle.iscsi_threads.specs.rules.Outlets.{inlet_ring}
 use Rattle.iscsi_threads.proofs.Lists.{map_at}
 use Rattle.iscsi_threads.proofs.FinishLemmas.{pair_of}
 use Rattle.iscsi_threads.proofs.finish.drain_inlets.Goals as goal

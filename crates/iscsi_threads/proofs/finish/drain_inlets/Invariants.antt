@@ -2,7 +2,7 @@ use Rattle.std.proofs.Common.{◌≡◌, ℕ, ◌≤◌, List, slice_index_or, v
 use Rattle.std.specs.declared.alloc.Global.{Global}
 use Rattle.iscsi_threads.specs.declared.port.Port.{Port}
 use Rattle.iscsi_threads.specs.declared.inlet.Inlet.{Inlet}
-use Rattle.iscsi_threads.specs.Finishing.{HeadersLeft}
+use Rattle.iscsi_threads.specs.private.Finishing.{HeadersLeft}
 use Rattle.iscsi_threads.proofs.finish.drain_inlets.Given as goal
 
 abbrev pub invariant-loop-i : goal.invariant-loop-i

@@ -1,6 +1,6 @@
 use Rattle.std.proofs.Common.{◌≡◌, ◌+◌, ◌++◌, ◌≤◌, length, map, vec_len, vec_capacity}
 use Rattle.rtrb.specs.Ring.{sent, received, known_items, consumer_capacity}
-use Rattle.iscsi_threads.specs.Outcomes.{ticket_of}
+use Rattle.iscsi_threads.specs.promises.Outcomes.{ticket_of}
 use Rattle.iscsi_threads.proofs.finish.drain_jobs.Given as goal
 
 abbrev pub invariant-loop : goal.invariant-loop

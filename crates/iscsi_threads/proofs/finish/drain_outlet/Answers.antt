@@ -1,5 +1,5 @@
 use Rattle.rtrb.specs.Ring.{sent}
-use Rattle.iscsi_threads.specs.Ports.{taken}
+use Rattle.iscsi_threads.specs.rules.Ports.{taken}
 use Rattle.iscsi_threads.proofs.FinishLemmas.{prefix_append}
 use Rattle.iscsi_threads.proofs.finish.drain_outlet.Goals as goal
 

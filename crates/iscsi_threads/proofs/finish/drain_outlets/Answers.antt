@@ -3,9 +3,9 @@ use Rattle.std.proofs.lemmas.List.{get_or-set_other, get_or-set_same}
 use Rattle.std.specs.declared.alloc.Global.{Global}
 use Rattle.iscsi_threads.specs.declared.port.UnitPort.{UnitPort}
 use Rattle.iscsi_threads.specs.declared.outlet.Outlet.{Outlet}
-use Rattle.iscsi_threads.specs.Ports.{Answer, unit_rings}
-use Rattle.iscsi_threads.specs.Outlets.{outlet_rings}
-use Rattle.iscsi_threads.specs.Finishing.{UnitLeft}
+use Rattle.iscsi_threads.specs.rules.Ports.{Answer, unit_rings}
+use Rattle.iscsi_threads.specs.rules.Outlets.{outlet_rings}
+use Rattle.iscsi_threads.specs.private.Finishing.{UnitLeft}
 use Rattle.iscsi_threads.proofs.Lists.{map_at, get_same}
 use Rattle.iscsi_threads.proofs.finish.drain_outlets.Goals as goal
 

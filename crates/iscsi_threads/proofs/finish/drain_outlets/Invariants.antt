@@ -2,8 +2,8 @@ use Rattle.std.proofs.Common.{◌≡◌, ℕ, ◌≤◌, slice_index_or, vec_len
 use Rattle.std.specs.declared.alloc.Global.{Global}
 use Rattle.iscsi_threads.specs.declared.port.UnitPort.{UnitPort}
 use Rattle.iscsi_threads.specs.declared.outlet.Outlet.{Outlet}
-use Rattle.iscsi_threads.specs.Ports.{Answer}
-use Rattle.iscsi_threads.specs.Finishing.{UnitsLeft}
+use Rattle.iscsi_threads.specs.rules.Ports.{Answer}
+use Rattle.iscsi_threads.specs.private.Finishing.{UnitsLeft}
 use Rattle.iscsi_threads.proofs.finish.drain_outlets.Given as goal
 
 abbrev pub invariant-loop-i : goal.invariant-loop-i

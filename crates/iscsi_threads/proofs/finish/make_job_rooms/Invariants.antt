@@ -1,5 +1,5 @@
 use Rattle.std.proofs.Common.{◌≡◌, ◌≤◌, length, vec_len, vec_capacity}
-use Rattle.iscsi_threads.specs.Finishing.{AllReadyFor}
+use Rattle.iscsi_threads.specs.private.Finishing.{AllReadyFor}
 use Rattle.iscsi_threads.proofs.finish.make_job_rooms.Given as goal
 
 abbrev pub invariant-loop-outlet : goal.invariant-loop-outlet

@@ -1,5 +1,5 @@
 use Rattle.std.proofs.Common.{◌≡◌, ◌≤◌, vec_len, vec_capacity}
-use Rattle.iscsi_threads.specs.Finishing.{AllReady}
+use Rattle.iscsi_threads.specs.private.Finishing.{AllReady}
 use Rattle.iscsi_threads.proofs.finish.make_rooms.Given as goal
 
 abbrev pub invariant-loop : goal.invariant-loop

@@ -2,7 +2,7 @@ use Rattle.std.specs.Prelude.{refl}
 use Rattle.std.proofs.Common.{◌≡◌, ◌∙◌, ap, sym, subst, rules, [], length, replicate}
 use Rattle.iscsi_rules.specs.rules.Settings.{Setting}
 use Rattle.iscsi_session.specs.promises.Settings.{setting_of}
-use Rattle.iscsi_threads.specs.Journal.{cids_of, parts, AllDiffer}
+use Rattle.iscsi_threads.specs.rules.Journal.{cids_of, parts, AllDiffer}
 use Rattle.iscsi_session.specs.private.Standing.{StandsFor}
 use Rattle.iscsi_threads.proofs.OpenLemmas.{Limits, limits, parts_none, range_none, differ_of}
 use Rattle.iscsi_threads.proofs.opening.make.Goals as goal

@@ -1,6 +1,6 @@
 use Rattle.std.proofs.Common.{◌≡◌, ◌≤◌, [], map, replicate, vec_len, vec_capacity}
-use Rattle.iscsi_threads.specs.Ports.{posted, port_ring}
-use Rattle.iscsi_threads.specs.Outlets.{got, inlet_ring}
+use Rattle.iscsi_threads.specs.rules.Ports.{posted, port_ring}
+use Rattle.iscsi_threads.specs.rules.Outlets.{got, inlet_ring}
 use Rattle.iscsi_threads.proofs.opening.make_inlets.Given as goal
 
 abbrev pub invariant-loop-place : goal.invariant-loop-place

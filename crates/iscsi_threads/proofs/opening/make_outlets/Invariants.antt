@@ -1,6 +1,6 @@
 use Rattle.std.proofs.Common.{◌≡◌, ◌≤◌, [], map, replicate, vec_len, vec_capacity}
-use Rattle.iscsi_threads.specs.Ports.{taken, answered, unit_rings}
-use Rattle.iscsi_threads.specs.Outlets.{given, heard, outlet_rings}
+use Rattle.iscsi_threads.specs.rules.Ports.{taken, answered, unit_rings}
+use Rattle.iscsi_threads.specs.rules.Outlets.{given, heard, outlet_rings}
 use Rattle.iscsi_threads.proofs.opening.make_outlets.Given as goal
 
 abbrev pub invariant-loop-unit : goal.invariant-loop-unit

@@ -4,7 +4,7 @@ use Rattle.std.specs.declared.thread.PromisedHandle.{PromisedHandle}
 use Rattle.iscsi_threads.specs.declared.port.Port.{Port}
 use Rattle.iscsi_threads.specs.declared.posting.Posted.{Posted}
 use Rattle.iscsi_threads.specs.declared.posting.Posts.{Posts}
-use Rattle.iscsi_threads.specs.Posting.{HasPosted}
+use Rattle.iscsi_threads.specs.private.Posting.{HasPosted}
 use Rattle.iscsi_threads.proofs.PostLemmas.{less_whole}
 use Rattle.iscsi_threads.proofs.Steps.{next_of, rest_of}
 use Rattle.iscsi_threads.proofs.posting.join_posts.Goals as goal

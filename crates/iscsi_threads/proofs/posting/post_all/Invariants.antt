@@ -1,5 +1,5 @@
 use Rattle.std.proofs.Common.{◌≡◌, ◌++◌, take}
-use Rattle.iscsi_threads.specs.Ports.{posted, port_ring}
+use Rattle.iscsi_threads.specs.rules.Ports.{posted, port_ring}
 use Rattle.iscsi_threads.proofs.posting.post_all.Given as goal
 
 abbrev pub invariant-loop-header : goal.invariant-loop-header

@@ -2,8 +2,8 @@ use Rattle.std.proofs.Common.{◌≡◌, ◌<◌, ◌≤◌, ◌∙◌, ℕ, sym
 use Rattle.std.specs.Prelude.{IsTrue}
 use Rattle.iscsi_threads.specs.declared.port.Port.{Port}
 use Rattle.iscsi_threads.specs.declared.inlet.Inlet.{Inlet}
-use Rattle.iscsi_threads.specs.Ports.{posted, port_ring}
-use Rattle.iscsi_threads.specs.Outlets.{got, inlet_ring}
+use Rattle.iscsi_threads.specs.rules.Ports.{posted, port_ring}
+use Rattle.iscsi_threads.specs.rules.Outlets.{got, inlet_ring}
 use Rattle.iscsi_threads.proofs.Lists.{map_at, some_of, same_length}
 use Rattle.iscsi_threads.proofs.ServeLemmas.{pairwise}
 use Rattle.iscsi_threads.proofs.quiet.are_empty.Goals as goal

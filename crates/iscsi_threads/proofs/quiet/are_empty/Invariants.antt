@@ -1,8 +1,8 @@
 use Rattle.std.proofs.Common.{◌≡◌, ◌<◌, ℕ, map, vec_len, get_or}
 use Rattle.iscsi_threads.specs.declared.port.Port.{Port}
 use Rattle.iscsi_threads.specs.declared.inlet.Inlet.{Inlet}
-use Rattle.iscsi_threads.specs.Ports.{posted, port_ring}
-use Rattle.iscsi_threads.specs.Outlets.{got, inlet_ring}
+use Rattle.iscsi_threads.specs.rules.Ports.{posted, port_ring}
+use Rattle.iscsi_threads.specs.rules.Outlets.{got, inlet_ring}
 use Rattle.iscsi_threads.proofs.quiet.are_empty.Given as goal
 
 abbrev pub invariant-loop-place : goal.invariant-loop-place

@@ -1,6 +1,6 @@
 use Rattle.std.proofs.Common.{◌∙◌, ◌<◌, ap, sym, length, rules}
-use Rattle.iscsi_threads.specs.Ports.{posted, port_ring}
-use Rattle.iscsi_threads.specs.Outlets.{got, inlet_ring}
+use Rattle.iscsi_threads.specs.rules.Ports.{posted, port_ring}
+use Rattle.iscsi_threads.specs.rules.Outlets.{got, inlet_ring}
 use Rattle.iscsi_threads.proofs.Lists.{map_kept, map_at, get_same}
 use Rattle.iscsi_threads.proofs.quiet.is_empty_at.Goals as goal
 

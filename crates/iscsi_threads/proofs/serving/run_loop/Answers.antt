@@ -1,6 +1,6 @@
 use Rattle.std.proofs.Common.{◌≡◌, ◌∙◌, ap, sym, refl, rules, length, vec_len, true, false}
 use Rattle.std.proofs.lemmas.Bool.{false≢true}
-use Rattle.iscsi_threads.specs.Serving.{is_quiet}
+use Rattle.iscsi_threads.specs.promises.Serving.{is_quiet}
 use Rattle.iscsi_threads.proofs.ServeLemmas.{posted_less}
 use Rattle.iscsi_threads.proofs.serving.run_loop.Goals as goal
 

@@ -4,10 +4,10 @@ use Rattle.iscsi_rules.specs.rules.Settings.{Setting, is_valid}
 use Rattle.iscsi_session.specs.promises.Settings.{setting_of}
 use Rattle.iscsi_threads.specs.declared.serving.End.{End}
 use Rattle.iscsi_threads.specs.declared.serving.End.TheVariants.{Full}
-use Rattle.iscsi_threads.specs.Loops.{Opened, setting}
-use Rattle.iscsi_threads.specs.Serving.{Together}
-use Rattle.iscsi_threads.specs.Full.{FillsJournal}
-use Rattle.iscsi_threads.specs.Ports.{posted}
+use Rattle.iscsi_threads.specs.rules.Loops.{Opened, setting}
+use Rattle.iscsi_threads.specs.promises.Serving.{Together}
+use Rattle.iscsi_threads.specs.promises.Full.{FillsJournal}
+use Rattle.iscsi_threads.specs.rules.Ports.{posted}
 use Rattle.iscsi_threads.proofs.ServedLemmas.{fits_opened, full_of}
 use Rattle.iscsi_threads.proofs.serving.run_threads.Goals as goal
 

@@ -1,8 +1,8 @@
 use Rattle.std.proofs.Common.{◌≡◌, sym, subst}
 use Rattle.iscsi_rules.specs.rules.Settings.{Setting}
 use Rattle.iscsi_session.specs.promises.Settings.{setting_of}
-use Rattle.iscsi_threads.specs.Loops.{setting}
-use Rattle.iscsi_threads.specs.Serving.{Ran}
+use Rattle.iscsi_threads.specs.rules.Loops.{setting}
+use Rattle.iscsi_threads.specs.promises.Serving.{Ran}
 use Rattle.iscsi_threads.proofs.ServedLemmas.{served_by}
 use Rattle.iscsi_threads.proofs.serving.serve_unlogged.Goals as goal
 

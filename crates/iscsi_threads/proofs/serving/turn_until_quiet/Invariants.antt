@@ -1,6 +1,6 @@
 use Rattle.std.proofs.Common.{◌≡◌, map}
-use Rattle.iscsi_threads.specs.Ports.{posted, port_ring}
-use Rattle.iscsi_threads.specs.Loops.{SameLoop}
+use Rattle.iscsi_threads.specs.rules.Ports.{posted, port_ring}
+use Rattle.iscsi_threads.specs.rules.Loops.{SameLoop}
 use Rattle.iscsi_threads.proofs.serving.turn_until_quiet.Given as goal
 
 abbrev pub invariant-loop : goal.invariant-loop

@@ -1,4 +1,4 @@
-use Rattle.iscsi_threads.specs.Loops.{SameLoop}
+use Rattle.iscsi_threads.specs.rules.Loops.{SameLoop}
 use Rattle.iscsi_threads.proofs.serving.turn_while_posting.Given as goal
 
 abbrev pub invariant-loop : goal.invariant-loop

@@ -1,8 +1,8 @@
 use Rattle.std.proofs.Common.{◌≡◌, ◌<◌, [], ◌∙◌, ap, sym, rules, arith, length, vec_len, map}
 use Rattle.std.proofs.lemmas.List.{length-map, length-replicate}
-use Rattle.iscsi_threads.specs.Ports.{taken, port_ring, unit_rings}
-use Rattle.iscsi_threads.specs.Promises.{AllPosts, AllWorks}
-use Rattle.iscsi_threads.specs.Serving.{is_quiet}
+use Rattle.iscsi_threads.specs.rules.Ports.{taken, port_ring, unit_rings}
+use Rattle.iscsi_threads.specs.private.Promises.{AllPosts, AllWorks}
+use Rattle.iscsi_threads.specs.promises.Serving.{is_quiet}
 use Rattle.iscsi_threads.proofs.Lists.{same_length}
 use Rattle.iscsi_threads.proofs.ServeLemmas.{none_answered, PostsBack, posts_back, ListsPosted, lists_posted, WorksBack, works_back}
 use Rattle.iscsi_threads.proofs.serving.within.Goals as goal

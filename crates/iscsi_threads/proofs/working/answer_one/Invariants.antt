@@ -1,5 +1,5 @@
 use Rattle.std.proofs.Common.{◌≡◌}
-use Rattle.iscsi_threads.specs.Ports.{taken, answered, unit_rings}
+use Rattle.iscsi_threads.specs.rules.Ports.{taken, answered, unit_rings}
 use Rattle.iscsi_threads.proofs.working.answer_one.Given as goal
 
 abbrev pub invariant-loop : goal.invariant-loop

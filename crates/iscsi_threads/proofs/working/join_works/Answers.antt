@@ -3,8 +3,8 @@ use Rattle.std.specs.Vec.Iter.{into_iter_items}
 use Rattle.std.specs.declared.thread.PromisedHandle.{PromisedHandle}
 use Rattle.iscsi_threads.specs.declared.port.UnitPort.{UnitPort}
 use Rattle.iscsi_threads.specs.declared.working.Works.{Works}
-use Rattle.iscsi_threads.specs.Ports.{unit_rings}
-use Rattle.iscsi_threads.specs.Works.{InTurn}
+use Rattle.iscsi_threads.specs.rules.Ports.{unit_rings}
+use Rattle.iscsi_threads.specs.rules.Works.{InTurn}
 use Rattle.iscsi_threads.proofs.Steps.{next_of, rest_of}
 use Rattle.iscsi_threads.proofs.working.join_works.Goals as goal
 

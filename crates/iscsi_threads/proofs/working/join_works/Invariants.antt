@@ -1,6 +1,6 @@
 use Rattle.std.proofs.Common.{◌≡◌, ◌+◌, ◌≤◌, drop, vec_len, vec_capacity}
 use Rattle.std.specs.Vec.Iter.{into_iter_items, into_iter_len}
-use Rattle.iscsi_threads.specs.Promises.{AllWorkedOn}
+use Rattle.iscsi_threads.specs.private.Promises.{AllWorkedOn}
 use Rattle.iscsi_threads.proofs.working.join_works.Given as goal
 
 abbrev pub invariant-loop-handle : goal.invariant-loop-handle

@@ -1,8 +1,8 @@
 use Rattle.std.proofs.Common.{◌++◌, ◌∷◌, [], ◌∙◌, List, ℕ, ap, sym, map}
 use Rattle.std.proofs.lemmas.List.{map-append}
-use Rattle.iscsi_threads.specs.Ports.{taken}
-use Rattle.iscsi_threads.specs.Outcomes.{ticket_of}
-use Rattle.iscsi_threads.specs.Works.{ticket_answered}
+use Rattle.iscsi_threads.specs.rules.Ports.{taken}
+use Rattle.iscsi_threads.specs.promises.Outcomes.{ticket_of}
+use Rattle.iscsi_threads.specs.rules.Works.{ticket_answered}
 use Rattle.iscsi_threads.proofs.working.work_all.Goals as goal
 
 -- the job in hand is the last one that was taken

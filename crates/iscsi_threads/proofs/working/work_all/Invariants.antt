@@ -1,7 +1,7 @@
 use Rattle.std.proofs.Common.{◌≡◌, map}
-use Rattle.iscsi_threads.specs.Ports.{taken, answered, unit_rings}
-use Rattle.iscsi_threads.specs.Outcomes.{ticket_of}
-use Rattle.iscsi_threads.specs.Works.{ticket_answered}
+use Rattle.iscsi_threads.specs.rules.Ports.{taken, answered, unit_rings}
+use Rattle.iscsi_threads.specs.promises.Outcomes.{ticket_of}
+use Rattle.iscsi_threads.specs.rules.Works.{ticket_answered}
 use Rattle.iscsi_threads.proofs.working.work_all.Given as goal
 
 abbrev pub invariant-loop : goal.invariant-loop

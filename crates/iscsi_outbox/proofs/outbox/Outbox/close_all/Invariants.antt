@@ -1,6 +1,6 @@
 use Rattle.std.proofs.Common.{◌≡◌, drop}
 use Rattle.iscsi_outbox_steps.specs.Steps.{counted_from}
-use Rattle.iscsi_outbox.specs.Walks.{close_where}
+use Rattle.iscsi_outbox.specs.private.Walks.{close_where}
 use Rattle.iscsi_outbox.proofs.outbox.Outbox.close_all.Given as goal
 
 abbrev pub invariant-loop-conn : goal.invariant-loop-conn

@@ -1,6 +1,6 @@
 use Rattle.std.proofs.Common.{◌≡◌, drop, length}
 use Rattle.iscsi_outbox_steps.specs.Steps.{closed_in}
-use Rattle.iscsi_outbox.specs.Walks.{close_where}
+use Rattle.iscsi_outbox.specs.private.Walks.{close_where}
 use Rattle.iscsi_outbox.proofs.outbox.Outbox.close_each.Given as goal
 
 abbrev pub invariant-loop-effect : goal.invariant-loop-effect

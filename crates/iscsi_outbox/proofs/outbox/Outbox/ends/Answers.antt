@@ -2,7 +2,7 @@ use Rattle.std.proofs.Common.{◌≡◌, ℕ, Option, Some, None, refl, sym, ap,
 use Rattle.iscsi_wire.specs.declared.reply.Reply.{Reply}
 use Rattle.iscsi_outbox_steps.specs.State.{State, place_of}
 use Rattle.iscsi_outbox_steps.specs.Steps.{closed_in, newly_closed}
-use Rattle.iscsi_outbox.specs.Walks.{ends_with}
+use Rattle.iscsi_outbox.specs.private.Walks.{ends_with}
 use Rattle.iscsi_outbox.proofs.SendLemmas.{ends_at, ends_nowhere, place_is}
 use Rattle.iscsi_outbox.proofs.outbox.Outbox.ends.Goals as goal
 

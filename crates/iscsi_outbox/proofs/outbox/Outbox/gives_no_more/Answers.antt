@@ -1,7 +1,7 @@
 use Rattle.std.proofs.Common.{◌≡◌, true, false, not, Some, is_some, option_map, sym, ap, ◌∙◌}
 use Rattle.iscsi_outbox_steps.specs.State.{State, is_over, place_of}
 use Rattle.iscsi_outbox_steps.specs.Steps.{chosen}
-use Rattle.iscsi_outbox.specs.Choices.{choice_of}
+use Rattle.iscsi_outbox.specs.private.Choices.{choice_of}
 use Rattle.iscsi_outbox.proofs.AskLemmas.{beside, gives_no_more_at, turned, without}
 use Rattle.iscsi_outbox.proofs.outbox.Outbox.gives_no_more.Goals as goal
 

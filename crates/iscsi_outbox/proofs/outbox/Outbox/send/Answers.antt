@@ -2,7 +2,7 @@ use Rattle.std.proofs.Common.{ℕ, Option, sym, ap, ◌∙◌}
 use Rattle.iscsi_wire.specs.declared.reply.Reply.{Reply}
 use Rattle.iscsi_outbox_state.specs.declared.waiting.SentReply.{SentReply}
 use Rattle.iscsi_outbox_steps.specs.Steps.{counted, send, send_placed}
-use Rattle.iscsi_outbox.specs.Walks.{ends_with}
+use Rattle.iscsi_outbox.specs.private.Walks.{ends_with}
 use Rattle.iscsi_outbox.proofs.outbox.Outbox.send.Goals as goal
 
 pub returns : goal.returns

@@ -2,7 +2,7 @@ use Rattle.std.proofs.Common.{Some, sym, ap, ◌∙◌}
 use Rattle.iscsi_tracked.specs.declared.command.Phase.TheVariants.{Fresh, Started}
 use Rattle.iscsi_outbox_steps.specs.State.{State}
 use Rattle.iscsi_outbox_steps.specs.Steps.{in_phase_if, is_dormant, is_fresh, settle}
-use Rattle.iscsi_outbox.specs.Walks.{entered_one}
+use Rattle.iscsi_outbox.specs.private.Walks.{entered_one}
 use Rattle.iscsi_outbox.proofs.CloseLemmas.{close_nothing}
 use Rattle.iscsi_outbox.proofs.CommonestLemmas.{fresh_if, started_if}
 use Rattle.iscsi_outbox.proofs.outbox.Outbox.take_command.Goals as goal

@@ -1,7 +1,7 @@
 use Rattle.std.proofs.Common.{Bool, [], None, sym, ap, ◌∙◌}
 use Rattle.iscsi_outbox_steps.specs.State.{State}
 use Rattle.iscsi_outbox_steps.specs.Steps.{counted, leave_one, placed, send_placed, settle}
-use Rattle.iscsi_outbox.specs.Walks.{is_numbered_of}
+use Rattle.iscsi_outbox.specs.private.Walks.{is_numbered_of}
 use Rattle.iscsi_outbox.proofs.CommonestLemmas.{or_none}
 use Rattle.iscsi_outbox.proofs.outbox.Outbox.take_completion.Goals as goal
 

@@ -1,6 +1,6 @@
 use Rattle.std.proofs.Common.{List, sym, ap, ◌∙◌}
 use Rattle.iscsi_rules.specs.declared.effect.Effect.{Effect}
-use Rattle.iscsi_outbox.specs.Walks.{after_event}
+use Rattle.iscsi_outbox.specs.private.Walks.{after_event}
 use Rattle.iscsi_outbox.proofs.CommonestLemmas.{three_of, two_of}
 use Rattle.iscsi_outbox.proofs.outbox.Outbox.take_event.Goals as goal
 

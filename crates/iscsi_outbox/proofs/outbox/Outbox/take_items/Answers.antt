@@ -2,7 +2,7 @@ use Rattle.std.proofs.Common.{ℕ, ◌+◌, drop, slice_range, sym, ap, ◌∙�
 use Rattle.iscsi_rules.specs.promises.Order.{in_parts}
 use Rattle.iscsi_outbox_steps.specs.State.{State}
 use Rattle.iscsi_outbox_steps.specs.Steps.{after_items}
-use Rattle.iscsi_outbox.specs.Walks.{before_parts}
+use Rattle.iscsi_outbox.specs.private.Walks.{before_parts}
 use Rattle.iscsi_outbox.proofs.WalkLemmas.{begins, goes_on, none_walked}
 use Rattle.iscsi_outbox.proofs.outbox.Outbox.take_items.Goals as goal
 use Rattle.iscsi_outbox.proofs.outbox.Outbox.take_items.Goals.{then-is_request, else-is_request}

@@ -1,7 +1,7 @@
 use Rattle.std.proofs.Common.{◌≡◌, ◌≤◌, drop, slice_range}
 use Rattle.iscsi_rules.specs.promises.Order.{in_parts}
 use Rattle.iscsi_outbox_steps.specs.Steps.{after_items}
-use Rattle.iscsi_outbox.specs.Walks.{before_parts}
+use Rattle.iscsi_outbox.specs.private.Walks.{before_parts}
 use Rattle.iscsi_outbox.proofs.outbox.Outbox.take_items.Given as goal
 
 abbrev pub invariant-loop-at : goal.invariant-loop-at

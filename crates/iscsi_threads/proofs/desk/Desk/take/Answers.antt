@@ -1,7 +1,7 @@
 use Rattle.std.proofs.Common.{◌≡◌, ◌<◌, ◌∙◌, sym, length, position, Some, None, arith}
 use Rattle.std.proofs.lemmas.List.Quantifiers.{position-Some}
 use Rattle.iscsi_rules.proofs.general.PlaceLemmas.{found_there, found_nowhere}
-use Rattle.iscsi_threads.specs.Desks.{is_for}
+use Rattle.iscsi_threads.specs.rules.Desks.{is_for}
 use Rattle.iscsi_threads.proofs.DeskLemmas.{some_job}
 use Rattle.iscsi_threads.proofs.desk.Desk.take.Goals as goal
 

@@ -1,5 +1,5 @@
 use Rattle.std.proofs.Common.{◌≡◌, ℕ, ◌+◌, ◌<◌}
-use Rattle.iscsi_threads.specs.Watched.{mark}
+use Rattle.iscsi_threads.specs.private.Watched.{mark}
 use Rattle.iscsi_threads.proofs.ends.Watch.look_everywhere.Given as goal
 
 abbrev pub invariant-loop-conn : goal.invariant-loop-conn

@@ -3,11 +3,11 @@ use Rattle.std.specs.List.{range_with_len}
 use Rattle.std.proofs.lemmas.List.{length-map, map-append}
 use Rattle.iscsi_rules.specs.rules.Run.{run_of}
 use Rattle.iscsi_session.specs.promises.Settings.{setting_of}
-use Rattle.iscsi_threads.specs.Ports.{Answer, port_ring, unit_rings, taken}
-use Rattle.iscsi_threads.specs.Outlets.{inlet_ring, outlet_rings, got, given, heard}
-use Rattle.iscsi_threads.specs.Journal.{cids_of, part, jobs_of, done, are_sources}
-use Rattle.iscsi_threads.specs.Jobs.{jobs}
-use Rattle.iscsi_threads.specs.Outcomes.{ticket_of}
+use Rattle.iscsi_threads.specs.rules.Ports.{Answer, port_ring, unit_rings, taken}
+use Rattle.iscsi_threads.specs.rules.Outlets.{inlet_ring, outlet_rings, got, given, heard}
+use Rattle.iscsi_threads.specs.rules.Journal.{cids_of, part, jobs_of, done, are_sources}
+use Rattle.iscsi_threads.specs.rules.Jobs.{jobs}
+use Rattle.iscsi_threads.specs.promises.Outcomes.{ticket_of}
 use Rattle.iscsi_threads.proofs.Lists.{map_at, some_of, same_length}
 use Rattle.iscsi_threads.proofs.Journals.{zero_range_get, range_length}
 use Rattle.iscsi_threads.proofs.FinishLemmas.{jobs_at, prefix_append}

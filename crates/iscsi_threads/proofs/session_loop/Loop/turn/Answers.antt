@@ -12,11 +12,11 @@ use Rattle.iscsi_session.specs.promises.Bounds.{effect_bound_of}
 use Rattle.iscsi_threads.proofs.Journals.{heads_after, dones_after, source_of_polled, sources_snoc, range_length}
 use Rattle.iscsi_threads.proofs.Turning.{belongs_polled, taken_next, only_memory, cut_after, cut_within, known_next, jobs_after}
 use Rattle.iscsi_threads.specs.declared.job.Job.{Job}
-use Rattle.iscsi_threads.specs.Desks.{seen, jobs_from, EnterAbove}
+use Rattle.iscsi_threads.specs.rules.Desks.{seen, jobs_from, EnterAbove}
 use Rattle.iscsi_threads.proofs.DormantLemmas.{enters_above}
-use Rattle.iscsi_threads.specs.Ends.{Polled}
-use Rattle.iscsi_threads.specs.Journal.{cids_of, parts, dones}
-use Rattle.iscsi_threads.specs.Outlets.{given, heard, got}
+use Rattle.iscsi_threads.specs.private.Ends.{Polled}
+use Rattle.iscsi_threads.specs.rules.Journal.{cids_of, parts, dones}
+use Rattle.iscsi_threads.specs.rules.Outlets.{given, heard, got}
 use Rattle.iscsi_threads.proofs.session_loop.Loop.turn.Goals as goal
 
 pub unreachable-requires : goal.unreachable-requires

@@ -1,0 +1,2 @@
+-- Worked lists of what a host does.
+pub mod Rows

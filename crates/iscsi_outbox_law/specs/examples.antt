@@ -1,0 +1,2 @@
+-- Worked lists that the rules and the steps answer alike.
+pub mod Rows

@@ -1,0 +1,3 @@
+-- What a call answers, and how many PDUs go out.
+pub mod Said
+pub mod Room

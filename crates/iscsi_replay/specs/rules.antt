@@ -1,0 +1,2 @@
+-- The exit status of each end of the program.
+pub mod Stops

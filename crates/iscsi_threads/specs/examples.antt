@@ -1,0 +1,2 @@
+-- Worked recordings.
+pub mod JobRows
