@@ -1,12 +1,12 @@
 -- A connection's place, and the table that tells it.
 use Rattle.std.proofs.Common.{◌≡◌, ℕ, zero, suc, ◌+◌, ◌<◌, ◌≤◌, ◌==◌, cond, Bool, true, false, List, [], ◌∷◌, length, map, get_or, position, Some, None, refl, ap, sym, arith}
 use Rattle.std.proofs.lemmas.Bool.Decides.{nat_tests}
-use Rattle.std.proofs.lemmas.Bool.{or_parts, lt-ltb}
+use Rattle.std.proofs.lemmas.Bool.{false≢true, or_parts, lt-ltb}
 use Rattle.std.proofs.lemmas.List.{get_or-map, get_or_default, length-map}
 use Rattle.std.proofs.lemmas.List.Sums.{position_or_len_is}
-use Rattle.std.specs.List.{list_any}
-use Rattle.std.specs.Prelude.{is_some}
-use Rattle.iscsi_rules.specs.rules.Settings.{is_known, are_distinct}
+use Rattle.std.specs.List.{list_any, position_or_len}
+use Rattle.std.specs.Prelude.{is_some, IsSome}
+use Rattle.iscsi_wire.specs.Cids.{is_known, are_distinct}
 use Rattle.iscsi_connections.specs.declared.connections.Connection.{Connection}
 use Rattle.iscsi_connections.specs.Placed.{cid_and_stat_sn, TellsPlaces, ArePlaced}
 
@@ -25,6 +25,14 @@ position_nowhere p (x ∷ xs) none = grind (arith, nat_tests, position_nowhere p
 pub known_by_place : (p : ℕ × ℕ → Bool) (xs : List (ℕ × ℕ)) → is_some (position p xs) ≡ list_any p xs
 known_by_place p [] = refl
 known_by_place p (x ∷ xs) = grind (arith, nat_tests, known_by_place p xs)
+
+-- where some element passes, there is a first that does
+first_place : {A : Type 0} (p : A → Bool) (xs : List A) → list_any p xs ≡ true → position_or_len p xs < length xs
+first_place p [] h = absurd (false≢true h)
+first_place p (x ∷ xs) h = grind (arith, first_place p xs)
+
+pub IsSome-position : {A : Type 0} (p : A → Bool) (xs : List A) → list_any p xs ≡ true → IsSome (position p xs)
+IsSome-position p xs h = grind (arith, first_place)
 
 -- ---- what the table tells
 

@@ -1,7 +1,6 @@
 -- What the session's other parts see of the connections, after one of them changed.
 use Rattle.std.proofs.Common.{◌≡◌, ℕ, zero, suc, ◌<◌, List, [], ◌∷◌, length, map, get_or, set, Option, refl, ap, arith}
 use Rattle.std.proofs.lemmas.List.{get_or-map, length-map}
-use Rattle.iscsi_rules.proofs.general.ListLemmas.{map-map}
 use Rattle.iscsi_connections.specs.declared.connections.Connection.{Connection}
 use Rattle.iscsi_connections.specs.Connected.{Connected, opened, still_open}
 use Rattle.iscsi_connections.specs.Placed.{cid_and_stat_sn, cids_of, open_in, connected, new_connection, closed_in, ArePlaced}
@@ -30,6 +29,10 @@ open_set (c ∷ list) zero new cid_is open_is = grind arith
 open_set (c ∷ list) (suc k) new cid_is open_is = grind (arith, open_set list k new)
 
 -- ---- closing
+
+map-map : {A B C : Type 0} (g : B → C) (f : A → B) (xs : List A) → map g (map f xs) ≡ map (λ x. g (f x)) xs
+map-map g f [] = refl
+map-map g f (x ∷ xs) = ap (λ ys. g (f x) ∷ ys) (map-map g f xs)
 
 pub cids_closed : (whose : Option ℕ) (list : List Connection) → cids_of (map (closed_in whose) list) ≡ cids_of list
 cids_closed whose list = map-map (λ (c : Connection). c.cid) (closed_in whose) list

@@ -29,6 +29,10 @@ counted_on cid [] counts = 0
 counted_on cid (conn ∷ conns) [] = 0
 counted_on cid (conn ∷ conns) (n ∷ counts) = if conn.0 == cid then n else counted_on cid conns counts
 
+-- the most live immediate commands of a connection
+abbrev pub MOST : ℕ
+MOST = 8
+
 -- a connection isn't closed
 abbrev pub is_among_open : ℕ → List ℕ → Bool
 is_among_open conn conns = list_any (λ c. c == conn) conns

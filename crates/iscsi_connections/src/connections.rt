@@ -2,9 +2,8 @@
 
 ghost use Rattle.std.specs.Prelude.{◌≡◌, ◌==◌, ◌+◌, ◌<◌, ◌≤◌, ℕ, true, length, map, position, slice_index_or, nat_le, if◌then◌else◌, IfSome, OnSome};
 ghost use Rattle.std.specs.List.{list_any};
-ghost use Rattle.iscsi_rules.specs.rules.Settings.{is_known as known_in, are_distinct as distinct_in};
-ghost use Rattle.iscsi_rules.specs.rules.Execution.{MOST_IMMEDIATE as MOST};
-ghost use Rattle.iscsi_connections.specs.Connected.{opened, stat_sn_on, count_reply, counted_on, is_among_open, still_open};
+ghost use Rattle.iscsi_wire.specs.Cids.{is_known as known_in, are_distinct as distinct_in};
+ghost use Rattle.iscsi_connections.specs.Connected.{MOST, opened, stat_sn_on, count_reply, counted_on, is_among_open, still_open};
 ghost use Rattle.iscsi_connections.specs.Placed.{cid_and_stat_sn, new_connection, closed_in, TellsPlaces};
 
 use std::alloc::Global;

@@ -2,3 +2,4 @@ pub mod Serial
 pub mod Fields
 pub mod Replies
 pub mod Pdus
+pub mod Cids

@@ -1,6 +1,6 @@
 -- The options of a session, and their limits.
-use Rattle.std.specs.Prelude.{ℕ, ◌^◌, ◌==◌, ◌&&◌, not, nat_le, Bool, true, List, [], ◌∷◌, length}
-use Rattle.std.specs.List.{list_any}
+use Rattle.std.specs.Prelude.{ℕ, ◌^◌, ◌&&◌, nat_le, Bool, List, length}
+pub use Rattle.iscsi_wire.specs.Cids.{is_known, are_distinct}
 
 -- the options without where they lie in memory
 pub record Setting : Type 0 where
@@ -11,15 +11,6 @@ pub record Setting : Type 0 where
   pub level : ℕ  -- 1, or 2 for the queries of RFC 7144
   pub events : ℕ  -- the most events that are taken
   pub conns : List (ℕ × ℕ)  -- the CID and the first StatSN of each connection
-
--- a connection has this CID
-abbrev pub is_known : ℕ → List (ℕ × ℕ) → Bool
-is_known cid conns = list_any (λ conn. conn.0 == cid) conns
-
--- no CID stands twice
-abbrev pub are_distinct : List (ℕ × ℕ) → Bool
-are_distinct [] = true
-are_distinct (conn ∷ conns) = not (is_known conn.0 conns) && are_distinct conns
 
 -- from 1 to the most
 abbrev pub is_within : ℕ → ℕ → Bool

@@ -1,8 +1,7 @@
 use Rattle.std.proofs.Common.{◌≡◌, ◌∙◌, ◌+◌, map, position, Some, ap, sym, arith}
 use Rattle.iscsi_connections.specs.Connected.{Connected}
 use Rattle.iscsi_connections.specs.Placed.{cid_and_stat_sn}
-use Rattle.iscsi_rules.proofs.general.ListLemmas.{IsSome-position}
-use Rattle.iscsi_connections.proofs.PlaceLemmas.{has_cid}
+use Rattle.iscsi_connections.proofs.PlaceLemmas.{has_cid, IsSome-position}
 use Rattle.iscsi_connections.proofs.ViewLemmas.{placed_same}
 use Rattle.iscsi_connections.proofs.ChangeLemmas.{count_is, view_counting, cids_counting, counting_up}
 use Rattle.iscsi_connections.proofs.connections.Connections.begin_immediate.Goals as goal
