@@ -101,6 +101,7 @@ impl LiveCommands {
     ///
     /// No clause speaks of the slot: it is where the command's task set looks first, and the set verifies it.
     #[tactic(auto, using(crate::proofs::LogLemmas::tickets_up))]
+    #[inline(always)]
     pub fn find_placed(&self, ticket: u64) -> Option<Placed>
         ensures command { option_map (λ p. p.command) result ≡ find_ticket ticket self.now.items }
         ensures ascending { AreAscending self.now.items }
@@ -132,6 +133,7 @@ impl LiveCommands {
     /// Ended commands go from the log whose tickets aren't below the new one. Where it still has at least 64 more ended
     /// commands than live ones, the live ones close up: a pass over it, which the calls have paid for by which those
     /// left.
+    #[inline(always)]
     pub fn push(&mut self, command: Live, slot: u16)
         requires room { length self.old.items < self.old.room }
         requires newest { All (λ l. l.ticket < command.ticket) self.old.items }

@@ -10,6 +10,7 @@ ghost use Rattle.iscsi_recording.specs.Recorded.{Recorded, view, read_of, belong
 ghost use Rattle.iscsi_recording.specs.Order.{ReadsInOrder};
 ghost use Rattle.iscsi_rules.specs.promises.Promises.{KeepsPromises};
 ghost use Rattle.iscsi_rules.specs.rules.Run.{run_of};
+ghost use Rattle.iscsi_report.specs.Filled.{IsAtRest};
 ghost use Rattle.iscsi_replay.specs.promises.Replayed.{setting_with, report_by, Reported, KeepsWord, FrontReported, AnswersAs, ComesOfReading, IsReadWhole};
 ghost use Rattle.iscsi_recording.specs.Writing.{AppendsFront, AppendsBut};
 ghost use Rattle.iscsi_replay.specs.promises.Again.{IsRecordable, IsReadAgain};
@@ -17,7 +18,7 @@ ghost use Rattle.iscsi_replay.specs.promises.Again.{IsRecordable, IsReadAgain};
 use iscsi_recording::{
     EventSource, NO_EVENT, Recording, ReplayFault, Sink, Source, put_all, read_recording,
 };
-use iscsi_report::Lines;
+use iscsi_report::Report;
 use iscsi_session::{Options, Session, SessionFault};
 use iscsi_settings::Settings;
 use std::alloc::Global;
@@ -66,19 +67,22 @@ fn open(
 }
 
 /// Writes out the lines that wait, once they are many.
-fn write_chunk<W: Sink>(lines: &mut Lines, writer: &mut W) -> Result<(), ReplayFault>
-    requires { W.has_failed writer.old ≡ false }
-    ensures ok { OnOk result (AppendsBut (W.contents writer.old) (W.contents writer.new) lines.new lines.old) }
-    ensures few { OnOk result (length lines.new < 65536) }
-    ensures front { AppendsFront (W.contents writer.old) (W.contents writer.new) lines.old }
+fn write_chunk<W: Sink>(report: &mut Report, writer: &mut W) -> Result<(), ReplayFault>
+    requires fresh { W.has_failed writer.old ≡ false }
+    requires rest { IsAtRest report.old }
+    ensures ok { OnOk result (AppendsBut (W.contents writer.old) (W.contents writer.new) report.new.bytes
+        report.old.bytes) }
+    ensures few { OnOk result (length report.new.bytes < 65536) }
+    ensures rest { OnOk result (IsAtRest report.new) }
+    ensures front { AppendsFront (W.contents writer.old) (W.contents writer.new) report.old.bytes }
     ensures failed { MatchResult result (λ _. W.has_failed writer.new ≡ false)
         (λ e. (e ≡ ReplayFault.Write) × (W.has_failed writer.new ≡ true)) }
 {
-    if lines.len() < CHUNK {
+    if report.len() < CHUNK {
         return Ok(());
     }
-    put_all(writer, lines.as_slice())?;
-    lines.clear();
+    put_all(writer, report.as_slice())?;
+    report.clear();
     Ok(())
 }
 
@@ -106,21 +110,20 @@ pub fn write_report<E: EventSource, W: Sink>(
         (run_of (setting_with most settings.now conns.items) (E.rest events.old))) }
 {
     let mut session = open(alloc, settings, most, conns)?;
-    let mut effects = Vec::new(alloc);
-    let mut lines = Lines::new(alloc);
+    let mut report = Report::new(alloc);
     let mut event = NO_EVENT;
     'events: while events.next(&mut event) {
-        effects.clear();
-        let numbers = match session.step(&event, &mut effects) {
-            Ok(numbers) => numbers,
-            Err(fault) => return Err(fault_of(fault)),
+        report.begin(&event);
+        // The session takes each event, as its connection is known and there are no more than it takes.
+        let Ok(numbers) = session.step_into(&event, &mut report) else {
+            unreachable!();
         };
-        let Ok(()) = lines.put_entry(&event, numbers, &effects) else {
+        let Ok(()) = report.end(numbers) else {
             return Err(ReplayFault::NoMemory);
         };
-        write_chunk(&mut lines, writer)?;
+        write_chunk(&mut report, writer)?;
     }
-    put_all(writer, lines.as_slice())
+    put_all(writer, report.as_slice())
 }
 
 /// Reads a recording to its end, and then writes the report of its events.

@@ -43,6 +43,10 @@ bytes_of_four a b c d small =
     turned (digits_l 256 16 (number_l 4294967296 (a ∷ b ∷ c ∷ d ∷ []))) a b c d
     (λ j i low few. get_or_narrower 4294967296 4 256 16 (a ∷ b ∷ c ∷ d ∷ []) j i refl small low (omega arith))
 
+pub length-eight : (n : ℕ) → length (eight_digits n) ≡ 8
+unfolding encode_with
+length-eight n = refl
+
 -- the digits of such bytes in halves, each of which has two numbers
 pub halves_of_four : (front back : List ℕ) (a b c d : ℕ) → length front ≡ 16 → a < 4294967296 → b < 4294967296 → c < 4294967296 → d < 4294967296
     → front ++ back ≡ encode_lower (pick_l 0 (digits_l 256 16 (number_l 4294967296 (a ∷ b ∷ c ∷ d ∷ []))) (3 ∷ 2 ∷ 1 ∷ 0 ∷ 7 ∷ 6 ∷ 5 ∷ 4 ∷ 11 ∷ 10 ∷ 9 ∷ 8 ∷ 15 ∷ 14 ∷ 13 ∷ 12 ∷ []))

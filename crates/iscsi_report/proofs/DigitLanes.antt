@@ -144,3 +144,16 @@ pub with_end : (v : List ℕ) → length v ≡ 16
     → take 9 (pick_l 0 (v ++ replicate 16 10) (0 ∷ 1 ∷ 2 ∷ 3 ∷ 4 ∷ 5 ∷ 6 ∷ 7 ∷ 16 ∷ 17 ∷ 18 ∷ 19 ∷ 20 ∷ 21 ∷ 22 ∷ 23 ∷ [])) ≡ take 8 v ++ 10 ∷ []
 with_end (a ∷ b ∷ c ∷ d ∷ e ∷ f ∷ g ∷ h ∷ i ∷ j ∷ k ∷ l ∷ m ∷ n ∷ o ∷ p ∷ []) len = refl
 with_end _ len = absurd (omega arith)
+
+-- eight digits, and as many zeros
+pub with_zeros : (v : List ℕ) → length v ≡ 16
+    → pick_l 0 (v ++ replicate 16 48) (0 ∷ 1 ∷ 2 ∷ 3 ∷ 4 ∷ 5 ∷ 6 ∷ 7 ∷ 16 ∷ 17 ∷ 18 ∷ 19 ∷ 20 ∷ 21 ∷ 22 ∷ 23 ∷ []) ≡ take 8 v ++ replicate 8 48
+with_zeros (a ∷ b ∷ c ∷ d ∷ e ∷ f ∷ g ∷ h ∷ i ∷ j ∷ k ∷ l ∷ m ∷ n ∷ o ∷ p ∷ []) len = refl
+with_zeros _ len = absurd (omega arith)
+
+-- the last eight of some, and the first eight of others
+pub with_others : (v w : List ℕ) → length v ≡ 16 → length w ≡ 16
+    → pick_l 0 (v ++ w) (8 ∷ 9 ∷ 10 ∷ 11 ∷ 12 ∷ 13 ∷ 14 ∷ 15 ∷ 16 ∷ 17 ∷ 18 ∷ 19 ∷ 20 ∷ 21 ∷ 22 ∷ 23 ∷ []) ≡ drop 8 v ++ take 8 w
+with_others (a ∷ b ∷ c ∷ d ∷ e ∷ f ∷ g ∷ h ∷ i ∷ j ∷ k ∷ l ∷ m ∷ n ∷ o ∷ p ∷ []) (a' ∷ b' ∷ c' ∷ d' ∷ e' ∷ f' ∷ g' ∷ h' ∷ i' ∷ j' ∷ k' ∷ l' ∷ m' ∷ n' ∷ o' ∷ p' ∷ []) len len' = refl
+with_others (a ∷ b ∷ c ∷ d ∷ e ∷ f ∷ g ∷ h ∷ i ∷ j ∷ k ∷ l ∷ m ∷ n ∷ o ∷ p ∷ []) _ len len' = absurd (omega arith)
+with_others _ _ len len' = absurd (omega arith)

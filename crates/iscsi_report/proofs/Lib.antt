@@ -5,3 +5,4 @@ mod DecimalLemmas
 mod EntryLemmas
 mod TensLemmas
 mod AnswerDigits
+mod FilledLemmas

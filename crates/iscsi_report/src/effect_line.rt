@@ -8,8 +8,8 @@ ghost use Rattle.iscsi_report.specs.Lines.{eight_digits, request_fields, enter_f
 
 use crate::decimal::{put_again, put_number, put_small, put_small_and_blank};
 use crate::line::{
-    put_byte, put_bytes, put_digits, put_first_eight, put_header, put_kind, put_last_eight,
-    put_sixteen, put_text, put_two_numbers,
+    put_byte, put_bytes, put_digits, put_first_and_zeros, put_header, put_kind, put_last_and_first,
+    put_last_and_zeros, put_text, put_two_numbers,
 };
 use crate::tens::Tens;
 use crate::vector::digits_of_four;
@@ -98,7 +98,7 @@ pub fn write_deliver(request: &Request, line: &mut [u8], at: usize) -> usize
 
 /// The line of a request that executes at once.
 #[inline(always)]
-fn write_immediate(request: &Request, line: &mut [u8], at: usize) -> usize
+pub fn write_immediate(request: &Request, line: &mut [u8], at: usize) -> usize
     requires { at + 256 ≤ length line.old }
     ensures end { result ≤ at + 256 }
     ensures written { take result line.new ≡ take at line.old
@@ -110,7 +110,7 @@ fn write_immediate(request: &Request, line: &mut [u8], at: usize) -> usize
 
 /// A word and the fields of a request.
 #[inline(always)]
-fn write_request(word: &[u8], request: &Request, line: &mut [u8], at: usize) -> usize
+pub fn write_request(word: &[u8], request: &Request, line: &mut [u8], at: usize) -> usize
     requires short { length word.now ≤ 12 }
     requires room { at + 256 ≤ length line.old }
     ensures end { result ≤ at + 256 }
@@ -123,7 +123,7 @@ fn write_request(word: &[u8], request: &Request, line: &mut [u8], at: usize) -> 
 }
 
 /// A word and a CmdSN.
-fn write_place(word: &[u8], sn: u32, line: &mut [u8], at: usize) -> usize
+pub fn write_place(word: &[u8], sn: u32, line: &mut [u8], at: usize) -> usize
     requires short { length word.now ≤ 12 }
     requires room { at + 256 ≤ length line.old }
     ensures end { result ≤ at + 256 }
@@ -169,6 +169,41 @@ fn write_ticket(word: &[u8], ticket: u64, line: &mut [u8], at: usize) -> usize
     put_text(b"\n", line, at)
 }
 
+/// The line of a command that may be started, by the digits of tickets before.
+#[inline(always)]
+pub fn write_enable_near(ticket: u64, near: &mut Tens, line: &mut [u8], at: usize) -> usize
+    requires { at + 256 ≤ length line.old }
+    ensures end { result ≤ at + 256 }
+    ensures written { take result line.new ≡ take at line.old ++ (codes "  enable " ++ (decimal ticket ++ codes "\n")) }
+{
+    let enable = *b"  enable ";
+    write_ticket_near(&enable, ticket, near, line, at)
+}
+
+/// The line of a command that leaves its task set, by the digits of tickets before.
+#[inline(always)]
+pub fn write_leave_near(ticket: u64, near: &mut Tens, line: &mut [u8], at: usize) -> usize
+    requires { at + 256 ≤ length line.old }
+    ensures end { result ≤ at + 256 }
+    ensures written { take result line.new ≡ take at line.old ++ (codes "  leave " ++ (decimal ticket ++ codes "\n")) }
+{
+    let leave = *b"  leave ";
+    write_ticket_near(&leave, ticket, near, line, at)
+}
+
+/// A word and a ticket, by the digits of tickets before.
+#[inline(always)]
+fn write_ticket_near(word: &[u8], ticket: u64, near: &mut Tens, line: &mut [u8], at: usize) -> usize
+    requires short { length word.now ≤ 12 }
+    requires room { at + 256 ≤ length line.old }
+    ensures end { result ≤ at + 256 }
+    ensures written { take result line.new ≡ take at line.old ++ (word.now ++ (decimal ticket ++ codes "\n")) }
+{
+    let at = put_text(word, line, at);
+    let at = near.put(ticket, line, at);
+    put_text(b"\n", line, at)
+}
+
 /// A word and a ticket whose digits stand at these places.
 #[inline(always)]
 pub fn write_ticket_again(word: &[u8], from: usize, to: usize, line: &mut [u8], at: usize) -> usize
@@ -184,7 +219,7 @@ pub fn write_ticket_again(word: &[u8], from: usize, to: usize, line: &mut [u8], 
     put_text(b"\n", line, at)
 }
 
-fn write_closing(conn: u16, line: &mut [u8], at: usize) -> usize
+pub fn write_closing(conn: u16, line: &mut [u8], at: usize) -> usize
     requires { at + 256 ≤ length line.old }
     ensures end { result ≤ at + 256 }
     ensures written { take result line.new ≡ take at line.old
@@ -240,6 +275,24 @@ fn put_attr(attr: Attr, line: &mut [u8], at: usize) -> usize
 /// It is apart from the others, since its header stands on the stack.
 #[inline(never)]
 pub fn write_send(
+    conn: u16,
+    stat_sn: u32,
+    reply: &Reply,
+    numbers: Numbers,
+    line: &mut [u8],
+    at: usize,
+) -> usize
+    requires { at + 256 ≤ length line.old }
+    ensures end { result ≤ at + 256 }
+    ensures written { take result line.new ≡ take at line.old
+        ++ effect_line (Effect.Send conn stat_sn reply.now) numbers }
+{
+    write_made_send(conn, stat_sn, reply, numbers, line, at)
+}
+
+/// The same of a reply that was made just now: it stays in registers, as its kind is known where this is inlined.
+#[inline(always)]
+pub fn write_made_send(
     conn: u16,
     stat_sn: u32,
     reply: &Reply,
@@ -332,11 +385,10 @@ fn write_answer(
     let at = put_kind(opcode, response, line, at);
     let at = put_byte(status, line, at);
     let at = put_text(&zeros[..24], line, at);
-    let at = put_first_eight(front, line, at);
-    let at = put_text(&zeros[..8], line, at);
-    let at = put_last_eight(front, line, at);
-    let at = put_sixteen(back, line, at);
-    put_text(&zeros, line, at)
+    let at = put_first_and_zeros(front, line, at);
+    let at = put_last_and_first(front, back, line, at);
+    let at = put_last_and_zeros(back, line, at);
+    put_text(&zeros[8..], line, at)
 }
 
 /// It is apart from `write_send`, since it needs more room on the stack.

@@ -8,7 +8,9 @@ mod entry_line;
 mod event_line;
 mod line;
 mod lines;
+mod report;
 mod tens;
 mod vector;
 
 pub use lines::{LONGEST_LINE, Lines, put_effect, put_event};
+pub use report::Report;

@@ -79,14 +79,44 @@ fn put_eight_and_end(digits: u8x16, line: &mut [u8], at: usize) -> usize
     at + 9
 }
 
-/// Writes the last eight of these.
+/// Writes the first eight of these, and eight zeros.
+// Zeros are put into the vector as the end of a line is above.
 #[inline(always)]
-pub fn put_last_eight(digits: u8x16, line: &mut [u8], at: usize) -> usize
-    requires { (length digits ≡ 16) × (at + 8 ≤ length line.old) }
-    ensures end { result ≡ at + 8 }
-    ensures written { take result line.new ≡ take at line.old ++ drop 8 digits }
+pub fn put_first_and_zeros(digits: u8x16, line: &mut [u8], at: usize) -> usize
+    requires { (length digits ≡ 16) × (at + 16 ≤ length line.old) }
+    ensures end { result ≡ at + 16 }
+    ensures written { take result line.new ≡ take at line.old ++ (take 8 digits ++ codes "00000000") }
 {
-    put_text(&digits.to_array()[8..], line, at)
+    let zeros = u8x16::splat(b'0');
+    let text = digits.shuffle(
+        zeros,
+        [0, 1, 2, 3, 4, 5, 6, 7, 16, 17, 18, 19, 20, 21, 22, 23],
+    );
+    put_text(&text.to_array(), line, at)
+}
+
+/// Writes the last eight of these, and the first eight of others.
+#[inline(always)]
+pub fn put_last_and_first(digits: u8x16, others: u8x16, line: &mut [u8], at: usize) -> usize
+    requires { (length digits ≡ 16) × (length others ≡ 16) × (at + 16 ≤ length line.old) }
+    ensures end { result ≡ at + 16 }
+    ensures written { take result line.new ≡ take at line.old ++ (drop 8 digits ++ take 8 others) }
+{
+    let text = digits.shuffle(
+        others,
+        [8, 9, 10, 11, 12, 13, 14, 15, 16, 17, 18, 19, 20, 21, 22, 23],
+    );
+    put_text(&text.to_array(), line, at)
+}
+
+/// Writes the last eight of these, and eight zeros.
+#[inline(always)]
+pub fn put_last_and_zeros(digits: u8x16, line: &mut [u8], at: usize) -> usize
+    requires { (length digits ≡ 16) × (at + 16 ≤ length line.old) }
+    ensures end { result ≡ at + 16 }
+    ensures written { take result line.new ≡ take at line.old ++ (drop 8 digits ++ codes "00000000") }
+{
+    put_last_and_first(digits, u8x16::splat(b'0'), line, at)
 }
 
 /// Writes these.

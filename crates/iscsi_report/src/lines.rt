@@ -183,7 +183,7 @@ impl Lines {
 
 /// Sees that there is room for a line behind the first `len` bytes.
 #[inline(always)]
-fn make_room(memory: &mut Vec<u8>, len: usize) -> Result<(), AllocError>
+pub(crate) fn make_room(memory: &mut Vec<u8>, len: usize) -> Result<(), AllocError>
     requires { len ≤ vec_len memory.old }
     ensures room { OnOk result (len + 256 ≤ vec_len memory.new) }
     ensures kept { take len memory.new.items ≡ take len memory.old.items }

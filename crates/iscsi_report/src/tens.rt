@@ -90,7 +90,7 @@ impl Tens {
     }
 
     /// Writes a decimal number, and keeps its digits.
-    #[inline(never)]
+    #[inline(always)]
     fn put_other(&mut self, n: u64, line: &mut [u8], at: usize) -> usize
         requires { at + 24 ≤ length line.old }
         ensures end { (at < result) × (result ≤ at + 20) }

@@ -55,8 +55,6 @@ use Rattle.iscsi_rules.specs.declared.kind.Kind.TheVariants.{PassedOver, Unknown
 use Rattle.iscsi_rules.specs.promises.Flow.{HasOneMore}
 use Rattle.iscsi_rules.proofs.traces.DeliveryLemmas.{IsQuiet}
 use Rattle.iscsi_session.proofs.WindowLemmas.{held_now, comes_alone, Delivered, delivered}
-use Rattle.std.specs.Prelude.{Vec}
-use Rattle.std.specs.declared.alloc.Global.{Global}
 use Rattle.iscsi_rules.specs.declared.deed.Answer.TheVariants.{Reject as RejectAnswer}
 
 -- ==== an arrival, a completion, and an event as a whole
@@ -223,26 +221,42 @@ taken_by s e h = grind (arith, nat_tests)
 
 -- ---- what is left
 
--- of some items that are due: the trace so far, and that what is left of them gives the whole
-pub record Leads (o : Setting) (t₀ : Trace) (out₀ : List Effect) (whole : List (List Mark)) (s : Core) (out : List Effect) (rest : Trace → List (List Mark)) : Type 0 where
+-- of some items that are due: the trace so far, what was appended for it, and that this and what is left of them give the whole
+pub record Leads {S : Type 0} (has : S → List ℕ → List Effect → Type 0) (o : Setting) (t₀ : Trace) (out₀ : S) (whole : List (List Mark)) (s : Core) (out : S) (rest : Trace → List (List Mark)) : Type 0 where
   pub trace : Trace
   pub agrees : Agrees o s trace
   pub same : received trace ≡ received t₀
-  pub effects : out ++ effects_of o trace (rest trace) ≡ out₀ ++ effects_of o t₀ whole
+  pub gone : List Effect
+  pub appended : (text : List ℕ) (es : List Effect) → has out₀ text es → has out text (es ++ gone)
+  pub effects : gone ++ effects_of o trace (rest trace) ≡ effects_of o t₀ whole
   pub after : after_items (rest trace) trace ≡ after_items whole t₀
 
 -- some items more
-pub Leads-on : (o : Setting) (t₀ : Trace) (out₀ : List Effect) (whole : List (List Mark)) (s s' : Core) (out out' : List Effect) (rest rest' : Trace → List (List Mark)) (d : Leads o t₀ out₀ whole s out rest) (items : List (List Mark))
-    → Agrees o s' (after_items items d.trace) → received (after_items items d.trace) ≡ received d.trace → rest d.trace ≡ items ++ rest' (after_items items d.trace) → out' ≡ out ++ effects_of o d.trace items → Leads o t₀ out₀ whole s' out' rest'
-Leads-on o t₀ out₀ whole s s' out out' rest rest' d items agrees same splits given =
-    grind (arith, nat_tests, append_assoc, effects_of-append, after_items-append)
+pub Leads-on : {S : Type 0} (has : S → List ℕ → List Effect → Type 0) (o : Setting) (t₀ : Trace) (out₀ : S) (whole : List (List Mark)) (s s' : Core) (out out' : S) (rest rest' : Trace → List (List Mark)) (d : Leads has o t₀ out₀ whole s out rest) (items : List (List Mark))
+    → Agrees o s' (after_items items d.trace) → received (after_items items d.trace) ≡ received d.trace → rest d.trace ≡ items ++ rest' (after_items items d.trace)
+    → ((text : List ℕ) (es : List Effect) → has out text es → has out' text (es ++ effects_of o d.trace items)) → Leads has o t₀ out₀ whole s' out' rest'
+Leads-on has o t₀ out₀ whole s s' out out' rest rest' d items agrees same splits given = record {
+  trace = after_items items d.trace;
+  agrees = agrees;
+  same = same ∙ d.same;
+  gone = d.gone ++ effects_of o d.trace items;
+  appended = λ text es was. subst (has out' text) (append_assoc es d.gone (effects_of o d.trace items)) (given text (es ++ d.gone) (d.appended text es was));
+  effects = left;
+  after = later;
+}
+  where
+    left : (d.gone ++ effects_of o d.trace items) ++ effects_of o (after_items items d.trace) (rest' (after_items items d.trace)) ≡ effects_of o t₀ whole
+    left = grind (arith, nat_tests, append_assoc, effects_of-append, d.effects)
+
+    later : after_items (rest' (after_items items d.trace)) (after_items items d.trace) ≡ after_items whole t₀
+    later = grind (arith, nat_tests, after_items-append, d.after)
 
 -- one item more
-Leads-item : (o : Setting) (t₀ : Trace) (out₀ : List Effect) (whole : List (List Mark)) (s : Core) (out : List Effect) (rest rest' : Trace → List (List Mark)) (d : Leads o t₀ out₀ whole s out rest) (item : List Mark) (x : Step)
-    → Follows o d.trace item x → filter_map number_received item ≡ [] → rest d.trace ≡ item ∷ rest' (item ∷ d.trace) → Leads o t₀ out₀ whole x.core (out ++ x.effects) rest'
-Leads-item o t₀ out₀ whole s out rest rest' d item x done none splits =
-    Leads-on o t₀ out₀ whole s x.core out (out ++ x.effects) rest rest' d (item ∷ []) done.0 (ap (λ ns. received d.trace ++ ns) none ∙ append-nil (received d.trace)) splits
-    (ap (λ es. out ++ es) (done.1 ∙ sym (append-nil (effects_of_item o d.trace item))))
+Leads-item : {S : Type 0} (has : S → List ℕ → List Effect → Type 0) (capacity : S → ℕ) (o : Setting) (t₀ : Trace) (out₀ : S) (whole : List (List Mark)) (s s' : Core) (out out' : S) (rest rest' : Trace → List (List Mark)) (d : Leads has o t₀ out₀ whole s out rest) (item : List Mark) (x : Step)
+    → Takes has capacity x s' out out' → Follows o d.trace item x → filter_map number_received item ≡ [] → rest d.trace ≡ item ∷ rest' (item ∷ d.trace) → Leads has o t₀ out₀ whole s' out' rest'
+Leads-item has capacity o t₀ out₀ whole s s' out out' rest rest' d item x takes done none splits =
+    Leads-on has o t₀ out₀ whole s s' out out' rest rest' d (item ∷ []) (subst (λ v. Agrees o v (item ∷ d.trace)) (sym takes.core) done.0) (ap (λ ns. received d.trace ++ ns) none ∙ append-nil (received d.trace)) splits
+    (λ text es was. subst (λ more. has out' text (es ++ more)) (done.1 ∙ sym (append-nil (effects_of_item o d.trace item))) (takes.effects text es was))
 
 -- where the agenda stands, before the functions of the next number and after them
 abbrev pub left_before : Setting → Trace → Core → Trace → List (List Mark)
@@ -251,17 +265,21 @@ left_before o t₀ s t = agenda o (number_expected s.window) (exp_of o t₀ - nu
 abbrev pub left_after : Setting → Trace → Core → Trace → List (List Mark)
 left_after o t₀ s t = turns o (number_expected s.window) (exp_of o t₀ - number_expected s.window) t
 
-abbrev pub Due : Setting → Trace → List Effect → List (List Mark) → Core → List Effect → Type 0
-Due o t₀ out₀ whole s out = Leads o t₀ out₀ whole s out (left_before o t₀ s)
+abbrev pub Due : {S : Type 0} → (S → List ℕ → List Effect → Type 0) → Setting → Trace → S → List (List Mark) → Core → S → Type 0
+Due has o t₀ out₀ whole s out = Leads has o t₀ out₀ whole s out (left_before o t₀ s)
 
-abbrev pub DueTurn : Setting → Trace → List Effect → List (List Mark) → Core → List Effect → Type 0
-DueTurn o t₀ out₀ whole s out = Leads o t₀ out₀ whole s out (left_after o t₀ s)
+abbrev pub DueTurn : {S : Type 0} → (S → List ℕ → List Effect → Type 0) → Setting → Trace → S → List (List Mark) → Core → S → Type 0
+DueTurn has o t₀ out₀ whole s out = Leads has o t₀ out₀ whole s out (left_after o t₀ s)
 
 abbrev pub whole_of : Setting → Core → Trace → List (List Mark)
 whole_of o s t = agenda o (number_expected s.window) (exp_of o t - number_expected s.window) t
 
-pub Due-start : (o : Setting) (s₀ : Core) (t₀ : Trace) (out₀ : List Effect) → Agrees o s₀ t₀ → Due o t₀ out₀ (whole_of o s₀ t₀) s₀ out₀
-Due-start o s₀ t₀ out₀ a = record { trace = t₀; agrees = a; same = refl; effects = refl; after = refl }
+-- nothing is done yet
+begun : {S : Type 0} (has : S → List ℕ → List Effect → Type 0) (o : Setting) (s : Core) (t : Trace) (out : S) (rest : Trace → List (List Mark)) → Agrees o s t → Leads has o t out (rest t) s out rest
+begun has o s t out rest a = record { trace = t; agrees = a; same = refl; gone = []; appended = λ text es was. subst (has out text) (sym (append-nil es)) was; effects = refl; after = refl }
+
+pub Due-start : {S : Type 0} (has : S → List ℕ → List Effect → Type 0) (o : Setting) (s₀ : Core) (t₀ : Trace) (out₀ : S) → Agrees o s₀ t₀ → Due has o t₀ out₀ (whole_of o s₀ t₀) s₀ out₀
+Due-start has o s₀ t₀ out₀ a = begun has o s₀ t₀ out₀ (left_before o t₀ s₀) a
 
 -- ---- the functions of the next number
 
@@ -273,10 +291,10 @@ functions_at_receive_none : (o : Setting) (s : Core) (t : Trace) (n : ℕ) → A
 functions_at_receive_none o s t n a = grind (arith, nat_tests, functions_receive_none, list_all-filter, list_all-map)
 
 -- the next one executes
-pub functions-on : (o : Setting) (t₀ : Trace) (out₀ : List Effect) (whole : List (List Mark)) (s : Core) (out : List Effect) (x : Option Waiting) → next_waiting s ≡ x → is_some x ≡ true → Leads o t₀ out₀ whole s out (left_functions o s)
-    → let y = function_taken s x in Leads o t₀ out₀ whole y.core (out ++ y.effects) (left_functions o y.core)
-functions-on o t₀ out₀ whole s out None is some d = absurd cc
-functions-on o t₀ out₀ whole s out (Some w) is some d =
+pub functions-on : {S : Type 0} (has : S → List ℕ → List Effect → Type 0) (capacity : S → ℕ) (o : Setting) (t₀ : Trace) (out₀ : S) (whole : List (List Mark)) (s s' : Core) (out out' : S) (x : Option Waiting) → next_waiting s ≡ x → is_some x ≡ true → Leads has o t₀ out₀ whole s out (left_functions o s)
+    → Takes has capacity (function_taken s x) s' out out' → Leads has o t₀ out₀ whole s' out' (left_functions o s')
+functions-on has capacity o t₀ out₀ whole s s' out out' None is some d takes = absurd cc
+functions-on has capacity o t₀ out₀ whole s s' out out' (Some w) is some d takes =
     let t : Trace = d.trace in
     let a : Arrival = arrival_waiting o.first w in
     let item : List Mark = function_item o t a in
@@ -285,32 +303,38 @@ functions-on o t₀ out₀ whole s out (Some w) is some d =
     let next : functions_at o (number_expected s.window) t ≡ item ∷ functions_at o (number_expected s.window) (item ∷ t) =
     subst (λ k. functions_at o k t ≡ item ∷ functions_at o k (item ∷ t)) at (next_function o t s.waiting s.window.turned w d.agrees.waiting.list is) in
     let may : may_wait a.request ≡ true = find-passes (λ (v : Waiting). v.turn == s.window.turned) (λ v. may_wait v.request) s.waiting w d.agrees.waiting.may is in
-    Leads-item o t₀ out₀ whole s out (left_functions o s) (left_functions o y.core) d item y (waited-item o s t w d.agrees is) (function_receives_none o t a may)
-    (next ∙ ap (λ k. item ∷ functions_at o k (item ∷ t)) (sym (stays_expected 0 s y.core (function_stays s (Some w)))))
+    Leads-item has capacity o t₀ out₀ whole s s' out out' (left_functions o s) (left_functions o s') d item y takes (waited-item o s t w d.agrees is) (function_receives_none o t a may)
+    (next ∙ ap (λ k. item ∷ functions_at o k (item ∷ t)) (sym (ap (λ (v : Core). number_expected v.window) takes.core ∙ stays_expected 0 s y.core (function_stays s (Some w)))))
 
 -- there is none any more
-pub functions-done : (o : Setting) (t₀ : Trace) (out₀ : List Effect) (whole : List (List Mark)) (s : Core) (out : List Effect) → next_waiting s ≡ None → Leads o t₀ out₀ whole s out (left_functions o s) → Runs o t₀ whole s out₀ out
-functions-done o t₀ out₀ whole s out none d = grind (arith, nat_tests, no_function, append-nil)
+pub functions-done : {S : Type 0} (has : S → List ℕ → List Effect → Type 0) (o : Setting) (t₀ : Trace) (out₀ : S) (whole : List (List Mark)) (s : Core) (out : S) → next_waiting s ≡ None → Leads has o t₀ out₀ whole s out (left_functions o s) → Runs has o t₀ whole s out₀ out
+functions-done has o t₀ out₀ whole s out none d =
+    let at : number_of_first o.first + s.window.turned ≡ number_expected s.window = omega (arith, d.agrees.window.first) in
+    let nothing : left_functions o s d.trace ≡ [] = subst (λ k. functions_at o k d.trace ≡ []) at (no_function o d.trace s.waiting s.window.turned d.agrees.waiting.list none) in
+    record {
+      agrees = subst (Agrees o s) (ap (λ items. after_items items d.trace) (sym nothing) ∙ d.after) d.agrees;
+      effects = λ text es was. subst (λ more. has out text (es ++ more)) (sym (append-nil d.gone) ∙ ap (λ items. d.gone ++ effects_of o d.trace items) (sym nothing) ∙ d.effects) (d.appended text es was);
+    }
 
 -- once they are taken
-pub Due-functions : (o : Setting) (t₀ : Trace) (out₀ : List Effect) (whole : List (List Mark)) (s s' : Core) (out out' : List Effect) → Due o t₀ out₀ whole s out → number_expected s'.window ≡ number_expected s.window
-    → ((o : Setting) (t : Trace) → Agrees o s t → Runs o t (left_functions o s t) s' out out') → DueTurn o t₀ out₀ whole s' out'
-Due-functions o t₀ out₀ whole s s' out out' d same runs =
+pub Due-functions : {S : Type 0} (has : S → List ℕ → List Effect → Type 0) (o : Setting) (t₀ : Trace) (out₀ : S) (whole : List (List Mark)) (s s' : Core) (out out' : S) → Due has o t₀ out₀ whole s out → number_expected s'.window ≡ number_expected s.window
+    → ((o : Setting) (t : Trace) → Agrees o s t → Runs has o t (left_functions o s t) s' out out') → DueTurn has o t₀ out₀ whole s' out'
+Due-functions has o t₀ out₀ whole s s' out out' d same runs =
     let n : ℕ = number_expected s.window in
     let r = runs o d.trace d.agrees in
-    Leads-on o t₀ out₀ whole s s' out out' (left_before o t₀ s) (left_after o t₀ s') d (functions_at o n d.trace) r.agrees (functions_at_receive_none o s d.trace n d.agrees)
+    Leads-on has o t₀ out₀ whole s s' out out' (left_before o t₀ s) (left_after o t₀ s') d (functions_at o n d.trace) r.agrees (functions_at_receive_none o s d.trace n d.agrees)
     (agenda-halves o n (exp_of o t₀ - n) d.trace ∙ ap (λ k. functions_at o n d.trace ++ turns o k (exp_of o t₀ - k) (after_items (functions_at o n d.trace) d.trace)) (sym same)) r.effects
 
 -- where none waits
-pub none_wait : (o : Setting) (t : Trace) (s : Core) (out : List Effect) → next_waiting s ≡ None → Agrees o s t → Runs o t (left_functions o s t) s out out
-none_wait o t s out none a = functions-done o t out (left_functions o s t) s out none (record { trace = t; agrees = a; same = refl; effects = refl; after = refl })
+pub none_wait : {S : Type 0} (has : S → List ℕ → List Effect → Type 0) (o : Setting) (t : Trace) (s : Core) (out : S) → next_waiting s ≡ None → Agrees o s t → Runs has o t (left_functions o s t) s out out
+none_wait has o t s out none a = functions-done has o t out (left_functions o s t) s out none (begun has o s t out (left_functions o s) a)
 
 -- ---- a turn
 
 -- its request executes, or there is none
-turned-number : (o : Setting) (t₀ : Trace) (out₀ : List Effect) (whole : List (List Mark)) (s : Core) (out : List Effect) (q : Option HeldRequest) → DueTurn o t₀ out₀ whole s out → at_place s.window 0 ≡ Some q
-    → let x = turn_of (turned_core s) q in Due o t₀ out₀ whole x.core (out ++ x.effects)
-turned-number o t₀ out₀ whole s out (Some r) d place =
+turned-number : {S : Type 0} (has : S → List ℕ → List Effect → Type 0) (capacity : S → ℕ) (o : Setting) (t₀ : Trace) (out₀ : S) (whole : List (List Mark)) (s s' : Core) (out out' : S) (q : Option HeldRequest) → DueTurn has o t₀ out₀ whole s out → at_place s.window 0 ≡ Some q
+    → Takes has capacity (turn_of (turned_core s) q) s' out out' → Due has o t₀ out₀ whole s' out'
+turned-number has capacity o t₀ out₀ whole s s' out out' (Some r) d place takes =
     let t : Trace = d.trace in
     let e : ℕ = number_expected s.window in
     let f : ℕ = exp_of o t₀ in
@@ -320,10 +344,10 @@ turned-number o t₀ out₀ whole s out (Some r) d place =
     let past : e < f = subst (λ m. e < m) (same_exp o t t₀ d.same) (expected_past o.first e t (λ k l u. d.agrees.window.below k l u) x.received_is) in
     let turn_is : turn_at o e t ≡ item ∷ [] = ap (λ y. elim y [ Some b ↦ item_of o t b ∷ [] | None ↦ [] ]) x.held_is in
     let y : Step = turn_of (turned_core s) (Some r) in
-    let next : number_expected y.core.window ≡ e + 1 = stays_expected 1 (turned_core s) y.core (executed_stays (turned_core s) r.request r.event) ∙ (let z : number_expected (turned_core s).window ≡ e + 1 = omega arith in z) in
-    Leads-item o t₀ out₀ whole s out (left_after o t₀ s) (left_before o t₀ y.core) d item y (turned-item o s t r d.agrees place x) (turn_receives_none o t a (numbered_held o s t r d.agrees x))
+    let next : number_expected s'.window ≡ e + 1 = ap (λ (v : Core). number_expected v.window) takes.core ∙ stays_expected 1 (turned_core s) y.core (executed_stays (turned_core s) r.request r.event) ∙ (let z : number_expected (turned_core s).window ≡ e + 1 = omega arith in z) in
+    Leads-item has capacity o t₀ out₀ whole s s' out out' (left_after o t₀ s) (left_before o t₀ s') d item y takes (turned-item o s t r d.agrees place x) (turn_receives_none o t a (numbered_held o s t r d.agrees x))
     (turns-more o e f t past ∙ ap (λ now. now ++ agenda o (e + 1) (f - (e + 1)) (after_items now t)) turn_is ∙ ap (λ k. item ∷ agenda o k (f - k) (item ∷ t)) (sym next))
-turned-number o t₀ out₀ whole s out None d place =
+turned-number has capacity o t₀ out₀ whole s s' out out' None d place takes =
     let t : Trace = d.trace in
     let e : ℕ = number_expected s.window in
     let f : ℕ = exp_of o t₀ in
@@ -331,33 +355,46 @@ turned-number o t₀ out₀ whole s out None d place =
     let p : Passed s.window t = passed_at o s.window t a.window place in
     let past : e < f = subst (λ m. e < m) (same_exp o t t₀ d.same) (expected_past o.first e t (λ k l u. a.window.below k l u) p.received_is) in
     let turn_is : turn_at o e t ≡ [] = ap (λ y. elim y [ Some b ↦ item_of o t b ∷ [] | None ↦ [] ]) p.held_is in
-    let next : number_expected (turned_core s).window ≡ e + 1 = omega arith in
-    let now : Agrees o (turned_core s) t = record { events = a.events; window = WindowAgrees-passed o s.window t a.window place; replies = a.replies; commands = a.commands; sets = a.sets; unfinished = a.unfinished; enabled = a.enabled; level = a.level; waiting = record { list = a.waiting.list; may = a.waiting.may; known = a.waiting.known }; open_conns = a.open_conns } in
-    Leads-on o t₀ out₀ whole s (turned_core s) out (out ++ []) (left_after o t₀ s) (left_before o t₀ (turned_core s)) d [] now refl
-    (turns-more o e f t past ∙ ap (λ now. now ++ agenda o (e + 1) (f - (e + 1)) (after_items now t)) turn_is ∙ ap (λ k. agenda o k (f - k) t) (sym next)) refl
+    let next : number_expected s'.window ≡ e + 1 = ap (λ (v : Core). number_expected v.window) takes.core ∙ (let z : number_expected (turned_core s).window ≡ e + 1 = omega arith in z) in
+    let now : Agrees o s' t = subst (λ v. Agrees o v t) (sym takes.core) (record { events = a.events; window = WindowAgrees-passed o s.window t a.window place; replies = a.replies; commands = a.commands; sets = a.sets; unfinished = a.unfinished; enabled = a.enabled; level = a.level; waiting = record { list = a.waiting.list; may = a.waiting.may; known = a.waiting.known }; open_conns = a.open_conns }) in
+    Leads-on has o t₀ out₀ whole s s' out out' (left_after o t₀ s) (left_before o t₀ s') d [] now refl
+    (turns-more o e f t past ∙ ap (λ now. now ++ agenda o (e + 1) (f - (e + 1)) (after_items now t)) turn_is ∙ ap (λ k. agenda o k (f - k) t) (sym next)) takes.effects
 
-pub turned-one : (o : Setting) (t₀ : Trace) (out₀ : List Effect) (whole : List (List Mark)) (s : Core) (out : List Effect) (p : Option (Option HeldRequest)) → at_place s.window 0 ≡ p → is_some p ≡ true → DueTurn o t₀ out₀ whole s out
-    → let x = turn_taken s p in Due o t₀ out₀ whole x.core (out ++ x.effects)
-turned-one o t₀ out₀ whole s out p here some d = grind (arith, nat_tests, turned_is, turned-number)
+pub turned-one : {S : Type 0} (has : S → List ℕ → List Effect → Type 0) (capacity : S → ℕ) (o : Setting) (t₀ : Trace) (out₀ : S) (whole : List (List Mark)) (s s' : Core) (out out' : S) (p : Option (Option HeldRequest)) → at_place s.window 0 ≡ p → is_some p ≡ true → DueTurn has o t₀ out₀ whole s out
+    → Takes has capacity (turn_taken s p) s' out out' → Due has o t₀ out₀ whole s' out'
+turned-one has capacity o t₀ out₀ whole s s' out out' None here some d takes = absurd cc
+turned-one has capacity o t₀ out₀ whole s s' out out' (Some q) here some d takes =
+    turned-number has capacity o t₀ out₀ whole s s' out out' q d here (subst (λ (x : Step). Takes has capacity x s' out out') (turned_is s q here) takes)
 
 -- where nothing is due any more, the agenda is done
-pub turned-all : (o : Setting) (t₀ : Trace) (out₀ : List Effect) (whole : List (List Mark)) (s : Core) (out : List Effect) → DueTurn o t₀ out₀ whole s out → at_place s.window 0 ≡ None → Handles o t₀ whole HasNoMore s out₀ out
-turned-all o t₀ out₀ whole s out d none = grind (arith, nat_tests, same_exp, settled_expected, append-nil)
+pub turned-all : {S : Type 0} (has : S → List ℕ → List Effect → Type 0) (o : Setting) (t₀ : Trace) (out₀ : S) (whole : List (List Mark)) (s : Core) (out : S) → DueTurn has o t₀ out₀ whole s out → at_place s.window 0 ≡ None → Handles has o t₀ whole HasNoMore s out₀ out
+turned-all has o t₀ out₀ whole s out d none =
+    let t : Trace = d.trace in
+    let e : ℕ = number_expected s.window in
+    let settled : Settled o s t = record { agrees = d.agrees; none_due = none } in
+    let done : exp_of o t₀ ≡ e = sym (same_exp o t t₀ d.same) ∙ settled_expected o s t settled in
+    let nothing : turns o e (exp_of o t₀ - e) t ≡ [] = ap (λ n. turns o e n t) (let z : exp_of o t₀ - e ≡ 0 = omega (arith, done) in z) in
+    let ends : t ≡ after_items whole t₀ = ap (λ items. after_items items t) (sym nothing) ∙ d.after in
+    record {
+      settled = subst (Settled o s) ends settled;
+      effects = λ text es was. subst (λ more. has out text (es ++ more)) (sym (append-nil d.gone) ∙ ap (λ items. d.gone ++ effects_of o t items) (sym nothing) ∙ d.effects) (d.appended text es was);
+      receives = ap received (sym ends) ∙ d.same;
+    }
 
 -- what an agenda comes to, from a state on, where no function waits for its first number, which turns
-pub Handles-turned : (o : Setting) (s f : Core) (t : Trace) (out out' : List Effect) (p : Option (Option HeldRequest)) → next_waiting s ≡ None → at_place s.window 0 ≡ p → is_some p ≡ true → Agrees o s t
-    → (let x = turn_taken s p in (t : Trace) → Agrees o x.core t → Handles o t (whole_of o x.core t) HasNoMore f (out ++ x.effects) out') → Handles o t (whole_of o s t) HasNoMore f out out'
-Handles-turned o s f t out out' p none here some a rest =
+pub Handles-turned : {S : Type 0} (has : S → List ℕ → List Effect → Type 0) (capacity : S → ℕ) (o : Setting) (s s' f : Core) (t : Trace) (out out' out'' : S) (p : Option (Option HeldRequest)) → next_waiting s ≡ None → at_place s.window 0 ≡ p → is_some p ≡ true → Agrees o s t
+    → Takes has capacity (turn_taken s p) s' out out' → ((t : Trace) → Agrees o s' t → Handles has o t (whole_of o s' t) HasNoMore f out' out'') → Handles has o t (whole_of o s t) HasNoMore f out out''
+Handles-turned has capacity o s s' f t out out' out'' p none here some a takes rest =
     let whole : List (List Mark) = whole_of o s t in
-    let s' : Core = (turn_taken s p).core in
-    let due : DueTurn o t out whole s out = Due-functions o t out whole s s out out (Due-start o s t out a) refl (λ o t a. none_wait o t s out none a) in
-    let d : Due o t out whole s' (out ++ (turn_taken s p).effects) = turned-one o t out whole s out p here some due in
+    let due : DueTurn has o t out whole s out = Due-functions has o t out whole s s out out (Due-start has o s t out a) refl (λ o t a. none_wait has o t s out none a) in
+    let d : Due has o t out whole s' out' = turned-one has capacity o t out whole s s' out out' p here some due takes in
     let left : whole_of o s' d.trace ≡ left_before o t s' d.trace = ap (λ e. agenda o (number_expected s'.window) (e - number_expected s'.window) d.trace) (same_exp o d.trace t d.same) in
     let ends : after_items (whole_of o s' d.trace) d.trace ≡ after_items whole t = ap (λ items. after_items items d.trace) left ∙ d.after in
     let c = rest d.trace d.agrees in
     record {
       settled = subst (Settled o f) ends c.settled;
-      effects = c.effects ∙ ap (λ items. (out ++ (turn_taken s p).effects) ++ effects_of o d.trace items) left ∙ d.effects;
+      effects = λ text es was. subst (has out'' text) (append_assoc es d.gone (effects_of o d.trace (whole_of o s' d.trace)) ∙ ap (λ more. es ++ more) (ap (λ items. d.gone ++ effects_of o d.trace items) left ∙ d.effects))
+          (c.effects text (es ++ d.gone) (d.appended text es was));
       receives = ap received (sym ends) ∙ c.receives ∙ d.same;
     }
 
@@ -366,13 +403,17 @@ Handles-turned o s f t out out' p none here some a rest =
 -- ---- turns
 
 -- no turn any more
-pub turns_done : (o : Setting) (t₀ : Trace) (out₀ : List Effect) (whole : List (List Mark)) (s new : Core) (out out' : Vec Effect Global) → is_some (at_place s.window 0) ≡ false → Takes (turn_taken s (at_place s.window 0)) new out out' → DueTurn o t₀ out₀ whole s out.items
-    → Handles o t₀ whole HasNoMore new out₀ out'.items
-turns_done o t₀ out₀ whole s new out out' last x d =
+pub turns_done : {S : Type 0} (has : S → List ℕ → List Effect → Type 0) (capacity : S → ℕ) (o : Setting) (t₀ : Trace) (out₀ : S) (whole : List (List Mark)) (s new : Core) (out out' : S) → is_some (at_place s.window 0) ≡ false → Takes has capacity (turn_taken s (at_place s.window 0)) new out out'
+    → DueTurn has o t₀ out₀ whole s out → Handles has o t₀ whole HasNoMore new out₀ out'
+turns_done has capacity o t₀ out₀ whole s new out out' last x d =
     let none : at_place s.window 0 ≡ None = is_none (at_place s.window 0) last in
     let same : s ≡ new = sym (x.core ∙ ap (λ p. (turn_taken s p).core) none) in
-    let same_out : out.items ≡ out'.items = sym (x.effects ∙ ap (λ p. out.items ++ (turn_taken s p).effects) none ∙ append-nil out.items) in
-    subst (λ (v : Core). Handles o t₀ whole HasNoMore v out₀ out'.items) same (subst (λ es. Handles o t₀ whole HasNoMore s out₀ es) same_out (turned-all o t₀ out₀ whole s out.items d none))
+    let c = turned-all has o t₀ out₀ whole s out d none in
+    record {
+      settled = subst (λ (v : Core). Settled o v (after_items whole t₀)) same c.settled;
+      effects = λ text es was. subst (has out' text) (ap (λ p. (es ++ effects_of o t₀ whole) ++ (turn_taken s p).effects) none ∙ append-nil (es ++ effects_of o t₀ whole)) (x.effects text (es ++ effects_of o t₀ whole) (c.effects text es was));
+      receives = c.receives;
+    }
 
 -- ---- a numbered request
 
@@ -380,20 +421,32 @@ pub offered_known : (o : Setting) (s : Core) (index : ℕ) (t : Trace) (r : Requ
 offered_known o s index t r h regular known now = offered o s index t r h regular (known_of o s t _ h.agrees known) now
 
 -- what an agenda comes to, from each history with which a session agrees
-abbrev pub RunsAgenda : Core → Core → List Effect → List Effect → Type 0
-RunsAgenda s f out out' = (o : Setting) (t : Trace) → Agrees o s t → Handles o t (whole_of o s t) HasNoMore f out out'
+abbrev pub RunsAgenda : {S : Type 0} → (S → List ℕ → List Effect → Type 0) → Core → Core → S → S → Type 0
+RunsAgenda has s f out out' = (o : Setting) (t : Trace) → Agrees o s t → Handles has o t (whole_of o s t) HasNoMore f out out'
 
 -- it is delivered as it comes: what the agenda comes to from there is what it comes to with the request held
-pub carried_at_once : (s s' f : Core) (r : Request) (out out' : Vec Effect Global) (out'' : List Effect) → comes_next s r ≡ true → Takes (turn_taken (with_offered s r) (Some (Some (held_now s r)))) s' out out' → RunsAgenda s' f out'.items out'' → RunsAgenda (with_offered s r) f out.items out''
-carried_at_once s s' f r out out' out'' next x rest = λ o t a.
+pub carried_at_once : {S : Type 0} (has : S → List ℕ → List Effect → Type 0) (capacity : S → ℕ) (s s' f : Core) (r : Request) (out out' out'' : S) → comes_next s r ≡ true → Takes has capacity (turn_taken (with_offered s r) (Some (Some (held_now s r)))) s' out out' → RunsAgenda has s' f out' out''
+    → RunsAgenda has (with_offered s r) f out out''
+carried_at_once has capacity s s' f r out out' out'' next x rest = λ o t a.
     let parts = comes_alone s r next in
     let d : Delivered s.window (held_now s r) = delivered s.window (held_now s r) parts.1 in
     let none : next_waiting (with_offered s r) ≡ None = ap (λ n. find (λ (w : Waiting). w.turn == n) s.waiting) d.grown_is.turned ∙ parts.0 in
-    Handles-turned o (with_offered s r) f t out.items out'' (Some (Some (held_now s r))) none d.first.there refl a (subst (λ es. RunsAgenda (turn_taken (with_offered s r) (Some (Some (held_now s r)))).core f es out'') x.effects (subst (λ (v : Core). RunsAgenda v f out'.items out'') x.core rest) o)
+    Handles-turned has capacity o (with_offered s r) s' f t out out' out'' (Some (Some (held_now s r))) none d.first.there refl a x (rest o)
 
 -- a request that is held
-pub held_handled : (o : Setting) (s s' f : Core) (index : ℕ) (t : Trace) (r : Request) (out out' : List Effect) → Offered o s index t r → offer_to s.window r ≡ Held → s' ≡ with_offered s r → RunsAgenda s' f out out' → Handles o t (numbered o t (arrival_of o index t r)) HasOneMore f out out'
-held_handled o s s' f index t r out out' x said is runs = grind (arith, nat_tests)
+pub held_handled : {S : Type 0} (has : S → List ℕ → List Effect → Type 0) (o : Setting) (s s' f : Core) (index : ℕ) (t : Trace) (r : Request) (out out' : S) → Offered o s index t r → offer_to s.window r ≡ Held → s' ≡ with_offered s r → RunsAgenda has s' f out out'
+    → Handles has o t (numbered o t (arrival_of o index t r)) HasOneMore f out out'
+held_handled has o s s' f index t r out out' x said is runs =
+    let a : Arrival = arrival_of o index t r in
+    let t₁ : Trace = (Admits a ∷ []) ∷ t in
+    let h = x.taken said in
+    let rest : List (List Mark) = whole_of o (with_offered s r) t₁ in
+    let done : Handles has o t₁ rest HasNoMore f out out' = subst (λ (v : Core). RunsAgenda has v f out out') is runs o t₁ h.0 in
+    subst (λ (items : List (List Mark)). Handles has o t items HasOneMore f out out') (sym h.1.0) (record {
+      settled = done.settled;
+      effects = λ text es was. subst (λ more. has out' text (es ++ more)) (sym (h.1.1 rest)) (done.effects text es was);
+      receives = inr (a.number, done.receives);
+    })
 
 -- ---- an arrival that isn't numbered
 
@@ -422,9 +475,9 @@ rejected_opcode o s index t r h kind known =
     })
 
 -- an immediate request executes, waits or is refused, and the agenda follows
-pub at_once : (o : Setting) (s s' f : Core) (index : ℕ) (t : Trace) (r : Request) (out out' : Vec Effect Global) (out'' : List Effect) → Settled o s t → kind_of r ≡ ExecutesKind → is_immediate r ≡ true → is_known (connection_of r) o.conns ≡ true → s.taken ≡ index + 1 → list_all (λ w. nat_lt (w.event + 1) s.taken) s.waiting ≡ true
-    → Takes (immediate_taken s r (arrival_by s r)) s' out out' → RunsAgenda s' f out'.items out'' → Handles o t (arrival_open o t (arrival_of o index t r)) HasOneMore f out.items out''
-at_once o s s' f index t r out out' out'' h kind immediate known taken waited x runs =
+pub at_once : {S : Type 0} (has : S → List ℕ → List Effect → Type 0) (capacity : S → ℕ) (o : Setting) (s s' f : Core) (index : ℕ) (t : Trace) (r : Request) (out out' out'' : S) → Settled o s t → kind_of r ≡ ExecutesKind → is_immediate r ≡ true → is_known (connection_of r) o.conns ≡ true → s.taken ≡ index + 1 → list_all (λ w. nat_lt (w.event + 1) s.taken) s.waiting ≡ true
+    → Takes has capacity (immediate_taken s r (arrival_by s r)) s' out out' → RunsAgenda has s' f out' out'' → Handles has o t (arrival_open o t (arrival_of o index t r)) HasOneMore f out out''
+at_once has capacity o s s' f index t r out out' out'' h kind immediate known taken waited x runs =
     let a : Arrival = arrival_of o index t r in
     let item : List Mark = immediate_item o t a in
     let t₁ : Trace = item ∷ t in
@@ -434,9 +487,9 @@ at_once o s s' f index t r out out' out'' h kind immediate known taken waited x 
     let rest : List (List Mark) = whole_of o s' t₁ in
     let items_are : arrival_open o t a ≡ item ∷ rest = ap (arrival_as o t a) kind ∙ ap (λ b. cond b (with_turns o t item) (numbered o t a)) immediate ∙ ap (λ e. item ∷ agenda o e (exp_of o t₁ - e) t₁) start in
     let done = runs o t₁ (subst (λ (v : Core). Agrees o v t₁) (sym x.core) first.0) in
-    subst (λ (items : List (List Mark)). Handles o t items HasOneMore f out.items out'') (sym items_are) (record {
+    subst (λ (items : List (List Mark)). Handles has o t items HasOneMore f out out'') (sym items_are) (record {
       settled = done.settled;
-      effects = done.effects ∙ ap (λ (es : List Effect). es ++ effects_of o t₁ rest) (x.effects ∙ ap (λ (es : List Effect). out.items ++ es) first.1) ∙ append_assoc out.items (effects_of_item o t item) (effects_of o t₁ rest);
+      effects = λ text es was. subst (has out'' text) (ap (λ more. (es ++ more) ++ effects_of o t₁ rest) first.1 ∙ append_assoc es (effects_of_item o t item) (effects_of o t₁ rest)) (done.effects text (es ++ (immediate_taken s r (arrival_by s r)).effects) (x.effects text es was));
       receives = ⊎_elim (λ nothing. inl (done.receives ∙ ap (λ ns. received t ++ ns) nothing ∙ append-nil (received t))) (λ one. inr (one.0, done.receives ∙ ap (λ ns. received t ++ ns) one.1)) (immediate_receives_one o t a);
     })
 

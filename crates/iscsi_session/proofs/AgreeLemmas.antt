@@ -1,5 +1,5 @@
 -- A session that agrees with what has happened agrees after one item more.
-use Rattle.std.proofs.Common.{◌≡◌, ℕ, ◌==◌, ◌&&◌, ◌||◌, not, cond, Bool, true, false, List, [], ◌∷◌, ◌++◌, map, filter, refl, ap, sym, ◌∙◌, arith, ◌+◌, ◌<◌, length, option_map, eq-eqb, get_or, set, length-set, ◌-◌, ◌≤◌, nat_lt}
+use Rattle.std.proofs.Common.{◌≡◌, ℕ, ◌==◌, ◌&&◌, ◌||◌, not, cond, Bool, true, false, List, [], ◌∷◌, ◌++◌, map, filter, refl, ap, sym, ◌∙◌, arith, ◌+◌, ◌<◌, length, option_map, eq-eqb, get_or, set, length-set, ◌-◌, ◌≤◌, nat_lt, subst}
 use Rattle.std.proofs.lemmas.Bool.{eqb-true, ne_eqb, false≢true, ltb-true}
 use Rattle.std.proofs.lemmas.List.{append-nil, map-append, length_push, get_or-set_same, get_or-set_other}
 use Rattle.iscsi_tasks.specs.declared.member.Member.{Member}
@@ -332,8 +332,13 @@ pub record Stepped (o : Setting) (x : Step) (t : Trace) (items : List (List Mark
   pub receives : HasOneMore (received t) (received (after_items items t))
 
 -- and what becomes of a session that takes it
-pub handled : (o : Setting) (x : Step) (t : Trace) (items : List (List Mark)) (now : Core) (out out' : List Effect) → Stepped o x t items → now ≡ x.core → out' ≡ out ++ x.effects → Handles o t items HasOneMore now out out'
-handled o x t items now out out' h core effects = record { settled = rw core h.settled; effects = effects ∙ ap (λ es. out ++ es) h.effects_are; receives = h.receives }
+pub handled : {S : Type 0} (has : S → List ℕ → List Effect → Type 0) (o : Setting) (x : Step) (t : Trace) (items : List (List Mark)) (now : Core) (out out' : S) → Stepped o x t items → now ≡ x.core
+    → ((text : List ℕ) (es : List Effect) → has out text es → has out' text (es ++ x.effects)) → Handles has o t items HasOneMore now out out'
+handled has o x t items now out out' h core effects = record {
+  settled = rw core h.settled;
+  effects = λ text es was. subst (λ more. has out' text (es ++ more)) h.effects_are (effects text es was);
+  receives = h.receives;
+}
 
 -- an event is ignored
 abbrev pub step_ignored : Core → Why → Step

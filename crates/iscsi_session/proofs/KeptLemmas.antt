@@ -1,9 +1,9 @@
 -- The live commands that a session keeps, beside its task sets.
-use Rattle.std.proofs.Common.{◌≡◌, ℕ, ◌+◌, ◌<◌, ◌==◌, ◌&&◌, cond, Bool, true, false, nat_lt, nat_le, List, [], ◌∷◌, ◌++◌, length, map, filter, get_or, set, Option, Some, None, refl, arith, length-set, eq-eqb, zero, suc, ◌≤◌, ◌||◌, not, ⊎_elim, count_by, All, take, is_some, ap, sym, ◌∙◌}
+use Rattle.std.proofs.Common.{◌≡◌, ℕ, ◌+◌, ◌<◌, ◌==◌, ◌&&◌, cond, Bool, true, false, nat_lt, nat_le, List, [], ◌∷◌, ◌++◌, length, map, filter, get_or, set, Option, Some, None, refl, arith, length-set, eq-eqb, zero, suc, ◌≤◌, ◌||◌, not, ⊎_elim, count_by, All, take, is_some, ap, sym, ◌∙◌, drop}
 use Rattle.std.specs.List.{list_all, list_any, AllPairs}
 use Rattle.std.proofs.lemmas.Bool.{cond_both, leb-true, cases_Bool, eqb-true, false≢true, ltb-true, ne_eqb}
 use Rattle.std.proofs.lemmas.Bool.Decides.{nat_tests}
-use Rattle.std.proofs.lemmas.List.{append-nil, map-append, get_or-set_same, get_or-set_other, length-map, get_or_default, get_or-take, length-take-le, take_more}
+use Rattle.std.proofs.lemmas.List.{append-nil, map-append, get_or-set_same, get_or-set_other, length-map, get_or_default, get_or-take, length-take-le, at_drop_more}
 use Rattle.std.proofs.lemmas.List.Elements.{filter-append}
 use Rattle.std.proofs.lemmas.List.Folds.{list_all-map, list_any_none, list_any_more}
 use Rattle.std.proofs.lemmas.List.Sums.{AllPass-from_list_all, sum_by-cons}
@@ -200,8 +200,8 @@ module _ (ts : List ℕ) (k d : ℕ) (inside : k < length ts) where
   pub without_more : (lives : List Live) → without_ticket ticket (without_tickets (take k ts) lives) ≡ without_tickets (take (k + 1) ts) lives
   without_more lives = rw filter-twice (filter-same _ _ lives (λ l. rw (list_any_more (λ t. t == l.ticket) ts k d inside, eq_sym l.ticket ticket) (grind arith)))
 
-  pub leave_more : (unit : ℕ) → leave_each unit (take k ts) ++ Leave ticket unit ∷ [] ≡ leave_each unit (take (k + 1) ts)
-  leave_more unit = rw (take_more ts k d inside, map-append)
+  pub leave_next : (unit : ℕ) → leave_each unit (drop k ts) ≡ Leave ticket unit ∷ leave_each unit (drop (k + 1) ts)
+  leave_next unit = at_drop_more (leave_each unit) ts k d inside
 
   -- it is still among the live ones, as it is above those that left
   pub there_yet : (lives : List Live) → AllPairs (λ (a b : ℕ). a < b) ts → IsSome (find_ticket ticket lives) → IsSome (find_ticket ticket (without_tickets (take k ts) lives))

@@ -24,3 +24,4 @@ pub mod ManageLemmas
 pub mod OwedLemmas
 pub mod PromiseLemmas
 pub mod FoundLemmas
+mod SinkLemmas

@@ -2,6 +2,7 @@
 
 ghost use Rattle.std.specs.Prelude.{IfSome, Err, ◌*◌, ◌≡◌, ◌≢◌, ℕ, ◌+◌, ◌≤◌, ◌<◌, true, List, [], ◌∷◌, ◌++◌, OnOk, OnErr, IfOk, length, nat_lt, count_by, is_some, vec_len, vec_capacity};
 ghost use Rattle.std.specs.List.{list_all};
+ghost use Rattle.iscsi_rules.specs.declared.effect.Effect.{Effect as SpecEffect};
 ghost use Rattle.iscsi_rules.specs.rules.Settings.{Setting, is_valid};
 ghost use Rattle.iscsi_session.specs.promises.Settings.{setting_of};
 ghost use Rattle.iscsi_connections.specs.Connected.{opened};
@@ -29,6 +30,7 @@ use crate::session::waiting::Waitlist;
 use iscsi_commands::LiveCommands;
 use iscsi_connections::{Connections, MOST_IMMEDIATE};
 use iscsi_rules::{Effect, Event, Numbers};
+use iscsi_sinks::EffectSink;
 use iscsi_tasks::LinkedTaskSet;
 use iscsi_window::EventWindow;
 use iscsi_wire::Request;
@@ -249,26 +251,62 @@ impl Session {
 
     /// Takes an event that is counted. It is apart from `step`, so that this one is short where it is inlined.
     #[inline(never)]
-    fn apply(&mut self, event: &Event, out: &mut Vec<Effect>)
+    fn apply<S: EffectSink>(&mut self, event: &Event, out: &mut S)
         requires known { comes_on self.old.conns event.now ≡ true }
         requires counted { self.old.window.turned + count_by is_some self.old.window.places < self.old.taken }
         requires entered { self.old.entered + count_by is_some self.old.window.places < self.old.taken }
         requires waited { list_all (λ w. nat_lt (w.event + 1) self.old.taken) self.old.waiting ≡ true }
         requires owed { owed self.old.live self.old.sets ≤ 2 * length self.old.live }
-        requires room { vec_len out.old + 12 * (count_by is_held self.old.window.places + length self.old.waiting + 1)
-            + 2 * length self.old.live ≤ vec_capacity out.old }
+        requires room { S.len out.old + 12 * (count_by is_held self.old.window.places + length self.old.waiting + 1)
+            + 2 * length self.old.live ≤ S.capacity out.old }
         ensures items { (o : Setting) (index : ℕ) (t : Trace) → self.old.taken ≡ index + 1 → Settled o self.old t →
-            Handles o t (items_of o index t event.now) HasOneMore self.new out.old.items out.new.items }
+            Handles S.has o t (items_of o index t event.now) HasOneMore self.new out.old out.new }
         ensures taken { self.new.taken ≡ self.old.taken }
         ensures pace { KeepsPace self.old.window self.new.window }
-        ensures spent { vec_len out.new ≤ vec_len out.old
+        ensures spent { S.len out.new ≤ S.len out.old
             + 12 * (count_by is_held self.old.window.places + length self.old.waiting + 1) + 2 * length self.old.live }
-        ensures capacity { vec_capacity out.new ≡ vec_capacity out.old }
+        ensures capacity { S.capacity out.new ≡ S.capacity out.old }
     {
         match *event {
             Event::Arrive { conn, header } => self.arrive(&Request::read(conn, &header), out),
             Event::Done { ticket, status } => self.complete(ticket, status, out),
         }
+    }
+
+    /// Takes an event as `step` does, and hands its effects to `sink` as they come. No memory is asked for: there is room
+    /// for 18,444 effects more, and no event of any session gives more.
+    ///
+    /// Refusals, in order: `UnknownConnection`, `Exhausted`. Each leaves the session and `sink` as they were.
+    #[inline(always)]
+    pub fn step_into<S: EffectSink>(
+        &mut self,
+        event: &Event,
+        sink: &mut S,
+    ) -> Result<Numbers, SessionFault>
+        requires room { S.len sink.old + 18444 ≤ S.capacity sink.old }
+        ensures stands { (o : Setting) (h : List Event) → StandsFor o self.old h →
+            OnOk result (StandsFor o self.new (h ++ event.now ∷ [])) }
+        ensures effects { (o : Setting) (h : List Event) → StandsFor o self.old h →
+            OnOk result ((text : List ℕ) (es : List SpecEffect) → S.has sink.old text es →
+            S.has sink.new text (es ++ (next_entry o h event.now).effects)) }
+        ensures numbers { (o : Setting) (h : List Event) → StandsFor o self.old h →
+            IfOk result (λ n. n ≡ (next_entry o h event.now).numbers) }
+        ensures refused { (o : Setting) (h : List Event) → StandsFor o self.old h →
+            RefusesAs (refusal_of o h event.now) result }
+        ensures memory { result ≢ Err SessionFault.NoMemory }
+        ensures err { OnErr result (self.new ≡ self.old) }
+        ensures err_out { OnErr result (sink.new ≡ sink.old) }
+        ensures flow { (o : Setting) (h : List Event) → StandsFor o self.old h →
+            OnOk result (Flows o (trace_of o h) (trace_of o (h ++ event.now ∷ []))) }
+        ensures capacity { S.capacity sink.new ≡ S.capacity sink.old }
+    {
+        if let Some(fault) = self.refusal(event) {
+            return Err(fault);
+        }
+        self.taken += 1;
+        self.apply(event, sink);
+        let at_end = self.numbers();
+        Ok(at_end)
     }
 
     /// Why `step` would refuse this event, memory aside.

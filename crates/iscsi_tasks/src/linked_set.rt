@@ -83,6 +83,7 @@ impl LinkedTaskSet {
     /// ticket is given that no call gave before: where the others were given, that of the command itself if it is
     /// enabled. Where the set is full the command comes back. The cost doesn't grow with the set, where no other ticket
     /// waits to be given; else it looks for that as `next_new` does.
+    #[inline(always)]
     pub fn enter_and_give(&mut self, task: Task) -> Result<Entered, Task>
         requires { IsNewest task.ticket self.old }
         ensures ok { OnOk result ((length self.old.list < self.old.depth)
@@ -130,6 +131,7 @@ impl LinkedTaskSet {
     ///
     /// What grows with the set is what grows for `leave`.
     #[tactic(auto, using(crate::proofs::SearchLemmas::not_enabled, crate::proofs::LinkedSetLemmas::slot_there, std::proofs::lemmas::Grind::common_steps))]
+    #[inline(always)]
     pub fn leave_enabled(&mut self, ticket: u64, slot: u16) -> bool
         ensures answer { result ≡ is_enabled_in ticket self.old.list }
         ensures left { result ≡ true → self.new ≡ left_by self.old (with_ticket ticket (tasks_in self.old)) }

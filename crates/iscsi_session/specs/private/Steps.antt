@@ -1,7 +1,6 @@
 -- What a session keeps after a step, and its effects, by what it keeps before. For private contracts alone.
-use Rattle.std.specs.Prelude.{◌≡◌, ℕ, pos, ◌-ℤ◌, ◌+◌, ◌-◌, ◌≤◌, ◌==◌, ◌&&◌, ◌||◌, not, count_by, nat_lt, nat_le, Bool, true, List, [], ◌∷◌, ◌++◌, length, map, take, filter, slice_index_or, slice_set, Option, Some, None, Vec, vec_capacity, if◌then◌else◌}
+use Rattle.std.specs.Prelude.{◌≡◌, ℕ, pos, ◌-ℤ◌, ◌+◌, ◌-◌, ◌≤◌, ◌==◌, ◌&&◌, ◌||◌, not, count_by, nat_lt, nat_le, Bool, true, List, [], ◌∷◌, ◌++◌, length, map, take, filter, slice_index_or, slice_set, Option, Some, None, if◌then◌else◌}
 use Rattle.std.specs.List.{list_any, list_all, flat_map, range_with_len}
-use Rattle.std.specs.declared.alloc.Global.{Global}
 use Rattle.iscsi_wire.specs.declared.request.Request.{Request}
 use Rattle.iscsi_wire.specs.declared.reply.Reply.{Reply}
 use Rattle.iscsi_wire.specs.declared.reply.Reply.TheVariants.{Scsi}
@@ -66,26 +65,32 @@ and_then x next = record { core = (next x.core).core; effects = x.effects ++ (ne
 abbrev pub after_effect : Effect → Step → Step
 after_effect e x = record { core = x.core; effects = e ∷ x.effects }
 
--- these effects were appended, and there is as much room as before
-pub record Appends (effects : List Effect) (out out' : Vec Effect Global) : Type 0 where
-  pub items : out'.items ≡ out.items ++ effects
-  pub room : vec_capacity out' ≡ vec_capacity out
+-- these effects were appended to what stood there before, and there is as much room as before
+pub record Appends {S : Type 0} (has : S → List ℕ → List Effect → Type 0) (capacity : S → ℕ) (effects : List Effect) (out out' : S) : Type 0 where
+  pub items : (text : List ℕ) (es : List Effect) → has out text es → has out' text (es ++ effects)
+  pub room : capacity out' ≡ capacity out
 
 -- the step was taken
-pub record Takes (step : Step) (now : Core) (out out' : Vec Effect Global) : Type 0 where
+pub record Takes {S : Type 0} (has : S → List ℕ → List Effect → Type 0) (capacity : S → ℕ) (step : Step) (now : Core) (out out' : S) : Type 0 where
   pub core : now ≡ step.core
-  pub effects : out'.items ≡ out.items ++ step.effects
-  pub room : vec_capacity out' ≡ vec_capacity out
+  pub effects : (text : List ℕ) (es : List Effect) → has out text es → has out' text (es ++ step.effects)
+  pub room : capacity out' ≡ capacity out
+
+-- of these effects some were appended, and the rest is still to be
+pub record Continues {S : Type 0} (has : S → List ℕ → List Effect → Type 0) (whole rest : List Effect) (out out' : S) : Type 0 where
+  pub done : List Effect
+  pub effects : (text : List ℕ) (es : List Effect) → has out text es → has out' text (es ++ done)
+  pub both : done ++ rest ≡ whole
 
 -- what some items lead to: their effects were appended
-pub record Runs (o : Setting) (t : Trace) (items : List (List Mark)) (s : Core) (out out' : List Effect) : Type 0 where
+pub record Runs {S : Type 0} (has : S → List ℕ → List Effect → Type 0) (o : Setting) (t : Trace) (items : List (List Mark)) (s : Core) (out out' : S) : Type 0 where
   pub agrees : Agrees o s (after_items items t)
-  pub effects : out' ≡ out ++ effects_of o t items
+  pub effects : (text : List ℕ) (es : List Effect) → has out text es → has out' text (es ++ effects_of o t items)
 
 -- and nothing is due any more. So many numbers may be received by them
-pub record Handles (o : Setting) (t : Trace) (items : List (List Mark)) (Receives : List ℕ → List ℕ → Type 0) (s : Core) (out out' : List Effect) : Type 0 where
+pub record Handles {S : Type 0} (has : S → List ℕ → List Effect → Type 0) (o : Setting) (t : Trace) (items : List (List Mark)) (Receives : List ℕ → List ℕ → Type 0) (s : Core) (out out' : S) : Type 0 where
   pub settled : Settled o s (after_items items t)
-  pub effects : out' ≡ out ++ effects_of o t items
+  pub effects : (text : List ℕ) (es : List Effect) → has out text es → has out' text (es ++ effects_of o t items)
   pub receives : Receives (received t) (received (after_items items t))
 
 abbrev pub HasNoMore : List ℕ → List ℕ → Type 0

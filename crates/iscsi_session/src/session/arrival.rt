@@ -4,6 +4,7 @@ ghost use Rattle.std.specs.Prelude.{false, ◌-◌, ◌*◌, ◌≡◌, ℕ, ◌
 ghost use Rattle.std.specs.List.{list_all};
 ghost use Rattle.iscsi_wire.specs.Fields.{connection_of, is_immediate, opcode};
 ghost use Rattle.iscsi_window.specs.Windows.{HasRoom, at_place, offer_to, number_expected};
+ghost use Rattle.iscsi_rules.specs.declared.effect.Effect.{Effect};
 ghost use Rattle.iscsi_rules.specs.rules.Settings.{Setting, is_known as known_in};
 ghost use Rattle.iscsi_rules.specs.rules.Trace.{Trace};
 ghost use Rattle.iscsi_rules.specs.promises.Flow.{HasOneMore};
@@ -16,7 +17,8 @@ ghost use Rattle.iscsi_session.specs.private.Deeds.{executed, turn_taken, comes_
 
 use crate::opcode::kind_of;
 use crate::session::Session;
-use iscsi_rules::{Effect, Kind, Why};
+use iscsi_rules::{Kind, Why};
+use iscsi_sinks::EffectSink;
 use iscsi_window::{HeldRequest, Offer};
 use iscsi_wire::Request;
 
@@ -24,49 +26,48 @@ impl Session {
     /// Takes a request that arrived. Nothing is taken on a connection that is closed.
     ///
     /// Rule: `arrival/closed`.
-    pub(crate) fn arrive(&mut self, request: &Request, out: &mut Vec<Effect>)
+    pub(crate) fn arrive<S: EffectSink>(&mut self, request: &Request, out: &mut S)
         requires known { known_in (connection_of request.now) self.old.conns ≡ true }
         requires counted { self.old.window.turned + count_by is_some self.old.window.places < self.old.taken }
         requires entered { self.old.entered + count_by is_some self.old.window.places < self.old.taken }
         requires waited { list_all (λ w. nat_lt (w.event + 1) self.old.taken) self.old.waiting ≡ true }
-        requires room { vec_len out.old + owed self.old.live self.old.sets
-            + 6 * (count_by is_held self.old.window.places + length self.old.waiting + 1) + 1 ≤ vec_capacity out.old }
+        requires room { S.len out.old + owed self.old.live self.old.sets
+            + 6 * (count_by is_held self.old.window.places + length self.old.waiting + 1) + 1 ≤ S.capacity out.old }
         ensures items { (o : Setting) (index : ℕ) (t : Trace) → self.old.taken ≡ index + 1 → Settled o self.old t →
-            Handles o t (arrival o t (arrival_of o index t request.now)) HasOneMore self.new out.old.items out.new.items }
+            Handles S.has o t (arrival o t (arrival_of o index t request.now)) HasOneMore self.new out.old out.new }
         ensures taken { self.new.taken ≡ self.old.taken }
         ensures pace { KeepsPace self.old.window self.new.window }
-        ensures spent { vec_len out.new ≤ vec_len out.old + owed self.old.live self.old.sets
+        ensures spent { S.len out.new ≤ S.len out.old + owed self.old.live self.old.sets
             + 6 * (count_by is_held self.old.window.places + length self.old.waiting + 1) + 1 }
-        ensures capacity { vec_capacity out.new ≡ vec_capacity out.old }
+        ensures capacity { S.capacity out.new ≡ S.capacity out.old }
     {
         if self.is_open(request.conn()) {
             self.dispatch(request, out);
         } else {
-            out.push_reserved(Effect::Ignore { why: Why::Closed });
+            out.put_ignore(Why::Closed);
         }
     }
 
     /// Dispatches a request that arrived on an open connection, by its opcode.
     ///
     /// Rules: `arrival/data`, `arrival/unknown-opcode`, `arrival/immediate`.
-    fn dispatch(&mut self, request: &Request, out: &mut Vec<Effect>)
+    fn dispatch<S: EffectSink>(&mut self, request: &Request, out: &mut S)
         requires known { known_in (connection_of request.now) self.old.conns ≡ true }
         requires counted { self.old.window.turned + count_by is_some self.old.window.places < self.old.taken }
         requires entered { self.old.entered + count_by is_some self.old.window.places < self.old.taken }
         requires waited { list_all (λ w. nat_lt (w.event + 1) self.old.taken) self.old.waiting ≡ true }
-        requires room { vec_len out.old + owed self.old.live self.old.sets
-            + 6 * (count_by is_held self.old.window.places + length self.old.waiting + 1) + 1 ≤ vec_capacity out.old }
+        requires room { S.len out.old + owed self.old.live self.old.sets
+            + 6 * (count_by is_held self.old.window.places + length self.old.waiting + 1) + 1 ≤ S.capacity out.old }
         ensures items { (o : Setting) (index : ℕ) (t : Trace) → self.old.taken ≡ index + 1 → Settled o self.old t →
-            Handles o t (arrival_open o t (arrival_of o index t request.now)) HasOneMore self.new out.old.items
-            out.new.items }
+            Handles S.has o t (arrival_open o t (arrival_of o index t request.now)) HasOneMore self.new out.old out.new }
         ensures taken { self.new.taken ≡ self.old.taken }
         ensures pace { KeepsPace self.old.window self.new.window }
-        ensures spent { vec_len out.new ≤ vec_len out.old + owed self.old.live self.old.sets
+        ensures spent { S.len out.new ≤ S.len out.old + owed self.old.live self.old.sets
             + 6 * (count_by is_held self.old.window.places + length self.old.waiting + 1) + 1 }
-        ensures capacity { vec_capacity out.new ≡ vec_capacity out.old }
+        ensures capacity { S.capacity out.new ≡ S.capacity out.old }
     {
         match kind_of(request) {
-            Kind::PassedOver => out.push_reserved(Effect::Ignore { why: Why::Data }),
+            Kind::PassedOver => out.put_ignore(Why::Data),
             Kind::Unknown => self.reject_opcode(request, out),
             Kind::Executes => {
                 if request.immediate() {
@@ -82,20 +83,20 @@ impl Session {
     /// Offers a numbered request to the window, and delivers what becomes due by it.
     ///
     /// Rules: `arrival/outside`, `arrival/duplicate`, `arrival/held`.
-    fn receive_numbered(&mut self, request: &Request, out: &mut Vec<Effect>)
+    fn receive_numbered<S: EffectSink>(&mut self, request: &Request, out: &mut S)
         requires regular { is_immediate request.now ≡ false }
         requires known { known_in (connection_of request.now) self.old.conns ≡ true }
         requires counted { self.old.window.turned + count_by is_some self.old.window.places < self.old.taken }
         requires entered { self.old.entered + count_by is_some self.old.window.places < self.old.taken }
-        requires room { vec_len out.old + owed self.old.live self.old.sets
-            + 6 * (count_by is_held self.old.window.places + length self.old.waiting + 1) ≤ vec_capacity out.old }
+        requires room { S.len out.old + owed self.old.live self.old.sets
+            + 6 * (count_by is_held self.old.window.places + length self.old.waiting + 1) ≤ S.capacity out.old }
         ensures items { (o : Setting) (index : ℕ) (t : Trace) → self.old.taken ≡ index + 1 → Settled o self.old t →
-            Handles o t (numbered o t (arrival_of o index t request.now)) HasOneMore self.new out.old.items out.new.items }
+            Handles S.has o t (numbered o t (arrival_of o index t request.now)) HasOneMore self.new out.old out.new }
         ensures taken { self.new.taken ≡ self.old.taken }
         ensures pace { KeepsPace self.old.window self.new.window }
-        ensures spent { vec_len out.new ≤ vec_len out.old + owed self.old.live self.old.sets
+        ensures spent { S.len out.new ≤ S.len out.old + owed self.old.live self.old.sets
             + 6 * (count_by is_held self.old.window.places + length self.old.waiting + 1) }
-        ensures capacity { vec_capacity out.new ≡ vec_capacity out.old }
+        ensures capacity { S.capacity out.new ≡ S.capacity out.old }
     {
         if self.comes_next(request) {
             self.deliver_at_once(request, out);
@@ -104,10 +105,8 @@ impl Session {
         }
         match self.offer(request) {
             Offer::Held => self.run_agenda(out),
-            Offer::Outside => out.push_reserved(Effect::Ignore { why: Why::Outside }),
-            Offer::Duplicate => out.push_reserved(Effect::Ignore {
-                why: Why::Duplicate,
-            }),
+            Offer::Outside => out.put_ignore(Why::Outside),
+            Offer::Duplicate => out.put_ignore(Why::Duplicate),
         }
     }
 
@@ -120,21 +119,21 @@ impl Session {
     }
 
     /// Delivers a numbered request as it comes, so that the window needn't hold it.
-    fn deliver_at_once(&mut self, request: &Request, out: &mut Vec<Effect>)
+    fn deliver_at_once<S: EffectSink>(&mut self, request: &Request, out: &mut S)
         requires next { comes_next self.old request.now ≡ true }
         requires regular { is_immediate request.now ≡ false }
         requires known { known_in (connection_of request.now) self.old.conns ≡ true }
         requires counted { self.old.window.turned + count_by is_some self.old.window.places < self.old.taken }
         requires entered { self.old.entered + count_by is_some self.old.window.places < self.old.taken }
-        requires room { vec_len out.old + owed self.old.live self.old.sets + 6 * count_by is_held self.old.window.places
-            + 6 ≤ vec_capacity out.old }
+        requires room { S.len out.old + owed self.old.live self.old.sets + 6 * count_by is_held self.old.window.places
+            + 6 ≤ S.capacity out.old }
         // It is offered, and turns.
-        ensures done { Takes (turn_taken (with_offered self.old request.now) (Some (Some (record {
+        ensures done { Takes S.has S.capacity (turn_taken (with_offered self.old request.now) (Some (Some (record {
           request = request.now;
           event = self.old.taken - 1;
         })))) self.new out.old out.new }
-        ensures spent { vec_len out.new + owed self.new.live self.new.sets
-            + 6 * (count_by is_held self.new.window.places + length self.new.waiting) ≤ vec_len out.old
+        ensures spent { S.len out.new + owed self.new.live self.new.sets
+            + 6 * (count_by is_held self.new.window.places + length self.new.waiting) ≤ S.len out.old
             + owed self.old.live self.old.sets
             + 6 * (count_by is_held self.old.window.places + length self.old.waiting + 1) }
     {
@@ -144,6 +143,7 @@ impl Session {
     }
 
     /// Offers a numbered request to the window.
+    #[inline(always)]
     fn offer(&mut self, request: &Request) -> Offer
         requires regular { is_immediate request.now ≡ false }
         requires known { known_in (connection_of request.now) self.old.conns ≡ true }
@@ -161,17 +161,17 @@ impl Session {
     /// Runs the agenda: delivers each number that is due, and executes the functions that waited for it before.
     // It is inlined: mostly nothing is due.
     #[inline(always)]
-    fn run_agenda(&mut self, out: &mut Vec<Effect>)
-        requires room { vec_len out.old + owed self.old.live self.old.sets
-            + 6 * (count_by is_held self.old.window.places + length self.old.waiting) ≤ vec_capacity out.old }
+    fn run_agenda<S: EffectSink>(&mut self, out: &mut S)
+        requires room { S.len out.old + owed self.old.live self.old.sets
+            + 6 * (count_by is_held self.old.window.places + length self.old.waiting) ≤ S.capacity out.old }
         ensures items { (o : Setting) (t : Trace) → Agrees o self.old t →
-            Handles o t (agenda o (number_expected self.old.window) (exp_of o t - number_expected self.old.window) t)
-            HasNoMore self.new out.old.items out.new.items }
+            Handles S.has o t (agenda o (number_expected self.old.window) (exp_of o t - number_expected self.old.window) t)
+            HasNoMore self.new out.old out.new }
         ensures taken { self.new.taken ≡ self.old.taken }
         ensures pace { KeepsPace self.old.window self.new.window }
-        ensures spent { vec_len out.new ≤ vec_len out.old + owed self.old.live self.old.sets
+        ensures spent { S.len out.new ≤ S.len out.old + owed self.old.live self.old.sets
             + 6 * (count_by is_held self.old.window.places + length self.old.waiting) }
-        ensures capacity { vec_capacity out.new ≡ vec_capacity out.old }
+        ensures capacity { S.capacity out.new ≡ S.capacity out.old }
     {
         self.execute_waiting(out);
         while self.deliver_next(out) {
@@ -181,19 +181,19 @@ impl Session {
 
     /// Executes the functions that have waited for the next number.
     #[inline(always)]
-    fn execute_waiting(&mut self, out: &mut Vec<Effect>)
-        requires room { vec_len out.old + owed self.old.live self.old.sets + 6 * length self.old.waiting
-            ≤ vec_capacity out.old }
+    fn execute_waiting<S: EffectSink>(&mut self, out: &mut S)
+        requires room { S.len out.old + owed self.old.live self.old.sets + 6 * length self.old.waiting
+            ≤ S.capacity out.old }
         ensures items { (o : Setting) (t : Trace) → Agrees o self.old t →
-            Runs o t (functions_at o (number_expected self.old.window) t) self.new out.old.items out.new.items }
+            Runs S.has o t (functions_at o (number_expected self.old.window) t) self.new out.old out.new }
         ensures places { self.new.window.places ≡ self.old.window.places }
         ensures turned { self.new.window.turned ≡ self.old.window.turned }
         ensures first { self.new.window.first ≡ self.old.window.first }
         ensures taken { self.new.taken ≡ self.old.taken }
         ensures pace { KeepsPace self.old.window self.new.window }
-        ensures spent { vec_len out.new + owed self.new.live self.new.sets + 6 * length self.new.waiting
-            ≤ vec_len out.old + owed self.old.live self.old.sets + 6 * length self.old.waiting }
-        ensures capacity { vec_capacity out.new ≡ vec_capacity out.old }
+        ensures spent { S.len out.new + owed self.new.live self.new.sets + 6 * length self.new.waiting
+            ≤ S.len out.old + owed self.old.live self.old.sets + 6 * length self.old.waiting }
+        ensures capacity { S.capacity out.new ≡ S.capacity out.old }
     {
         if self.waiting.has_due(self.window.turned()) {
             self.execute_all_waiting(out);
@@ -202,49 +202,49 @@ impl Session {
 
     /// Executes the functions that have waited for the next number, of those that wait.
     #[inline(never)]
-    fn execute_all_waiting(&mut self, out: &mut Vec<Effect>)
-        requires room { vec_len out.old + owed self.old.live self.old.sets + 6 * length self.old.waiting
-            ≤ vec_capacity out.old }
+    fn execute_all_waiting<S: EffectSink>(&mut self, out: &mut S)
+        requires room { S.len out.old + owed self.old.live self.old.sets + 6 * length self.old.waiting
+            ≤ S.capacity out.old }
         ensures items { (o : Setting) (t : Trace) → Agrees o self.old t →
-            Runs o t (functions_at o (number_expected self.old.window) t) self.new out.old.items out.new.items }
+            Runs S.has o t (functions_at o (number_expected self.old.window) t) self.new out.old out.new }
         ensures places { self.new.window.places ≡ self.old.window.places }
         ensures turned { self.new.window.turned ≡ self.old.window.turned }
         ensures first { self.new.window.first ≡ self.old.window.first }
         ensures taken { self.new.taken ≡ self.old.taken }
         ensures pace { KeepsPace self.old.window self.new.window }
-        ensures spent { vec_len out.new + owed self.new.live self.new.sets + 6 * length self.new.waiting
-            ≤ vec_len out.old + owed self.old.live self.old.sets + 6 * length self.old.waiting }
-        ensures capacity { vec_capacity out.new ≡ vec_capacity out.old }
+        ensures spent { S.len out.new + owed self.new.live self.new.sets + 6 * length self.new.waiting
+            ≤ S.len out.old + owed self.old.live self.old.sets + 6 * length self.old.waiting }
+        ensures capacity { S.capacity out.new ≡ S.capacity out.old }
     {
         while self.execute_next_waiting(out) {}
     }
 
     /// Delivers a request that was held, apart from those that are delivered as they come.
     #[inline(never)]
-    fn deliver_apart(&mut self, request: &Request, event: u64, out: &mut Vec<Effect>)
+    fn deliver_apart<S: EffectSink>(&mut self, request: &Request, event: u64, out: &mut S)
         requires space { HasRoom self.old.window }
         requires numbered { is_immediate request.now ≡ false }
         requires counted { self.old.entered + count_by is_some self.old.window.places < self.old.taken }
         requires known { known_in (connection_of request.now) self.old.conns ≡ true }
-        requires room { vec_len out.old + owed self.old.live self.old.sets + 6 * count_by is_held self.old.window.places
-            + 6 ≤ vec_capacity out.old }
-        ensures done { Takes (after_effect (Effect.Deliver request.now) (executed self.old request.now event)) self.new
+        requires room { S.len out.old + owed self.old.live self.old.sets + 6 * count_by is_held self.old.window.places
+            + 6 ≤ S.capacity out.old }
+        ensures done { Takes S.has S.capacity (after_effect (Effect.Deliver request.now) (executed self.old request.now event)) self.new
             out.old out.new }
-        ensures spent { vec_len out.new + owed self.new.live self.new.sets + 6 * count_by is_held self.new.window.places
-            ≤ vec_len out.old + owed self.old.live self.old.sets + 6 * count_by is_held self.old.window.places + 6 }
+        ensures spent { S.len out.new + owed self.new.live self.new.sets + 6 * count_by is_held self.new.window.places
+            ≤ S.len out.old + owed self.old.live self.old.sets + 6 * count_by is_held self.old.window.places + 6 }
         ensures waiting { length self.new.waiting ≤ length self.old.waiting }
     {
         self.deliver(request, event, out);
     }
 
     /// Delivers the request of the next number, if that is received, and answers whether it was.
-    fn deliver_next(&mut self, out: &mut Vec<Effect>) -> bool
-        requires room { vec_len out.old + owed self.old.live self.old.sets + 6 * count_by is_held self.old.window.places
-            ≤ vec_capacity out.old }
+    fn deliver_next<S: EffectSink>(&mut self, out: &mut S) -> bool
+        requires room { S.len out.old + owed self.old.live self.old.sets + 6 * count_by is_held self.old.window.places
+            ≤ S.capacity out.old }
         ensures answer { result ≡ is_some (at_place self.old.window 0) }
-        ensures done { Takes (turn_taken self.old (at_place self.old.window 0)) self.new out.old out.new }
-        ensures spent { vec_len out.new + owed self.new.live self.new.sets + 6 * count_by is_held self.new.window.places
-            ≤ vec_len out.old + owed self.old.live self.old.sets + 6 * count_by is_held self.old.window.places }
+        ensures done { Takes S.has S.capacity (turn_taken self.old (at_place self.old.window 0)) self.new out.old out.new }
+        ensures spent { S.len out.new + owed self.new.live self.new.sets + 6 * count_by is_held self.new.window.places
+            ≤ S.len out.old + owed self.old.live self.old.sets + 6 * count_by is_held self.old.window.places }
         ensures fewer { result ≡ true → count_by is_some self.new.window.places + 1
             ≡ count_by is_some self.old.window.places }
         ensures waiting { length self.new.waiting ≤ length self.old.waiting }

@@ -11,7 +11,8 @@ use crate::session::leaving::end_command;
 use crate::session::sets::CHECK_CONDITION;
 use iscsi_commands::{Live, LiveCommands, Placed};
 use iscsi_connections::Connections;
-use iscsi_rules::{Effect, Why};
+use iscsi_rules::Why;
+use iscsi_sinks::EffectSink;
 use iscsi_tasks::LinkedTaskSet;
 use iscsi_window::EventWindow;
 use iscsi_wire::{Reply, Sense};
@@ -27,14 +28,14 @@ impl Session {
     /// Takes a completion: the command leaves and is answered, and others may become enabled.
     ///
     /// Rules: `completion/stale`, `completion/status`.
-    pub(crate) fn complete(&mut self, ticket: u64, status: u8, out: &mut Vec<Effect>)
-        requires room { vec_len out.old + owed self.old.live self.old.sets + 1 ≤ vec_capacity out.old }
-        ensures done { Takes (completed self.old (enabled_in self.old.sets self.old.live ticket) status) self.new
+    pub(crate) fn complete<S: EffectSink>(&mut self, ticket: u64, status: u8, out: &mut S)
+        requires room { S.len out.old + owed self.old.live self.old.sets + 1 ≤ S.capacity out.old }
+        ensures done { Takes S.has S.capacity (completed self.old (enabled_in self.old.sets self.old.live ticket) status) self.new
             out.old out.new }
-        ensures spent { vec_len out.new ≤ vec_len out.old + owed self.old.live self.old.sets + 1 }
+        ensures spent { S.len out.new ≤ S.len out.old + owed self.old.live self.old.sets + 1 }
     {
         let Some(command) = self.leave_enabled(ticket, out) else {
-            out.push_reserved(Effect::Ignore { why: Why::Stale });
+            out.put_ignore(Why::Stale);
             return;
         };
         let reply = Reply::Scsi {
@@ -48,13 +49,13 @@ impl Session {
 
     /// The live command with this ticket leaves, if it is enabled in the set of its unit.
     #[inline(always)]
-    fn leave_enabled(&mut self, ticket: u64, out: &mut Vec<Effect>) -> Option<Live>
-        requires room { vec_len out.old + owed self.old.live self.old.sets ≤ vec_capacity out.old }
+    fn leave_enabled<S: EffectSink>(&mut self, ticket: u64, out: &mut S) -> Option<Live>
+        requires room { S.len out.old + owed self.old.live self.old.sets ≤ S.capacity out.old }
         ensures command { result ≡ enabled_in self.old.sets self.old.live ticket }
         ensures unit { IfSome result (λ l. l.unit < length self.new.sets) }
-        ensures done { MatchOption result (Takes (unchanged self.old) self.new out.old out.new)
-            (λ l. Takes (commands_left self.old l.unit (covers_ticket l.ticket)) self.new out.old out.new) }
-        ensures spent { vec_len out.new + owed self.new.live self.new.sets ≤ vec_len out.old
+        ensures done { MatchOption result (Takes S.has S.capacity (unchanged self.old) self.new out.old out.new)
+            (λ l. Takes S.has S.capacity (commands_left self.old l.unit (covers_ticket l.ticket)) self.new out.old out.new) }
+        ensures spent { S.len out.new + owed self.new.live self.new.sets ≤ S.len out.old
             + owed self.old.live self.old.sets }
     {
         let Some(command) = take_enabled(&mut self.sets, &self.live, ticket) else {
@@ -66,15 +67,13 @@ impl Session {
             &mut self.live,
             &command,
         );
-        out.push_reserved(Effect::Leave {
-            ticket: command.ticket,
-            unit: command.unit,
-        });
+        out.put_leave(command.ticket, command.unit);
         Some(command)
     }
 }
 
 /// The live command with this ticket leaves the set of its unit, if it is enabled there. It is still among the live ones.
+#[inline(always)]
 fn take_enabled(sets: &mut [LinkedTaskSet], live: &LiveCommands, ticket: u64) -> Option<Live>
     requires units { list_all (λ l. nat_lt l.unit (length sets.old)) live.now.items ≡ true }
     ensures command { result ≡ enabled_in sets.old live.now.items ticket }

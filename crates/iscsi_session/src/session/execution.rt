@@ -4,6 +4,7 @@ ghost use Rattle.std.specs.Prelude.{◌-◌, ◌*◌, ℕ, pos, ◌-ℤ◌, fals
 ghost use Rattle.iscsi_wire.specs.Serial.{number_of_first};
 ghost use Rattle.iscsi_wire.specs.Fields.{connection_of, is_immediate, itt as tag_of};
 ghost use Rattle.iscsi_window.specs.Windows.{HasRoom};
+ghost use Rattle.iscsi_rules.specs.declared.effect.Effect.{Effect};
 ghost use Rattle.iscsi_rules.specs.rules.Settings.{is_known as known_in};
 ghost use Rattle.iscsi_rules.specs.rules.Execution.{MOST_IMMEDIATE, attr_of as attr_named, reply_of};
 ghost use Rattle.iscsi_session.specs.private.Standing.{is_held};
@@ -17,7 +18,8 @@ use crate::session::sets::CHECK_CONDITION;
 use crate::session::{Session, sets};
 use iscsi_commands::Live;
 use iscsi_connections::Connections;
-use iscsi_rules::{Answer, Deed, Effect};
+use iscsi_rules::{Answer, Deed};
+use iscsi_sinks::EffectSink;
 use iscsi_tasks::{Attr, Cover, Task};
 use iscsi_window::EventWindow;
 use iscsi_wire::{Reply, Request, Sense, distance};
@@ -36,30 +38,28 @@ impl Session {
     /// Executes the request of the number that has turned last, which arrived in this event.
     // It is inlined where a request is delivered as it comes: what it does is found in registers then.
     #[inline(always)]
-    pub(crate) fn deliver(&mut self, request: &Request, event: u64, out: &mut Vec<Effect>)
+    pub(crate) fn deliver<S: EffectSink>(&mut self, request: &Request, event: u64, out: &mut S)
         requires space { HasRoom self.old.window }
         requires numbered { is_immediate request.now ≡ false }
         requires counted { self.old.entered + count_by is_some self.old.window.places < self.old.taken }
         requires known { known_in (connection_of request.now) self.old.conns ≡ true }
-        requires room { vec_len out.old + owed self.old.live self.old.sets + 6 * count_by is_held self.old.window.places
-            + 6 ≤ vec_capacity out.old }
-        ensures done { Takes (after_effect (Effect.Deliver request.now) (executed self.old request.now event)) self.new
+        requires room { S.len out.old + owed self.old.live self.old.sets + 6 * count_by is_held self.old.window.places
+            + 6 ≤ S.capacity out.old }
+        ensures done { Takes S.has S.capacity (after_effect (Effect.Deliver request.now) (executed self.old request.now event)) self.new
             out.old out.new }
-        ensures spent { vec_len out.new + owed self.new.live self.new.sets + 6 * count_by is_held self.new.window.places
-            ≤ vec_len out.old + owed self.old.live self.old.sets + 6 * count_by is_held self.old.window.places + 6 }
+        ensures spent { S.len out.new + owed self.new.live self.new.sets + 6 * count_by is_held self.new.window.places
+            ≤ S.len out.old + owed self.old.live self.old.sets + 6 * count_by is_held self.old.window.places + 6 }
         ensures waiting { length self.new.waiting ≤ length self.old.waiting }
     {
-        out.push_reserved(Effect::Deliver {
-            request: copy_of(request),
-        });
+        out.put_deliver(request);
         self.execute(request, event, out);
     }
 
     /// Rejects a request for its opcode.
-    pub(crate) fn reject_opcode(&mut self, request: &Request, out: &mut Vec<Effect>)
-        requires room { vec_len out.old + 1 ≤ vec_capacity out.old }
-        ensures done { Takes (request_answered self.old request.now (Answer.Reject 5)) self.new out.old out.new }
-        ensures len { vec_len out.new ≡ vec_len out.old + 1 }
+    pub(crate) fn reject_opcode<S: EffectSink>(&mut self, request: &Request, out: &mut S)
+        requires room { S.len out.old + 1 ≤ S.capacity out.old }
+        ensures done { Takes S.has S.capacity (request_answered self.old request.now (Answer.Reject 5)) self.new out.old out.new }
+        ensures len { S.len out.new ≤ S.len out.old + 1 }
     {
         let answer = Answer::Reject(Reason::NotSupported as u8);
         self.answer(request, answer, out);
@@ -68,17 +68,17 @@ impl Session {
     /// Executes a request that arrived in this event.
     // A SCSI Command, which most are, has a way of its own: what it does stays in registers there.
     #[inline(always)]
-    fn execute(&mut self, request: &Request, event: u64, out: &mut Vec<Effect>)
+    fn execute<S: EffectSink>(&mut self, request: &Request, event: u64, out: &mut S)
         requires space { is_immediate request.now ≡ false → HasRoom self.old.window }
         requires turned { is_immediate request.now ≡ true →
             self.old.window.turned + count_by is_some self.old.window.places < self.old.taken }
         requires counted { self.old.entered + count_by is_some self.old.window.places < self.old.taken }
         requires known { known_in (connection_of request.now) self.old.conns ≡ true }
-        requires room { vec_len out.old + owed self.old.live self.old.sets + 6 * count_by is_held self.old.window.places
-            + 5 ≤ vec_capacity out.old }
-        ensures done { Takes (executed self.old request.now event) self.new out.old out.new }
-        ensures spent { vec_len out.new + owed self.new.live self.new.sets + 6 * count_by is_held self.new.window.places
-            ≤ vec_len out.old + owed self.old.live self.old.sets + 6 * count_by is_held self.old.window.places + 5 }
+        requires room { S.len out.old + owed self.old.live self.old.sets + 6 * count_by is_held self.old.window.places
+            + 5 ≤ S.capacity out.old }
+        ensures done { Takes S.has S.capacity (executed self.old request.now event) self.new out.old out.new }
+        ensures spent { S.len out.new + owed self.new.live self.new.sets + 6 * count_by is_held self.new.window.places
+            ≤ S.len out.old + owed self.old.live self.old.sets + 6 * count_by is_held self.old.window.places + 5 }
         ensures waiting { length self.new.waiting ≤ length self.old.waiting }
     {
         match Opcode::of(request) {
@@ -92,17 +92,17 @@ impl Session {
 
     /// Executes a request of any opcode that arrived in this event.
     #[inline(never)]
-    fn execute_otherwise(&mut self, request: &Request, event: u64, out: &mut Vec<Effect>)
+    fn execute_otherwise<S: EffectSink>(&mut self, request: &Request, event: u64, out: &mut S)
         requires space { is_immediate request.now ≡ false → HasRoom self.old.window }
         requires turned { is_immediate request.now ≡ true →
             self.old.window.turned + count_by is_some self.old.window.places < self.old.taken }
         requires counted { self.old.entered + count_by is_some self.old.window.places < self.old.taken }
         requires known { known_in (connection_of request.now) self.old.conns ≡ true }
-        requires room { vec_len out.old + owed self.old.live self.old.sets + 6 * count_by is_held self.old.window.places
-            + 5 ≤ vec_capacity out.old }
-        ensures done { Takes (executed self.old request.now event) self.new out.old out.new }
-        ensures spent { vec_len out.new + owed self.new.live self.new.sets + 6 * count_by is_held self.new.window.places
-            ≤ vec_len out.old + owed self.old.live self.old.sets + 6 * count_by is_held self.old.window.places + 5 }
+        requires room { S.len out.old + owed self.old.live self.old.sets + 6 * count_by is_held self.old.window.places
+            + 5 ≤ S.capacity out.old }
+        ensures done { Takes S.has S.capacity (executed self.old request.now event) self.new out.old out.new }
+        ensures spent { S.len out.new + owed self.new.live self.new.sets + 6 * count_by is_held self.new.window.places
+            ≤ S.len out.old + owed self.old.live self.old.sets + 6 * count_by is_held self.old.window.places + 5 }
         ensures waiting { length self.new.waiting ≤ length self.old.waiting }
     {
         let deed = self.decide(request);
@@ -111,18 +111,18 @@ impl Session {
 
     /// Executes a request that arrived in this event, which does this.
     #[inline(always)]
-    fn execute_by(&mut self, request: &Request, event: u64, deed: Deed, out: &mut Vec<Effect>)
+    fn execute_by<S: EffectSink>(&mut self, request: &Request, event: u64, deed: Deed, out: &mut S)
         requires deed { deed ≡ deed_by self.old request.now }
         requires space { is_immediate request.now ≡ false → HasRoom self.old.window }
         requires turned { is_immediate request.now ≡ true →
             self.old.window.turned + count_by is_some self.old.window.places < self.old.taken }
         requires counted { self.old.entered + count_by is_some self.old.window.places < self.old.taken }
         requires known { known_in (connection_of request.now) self.old.conns ≡ true }
-        requires room { vec_len out.old + owed self.old.live self.old.sets + 6 * count_by is_held self.old.window.places
-            + 5 ≤ vec_capacity out.old }
-        ensures done { Takes (executed self.old request.now event) self.new out.old out.new }
-        ensures spent { vec_len out.new + owed self.new.live self.new.sets + 6 * count_by is_held self.new.window.places
-            ≤ vec_len out.old + owed self.old.live self.old.sets + 6 * count_by is_held self.old.window.places + 5 }
+        requires room { S.len out.old + owed self.old.live self.old.sets + 6 * count_by is_held self.old.window.places
+            + 5 ≤ S.capacity out.old }
+        ensures done { Takes S.has S.capacity (executed self.old request.now event) self.new out.old out.new }
+        ensures spent { S.len out.new + owed self.new.live self.new.sets + 6 * count_by is_held self.new.window.places
+            ≤ S.len out.old + owed self.old.live self.old.sets + 6 * count_by is_held self.old.window.places + 5 }
         ensures waiting { length self.new.waiting ≤ length self.old.waiting }
     {
         let number = self.position(request);
@@ -132,22 +132,22 @@ impl Session {
     /// Does what a request does that executes, by which alone that changes anything. Its number less the first CmdSN is this
     /// one, and it arrived in this event.
     #[inline(always)]
-    pub(crate) fn carry_out(
+    pub(crate) fn carry_out<S: EffectSink>(
         &mut self,
         request: &Request,
         number: i64,
         event: u64,
         deed: Deed,
-        out: &mut Vec<Effect>,
+        out: &mut S,
     )
         requires fits { Fits self.old request.now deed }
         requires ready { IsReady self.old request.now deed }
         requires number { (unit : ℕ) → deed ≡ Deed.Enter unit → number ≡ position_by self.old request.now }
-        requires room { vec_len out.old + owed self.old.live self.old.sets + most_emptied self.old deed + 4
-            ≤ vec_capacity out.old }
-        ensures done { Takes (carried self.old request.now number event deed) self.new out.old out.new }
-        ensures spent { vec_len out.new + owed self.new.live self.new.sets + count_by is_held self.new.window.places
-            ≤ vec_len out.old + owed self.old.live self.old.sets + count_by is_held self.old.window.places + 4 }
+        requires room { S.len out.old + owed self.old.live self.old.sets + most_emptied self.old deed + 4
+            ≤ S.capacity out.old }
+        ensures done { Takes S.has S.capacity (carried self.old request.now number event deed) self.new out.old out.new }
+        ensures spent { S.len out.new + owed self.new.live self.new.sets + count_by is_held self.new.window.places
+            ≤ S.len out.old + owed self.old.live self.old.sets + count_by is_held self.old.window.places + 4 }
     {
         match deed {
             Deed::Nothing => {}
@@ -175,10 +175,10 @@ impl Session {
     /// A request is answered.
     // A function's response, which most are, has a way of its own: it is short.
     #[inline(always)]
-    pub(crate) fn answer(&mut self, request: &Request, answer: Answer, out: &mut Vec<Effect>)
-        requires room { vec_len out.old + 1 ≤ vec_capacity out.old }
-        ensures done { Takes (request_answered self.old request.now answer) self.new out.old out.new }
-        ensures len { vec_len out.new ≡ vec_len out.old + 1 }
+    pub(crate) fn answer<S: EffectSink>(&mut self, request: &Request, answer: Answer, out: &mut S)
+        requires room { S.len out.old + 1 ≤ S.capacity out.old }
+        ensures done { Takes S.has S.capacity (request_answered self.old request.now answer) self.new out.old out.new }
+        ensures len { S.len out.new ≤ S.len out.old + 1 }
     {
         match answer {
             Answer::Respond(response) => self.respond(request, response, out),
@@ -188,10 +188,10 @@ impl Session {
 
     /// A function is answered by this response.
     #[inline(never)]
-    fn respond(&mut self, request: &Request, response: u8, out: &mut Vec<Effect>)
-        requires room { vec_len out.old + 1 ≤ vec_capacity out.old }
-        ensures done { Takes (request_answered self.old request.now (Answer.Respond response)) self.new out.old out.new }
-        ensures len { vec_len out.new ≡ vec_len out.old + 1 }
+    fn respond<S: EffectSink>(&mut self, request: &Request, response: u8, out: &mut S)
+        requires room { S.len out.old + 1 ≤ S.capacity out.old }
+        ensures done { Takes S.has S.capacity (request_answered self.old request.now (Answer.Respond response)) self.new out.old out.new }
+        ensures len { S.len out.new ≤ S.len out.old + 1 }
     {
         let itt = request.itt();
         self.reply(request.conn(), Reply::Task { itt, response }, out);
@@ -199,10 +199,10 @@ impl Session {
 
     /// A request is answered, by any answer.
     #[inline(never)]
-    fn answer_otherwise(&mut self, request: &Request, answer: Answer, out: &mut Vec<Effect>)
-        requires room { vec_len out.old + 1 ≤ vec_capacity out.old }
-        ensures done { Takes (request_answered self.old request.now answer) self.new out.old out.new }
-        ensures len { vec_len out.new ≡ vec_len out.old + 1 }
+    fn answer_otherwise<S: EffectSink>(&mut self, request: &Request, answer: Answer, out: &mut S)
+        requires room { S.len out.old + 1 ≤ S.capacity out.old }
+        ensures done { Takes S.has S.capacity (request_answered self.old request.now answer) self.new out.old out.new }
+        ensures len { S.len out.new ≤ S.len out.old + 1 }
     {
         self.reply(request.conn(), reply_to(request, answer), out);
     }
@@ -210,23 +210,19 @@ impl Session {
     /// A reply goes out on a connection.
     // It is inlined, so that the reply is made where the effect keeps it.
     #[inline(always)]
-    pub(crate) fn reply(&mut self, conn: u16, reply: Reply, out: &mut Vec<Effect>)
-        requires room { vec_len out.old + 1 ≤ vec_capacity out.old }
-        ensures done { Takes (replied self.old conn reply) self.new out.old out.new }
-        ensures len { vec_len out.new ≡ vec_len out.old + 1 }
+    pub(crate) fn reply<S: EffectSink>(&mut self, conn: u16, reply: Reply, out: &mut S)
+        requires room { S.len out.old + 1 ≤ S.capacity out.old }
+        ensures done { Takes S.has S.capacity (replied self.old conn reply) self.new out.old out.new }
+        ensures len { S.len out.new ≤ S.len out.old + 1 }
     {
         let stat_sn = self.connections.assign_stat_sn(conn);
-        out.push_reserved(Effect::Send {
-            conn,
-            stat_sn,
-            reply,
-        });
+        out.put_send(conn, stat_sn, &reply);
     }
 
     /// A command enters the set of a unit, which has room for it. No live command has its tag, and its number less the first
     /// CmdSN is this one.
     #[inline(never)]
-    fn enter(&mut self, request: &Request, unit: u16, pos: i64, out: &mut Vec<Effect>)
+    fn enter<S: EffectSink>(&mut self, request: &Request, unit: u16, pos: i64, out: &mut S)
         requires space { is_immediate request.now ≡ false → HasRoom self.old.window }
         requires few { is_immediate request.now ≡ true →
             immediate_in self.old.live (connection_of request.now) < MOST_IMMEDIATE }
@@ -236,16 +232,16 @@ impl Session {
         requires not_full { is_set_full (set_at self.old unit) ≡ false }
         requires unused { is_tag_kept self.old (tag_of request.now) ≡ false }
         requires number { pos ≡ position_by self.old request.now }
-        requires room { vec_len out.old + 2 ≤ vec_capacity out.old }
-        ensures done { Takes (command_entered self.old request.now unit) self.new out.old out.new }
-        ensures spent { vec_len out.new ≤ vec_len out.old + 2 }
+        requires room { S.len out.old + 2 ≤ S.capacity out.old }
+        ensures done { Takes S.has S.capacity (command_entered self.old request.now unit) self.new out.old out.new }
+        ensures spent { S.len out.new ≤ S.len out.old + 2 }
     {
         let event = self.event(request);
         begin(&mut self.window, &mut self.connections, request);
         self.entered += 1;
         let ticket = self.entered;
         let attr = attr_of(request.attr());
-        out.push_reserved(Effect::Enter { ticket, unit, attr });
+        out.put_enter(ticket, unit, attr);
         let task = Task {
             ticket,
             conn: request.conn(),
@@ -289,14 +285,6 @@ impl Session {
             0
         }
     }
-}
-
-/// A copy of a request. It is read as it was stored: a load that spans two stores waits for both.
-#[inline(always)]
-pub(crate) fn copy_of(request: &Request) -> Request
-    ensures { result ≡ request.now }
-{
-    Request::read(request.conn(), &request.bytes())
 }
 
 /// A command begins: it takes a place of the window, or counts among the immediate ones of its connection.

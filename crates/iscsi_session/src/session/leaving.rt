@@ -11,17 +11,17 @@ use crate::session::completion::finish;
 use crate::session::{Session, sets};
 use iscsi_commands::{Live, LiveCommands};
 use iscsi_connections::Connections;
-use iscsi_rules::Effect;
+use iscsi_sinks::EffectSink;
 use iscsi_tasks::{Cover, LinkedTaskSet};
 use iscsi_window::EventWindow;
 
 impl Session {
     /// The covered commands of a unit leave, the oldest first.
-    pub(crate) fn leave_covered(&mut self, unit: u16, cover: &Cover, out: &mut Vec<Effect>)
+    pub(crate) fn leave_covered<S: EffectSink>(&mut self, unit: u16, cover: &Cover, out: &mut S)
         requires unit { unit < length self.old.sets }
-        requires room { vec_len out.old + owed self.old.live self.old.sets ≤ vec_capacity out.old }
-        ensures done { Takes (commands_left self.old unit (is_covered cover.now)) self.new out.old out.new }
-        ensures spent { vec_len out.new + owed self.new.live self.new.sets ≤ vec_len out.old
+        requires room { S.len out.old + owed self.old.live self.old.sets ≤ S.capacity out.old }
+        ensures done { Takes S.has S.capacity (commands_left self.old unit (is_covered cover.now)) self.new out.old out.new }
+        ensures spent { S.len out.new + owed self.new.live self.new.sets ≤ S.len out.old
             + owed self.old.live self.old.sets }
     {
         dequeue_covered(&mut self.sets, unit, cover, &mut self.left);
@@ -36,11 +36,11 @@ impl Session {
     }
 
     /// The command of a unit with this ticket leaves.
-    pub(crate) fn leave_one(&mut self, unit: u16, ticket: u64, out: &mut Vec<Effect>)
+    pub(crate) fn leave_one<S: EffectSink>(&mut self, unit: u16, ticket: u64, out: &mut S)
         requires unit { unit < length self.old.sets }
-        requires room { vec_len out.old + owed self.old.live self.old.sets ≤ vec_capacity out.old }
-        ensures done { Takes (commands_left self.old unit (covers_ticket ticket)) self.new out.old out.new }
-        ensures spent { vec_len out.new + owed self.new.live self.new.sets ≤ vec_len out.old
+        requires room { S.len out.old + owed self.old.live self.old.sets ≤ S.capacity out.old }
+        ensures done { Takes S.has S.capacity (commands_left self.old unit (covers_ticket ticket)) self.new out.old out.new }
+        ensures spent { S.len out.new + owed self.new.live self.new.sets ≤ S.len out.old
             + owed self.old.live self.old.sets }
     {
         let is_there = dequeue_one(&mut self.sets, &self.live, unit, ticket);
@@ -57,11 +57,11 @@ impl Session {
 
     /// The commands that became enabled are announced to their unit.
     #[inline(always)]
-    pub(crate) fn announce_enabled(&mut self, unit: u16, out: &mut Vec<Effect>)
+    pub(crate) fn announce_enabled<S: EffectSink>(&mut self, unit: u16, out: &mut S)
         requires unit { unit < length self.old.sets }
-        requires room { vec_len out.old + owed self.old.live self.old.sets ≤ vec_capacity out.old }
-        ensures done { Takes (unit_told self.old unit) self.new out.old out.new }
-        ensures spent { vec_len out.new + owed self.new.live self.new.sets ≤ vec_len out.old
+        requires room { S.len out.old + owed self.old.live self.old.sets ≤ S.capacity out.old }
+        ensures done { Takes S.has S.capacity (unit_told self.old unit) self.new out.old out.new }
+        ensures spent { S.len out.new + owed self.new.live self.new.sets ≤ S.len out.old
             + owed self.old.live self.old.sets }
     {
         sets::announce(&mut self.sets, unit, out);
@@ -98,13 +98,13 @@ fn dequeue_one(sets: &mut [LinkedTaskSet], live: &LiveCommands, unit: u16, ticke
 }
 
 /// The live commands with these tickets are over, and each is told to leave.
-fn end_all(
+fn end_all<S: EffectSink>(
     tickets: &[u64],
     unit: u16,
     window: &mut EventWindow,
     connections: &mut Connections,
     live: &mut LiveCommands,
-    out: &mut Vec<Effect>,
+    out: &mut S,
 )
     requires there { All (λ t. IsSome (find_ticket t live.old.items)) tickets.now }
     requires in_order { AllPairs (λ a b. a < b) tickets.now }
@@ -112,50 +112,50 @@ fn end_all(
     requires numbered { count_by is_numbered live.old.items ≤ window.old.unfinished }
     requires known { are_known live.old.items connections.old.conns ≡ true }
     requires counted { AreCounted connections.old.immediate connections.old.conns live.old.items }
-    requires room { vec_len out.old + length live.old.items ≤ vec_capacity out.old }
+    requires room { S.len out.old + length live.old.items ≤ S.capacity out.old }
     ensures window { window.new ≡ finished_by window.old live.old.items
         (without_tickets tickets.now live.old.items) }
     ensures live { live.new.items ≡ without_tickets tickets.now live.old.items }
     ensures connections { connections.new ≡ record connections.old { immediate = connections.new.immediate } }
     ensures counted { AreCounted connections.new.immediate connections.old.conns live.new.items }
     ensures live_capacity { live.new.room ≡ live.old.room }
-    ensures effects { Appends (leave_each unit tickets.now) out.old out.new }
-    ensures spent { vec_len out.new + length live.new.items ≤ vec_len out.old + length live.old.items }
+    ensures effects { Appends S.has S.capacity (leave_each unit tickets.now) out.old out.new }
+    ensures spent { S.len out.new + length live.new.items ≤ S.len out.old + length live.old.items }
 {
     for k in 0..tickets.len() {
         let ticket = tickets[k];
         end(window, connections, live, ticket);
-        out.push_reserved(Effect::Leave { ticket, unit });
+        out.put_leave(ticket, unit);
     }
 }
 
 /// The live command with this ticket is over, where it is there, and is told to leave.
-fn end_one(
+fn end_one<S: EffectSink>(
     is_there: bool,
     unit: u16,
     ticket: u64,
     window: &mut EventWindow,
     connections: &mut Connections,
     live: &mut LiveCommands,
-    out: &mut Vec<Effect>,
+    out: &mut S,
 )
     requires there { is_there ≡ true → IsSome (find_ticket ticket live.old.items) }
     requires ascending { are_ascending live.old.items ≡ true }
     requires numbered { count_by is_numbered live.old.items ≤ window.old.unfinished }
     requires known { are_known live.old.items connections.old.conns ≡ true }
     requires counted { AreCounted connections.old.immediate connections.old.conns live.old.items }
-    requires room { vec_len out.old + length live.old.items ≤ vec_capacity out.old }
+    requires room { S.len out.old + length live.old.items ≤ S.capacity out.old }
     ensures window { window.new ≡ finished_by window.old live.old.items live.new.items }
     ensures live { live.new.items ≡ (if is_there then without_ticket ticket live.old.items else live.old.items) }
     ensures connections { connections.new ≡ record connections.old { immediate = connections.new.immediate } }
     ensures counted { AreCounted connections.new.immediate connections.old.conns live.new.items }
     ensures live_capacity { live.new.room ≡ live.old.room }
-    ensures effects { Appends (if is_there then Effect.Leave ticket unit ∷ [] else []) out.old out.new }
-    ensures spent { vec_len out.new + length live.new.items ≤ vec_len out.old + length live.old.items }
+    ensures effects { Appends S.has S.capacity (if is_there then Effect.Leave ticket unit ∷ [] else []) out.old out.new }
+    ensures spent { S.len out.new + length live.new.items ≤ S.len out.old + length live.old.items }
 {
     if is_there {
         end(window, connections, live, ticket);
-        out.push_reserved(Effect::Leave { ticket, unit });
+        out.put_leave(ticket, unit);
     }
 }
 

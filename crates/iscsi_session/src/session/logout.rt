@@ -4,11 +4,12 @@ ghost use Rattle.std.specs.Prelude.{not, filter, ◌≡◌, ◌+◌, ◌≤◌, 
 ghost use Rattle.iscsi_wire.specs.Fields.{connection_of};
 ghost use Rattle.iscsi_window.specs.Windows.{is_asked};
 ghost use Rattle.iscsi_session.specs.private.Standing.{is_held};
-ghost use Rattle.iscsi_session.specs.private.Steps.{is_among_open, Takes, units_of, all_told, all_commands_left, cover_of as cover_named, covers_of, is_clear_below, all_emptied, waiting_then, session_closes, conns_closed, logged_out, owed};
+ghost use Rattle.iscsi_session.specs.private.Steps.{Continues, is_among_open, Takes, units_of, all_told, all_commands_left, cover_of as cover_named, covers_of, is_clear_below, all_emptied, waiting_then, session_closes, conns_closed, logged_out, owed};
 
 use crate::closing::LogoutResponse;
 use crate::session::Session;
-use iscsi_rules::{Answer, Effect};
+use iscsi_rules::Answer;
+use iscsi_sinks::EffectSink;
 use iscsi_tasks::Cover;
 use iscsi_wire::Request;
 use std::alloc::Global;
@@ -24,12 +25,17 @@ impl Session {
     /// Carries a Logout out, of a connection or for None of the session: what of it is live leaves, what is held is
     /// discarded, what waits is dropped, and it closes.
     #[inline(never)]
-    pub(crate) fn log_out(&mut self, request: &Request, scope: Option<u16>, out: &mut Vec<Effect>)
-        requires room { vec_len out.old + owed self.old.live self.old.sets + count_by is_held self.old.window.places + 3
-            ≤ vec_capacity out.old }
-        ensures done { Takes (logged_out self.old request.now scope) self.new out.old out.new }
-        ensures spent { vec_len out.new + owed self.new.live self.new.sets + count_by is_held self.new.window.places
-            ≤ vec_len out.old + owed self.old.live self.old.sets + count_by is_held self.old.window.places + 3 }
+    pub(crate) fn log_out<S: EffectSink>(
+        &mut self,
+        request: &Request,
+        scope: Option<u16>,
+        out: &mut S,
+    )
+        requires room { S.len out.old + owed self.old.live self.old.sets + count_by is_held self.old.window.places + 3
+            ≤ S.capacity out.old }
+        ensures done { Takes S.has S.capacity (logged_out self.old request.now scope) self.new out.old out.new }
+        ensures spent { S.len out.new + owed self.new.live self.new.sets + count_by is_held self.new.window.places
+            ≤ S.len out.old + owed self.old.live self.old.sets + count_by is_held self.old.window.places + 3 }
     {
         self.leave_all(scope, out);
         self.empty_all(scope, out);
@@ -41,11 +47,11 @@ impl Session {
     }
 
     /// The live commands of a connection, or of all for None, leave: units ascending, the oldest first.
-    fn leave_all(&mut self, scope: Option<u16>, out: &mut Vec<Effect>)
-        requires room { vec_len out.old + owed self.old.live self.old.sets ≤ vec_capacity out.old }
-        ensures done { Takes (all_commands_left self.old (units_of self.old) (covers_of scope)) self.new out.old
+    fn leave_all<S: EffectSink>(&mut self, scope: Option<u16>, out: &mut S)
+        requires room { S.len out.old + owed self.old.live self.old.sets ≤ S.capacity out.old }
+        ensures done { Takes S.has S.capacity (all_commands_left self.old (units_of self.old) (covers_of scope)) self.new out.old
             out.new }
-        ensures spent { vec_len out.new + owed self.new.live self.new.sets ≤ vec_len out.old
+        ensures spent { S.len out.new + owed self.new.live self.new.sets ≤ S.len out.old
             + owed self.old.live self.old.sets }
         ensures places { self.new.window.places ≡ self.old.window.places }
     {
@@ -56,10 +62,10 @@ impl Session {
     }
 
     /// The requests that are held of a connection, or of all for None, are taken out: numbers ascending.
-    fn empty_all(&mut self, scope: Option<u16>, out: &mut Vec<Effect>)
-        requires room { vec_len out.old + count_by is_held self.old.window.places ≤ vec_capacity out.old }
-        ensures done { Takes (all_emptied self.old scope) self.new out.old out.new }
-        ensures spent { vec_len out.new + count_by is_held self.new.window.places ≤ vec_len out.old
+    fn empty_all<S: EffectSink>(&mut self, scope: Option<u16>, out: &mut S)
+        requires room { S.len out.old + count_by is_held self.old.window.places ≤ S.capacity out.old }
+        ensures done { Takes S.has S.capacity (all_emptied self.old scope) self.new out.old out.new }
+        ensures spent { S.len out.new + count_by is_held self.new.window.places ≤ S.len out.old
             + count_by is_held self.old.window.places }
     {
         for ahead in 0..self.window.size() {
@@ -69,23 +75,23 @@ impl Session {
 
     /// The request that is held `ahead` numbers after the expected one is taken out, if it is of the connection, or
     /// of any for None.
-    fn empty_at(&mut self, ahead: u32, scope: Option<u16>, out: &mut Vec<Effect>)
-        requires room { vec_len out.old + count_by is_held self.old.window.places ≤ vec_capacity out.old }
+    fn empty_at<S: EffectSink>(&mut self, ahead: u32, scope: Option<u16>, out: &mut S)
+        requires room { S.len out.old + count_by is_held self.old.window.places ≤ S.capacity out.old }
         requires lowest { is_clear_below scope ahead self.old.window.places ≡ true }
         // What is still to be taken out is the rest of what was to be before.
         ensures session { (all_emptied self.new scope).core ≡ (all_emptied self.old scope).core }
-        ensures effects { out.new.items ++ (all_emptied self.new scope).effects ≡ out.old.items
-            ++ (all_emptied self.old scope).effects }
+        ensures effects { Continues S.has (all_emptied self.old scope).effects (all_emptied self.new scope).effects
+            out.old out.new }
         ensures lowest { is_clear_below scope (ahead + 1) self.new.window.places ≡ true }
         ensures long { length self.new.window.places ≡ length self.old.window.places }
-        ensures spent { vec_len out.new + count_by is_held self.new.window.places ≤ vec_len out.old
+        ensures spent { S.len out.new + count_by is_held self.new.window.places ≤ S.len out.old
             + count_by is_held self.old.window.places }
-        ensures capacity { vec_capacity out.new ≡ vec_capacity out.old }
+        ensures capacity { S.capacity out.new ≡ S.capacity out.old }
     {
         let Some(sn) = self.window.drop_at(ahead, scope) else {
             return;
         };
-        out.push_reserved(Effect::Empty { sn });
+        out.put_empty(sn);
     }
 
     /// The functions of a connection that wait, or of all for None, are dropped.
@@ -98,39 +104,39 @@ impl Session {
     }
 
     /// A connection is closed, or the session for None, and with the last connection the session.
-    fn close(&mut self, scope: Option<u16>, out: &mut Vec<Effect>)
-        requires room { vec_len out.old + 2 ≤ vec_capacity out.old }
-        ensures done { Takes (conns_closed self.old scope) self.new out.old out.new }
-        ensures spent { vec_len out.new ≤ vec_len out.old + 2 }
+    fn close<S: EffectSink>(&mut self, scope: Option<u16>, out: &mut S)
+        requires room { S.len out.old + 2 ≤ S.capacity out.old }
+        ensures done { Takes S.has S.capacity (conns_closed self.old scope) self.new out.old out.new }
+        ensures spent { S.len out.new ≤ S.len out.old + 2 }
     {
         self.connections.close(scope);
         if let Some(conn) = scope {
-            out.push_reserved(Effect::CloseConn { conn });
+            out.put_close_conn(conn);
         }
         self.end_if_last(out);
     }
 
     /// Where no connection is open, the session is closed, and no function waits any more.
-    fn end_if_last(&mut self, out: &mut Vec<Effect>)
-        requires room { vec_len out.old + 1 ≤ vec_capacity out.old }
-        ensures done { Takes (record {
+    fn end_if_last<S: EffectSink>(&mut self, out: &mut S)
+        requires room { S.len out.old + 1 ≤ S.capacity out.old }
+        ensures done { Takes S.has S.capacity (record {
           core = record self.old { waiting = waiting_then self.old.open_conns self.old.waiting };
           effects = session_closes self.old.open_conns;
         }) self.new out.old out.new }
-        ensures spent { vec_len out.new ≤ vec_len out.old + 1 }
+        ensures spent { S.len out.new ≤ S.len out.old + 1 }
     {
         if !self.connections.are_closed() {
             return;
         }
         self.waiting.clear();
-        out.push_reserved(Effect::CloseSession);
+        out.put_close_session();
     }
 
     /// The commands that became enabled are announced to each unit.
-    fn announce_all(&mut self, out: &mut Vec<Effect>)
-        requires room { vec_len out.old + owed self.old.live self.old.sets ≤ vec_capacity out.old }
-        ensures done { Takes (all_told self.old) self.new out.old out.new }
-        ensures spent { vec_len out.new + owed self.new.live self.new.sets ≤ vec_len out.old
+    fn announce_all<S: EffectSink>(&mut self, out: &mut S)
+        requires room { S.len out.old + owed self.old.live self.old.sets ≤ S.capacity out.old }
+        ensures done { Takes S.has S.capacity (all_told self.old) self.new out.old out.new }
+        ensures spent { S.len out.new + owed self.new.live self.new.sets ≤ S.len out.old
             + owed self.old.live self.old.sets }
     {
         for unit in 0..self.units() {

@@ -12,9 +12,9 @@ ghost use Rattle.iscsi_session.specs.private.Deeds.{arrival_by, Fits, IsReady, m
 
 use crate::response::Response;
 use crate::session::Session;
-use crate::session::execution::copy_of;
 use crate::session::waiting::Waiting;
-use iscsi_rules::{Answer, Deed, Effect};
+use iscsi_rules::{Answer, Deed};
+use iscsi_sinks::EffectSink;
 use iscsi_tasks::Cover;
 use iscsi_wire::Request;
 
@@ -23,18 +23,18 @@ pub(crate) const COMPLETE: Answer = Answer::Respond(Response::Complete as u8);
 
 impl Session {
     /// An immediate request executes, or is a function that waits.
-    pub(crate) fn receive_immediate(&mut self, request: &Request, out: &mut Vec<Effect>)
+    pub(crate) fn receive_immediate<S: EffectSink>(&mut self, request: &Request, out: &mut S)
         requires immediate { is_immediate request.now ≡ true }
         requires known { known_in (connection_of request.now) self.old.conns ≡ true }
         requires turned { self.old.window.turned + count_by is_some self.old.window.places < self.old.taken }
         requires entered { self.old.entered + count_by is_some self.old.window.places < self.old.taken }
         requires waited { list_all (λ w. nat_lt (w.event + 1) self.old.taken) self.old.waiting ≡ true }
-        requires room { vec_len out.old + owed self.old.live self.old.sets + 6 * count_by is_held self.old.window.places
-            + 6 ≤ vec_capacity out.old }
-        ensures done { Takes (immediate_taken self.old request.now (arrival_by self.old request.now)) self.new out.old out.new }
+        requires room { S.len out.old + owed self.old.live self.old.sets + 6 * count_by is_held self.old.window.places
+            + 6 ≤ S.capacity out.old }
+        ensures done { Takes S.has S.capacity (immediate_taken self.old request.now (arrival_by self.old request.now)) self.new out.old out.new }
         ensures pace { KeepsPace self.old.window self.new.window }
-        ensures spent { vec_len out.new + owed self.new.live self.new.sets
-            + 6 * (count_by is_held self.new.window.places + length self.new.waiting) ≤ vec_len out.old
+        ensures spent { S.len out.new + owed self.new.live self.new.sets
+            + 6 * (count_by is_held self.new.window.places + length self.new.waiting) ≤ S.len out.old
             + owed self.old.live self.old.sets
             + 6 * (count_by is_held self.old.window.places + length self.old.waiting + 1) + 1 }
     {
@@ -46,35 +46,33 @@ impl Session {
 
     /// Does what an immediate request does at its arrival, which doesn't wait.
     #[inline(never)]
-    fn execute_at_once(&mut self, request: &Request, deed: Deed, out: &mut Vec<Effect>)
+    fn execute_at_once<S: EffectSink>(&mut self, request: &Request, deed: Deed, out: &mut S)
         requires fits { Fits self.old request.now deed }
         requires ready { IsReady self.old request.now deed }
         requires taken { 0 < self.old.taken }
-        requires room { vec_len out.old + owed self.old.live self.old.sets + most_emptied self.old deed + 5
-            ≤ vec_capacity out.old }
-        ensures done { Takes (done_at_once self.old request.now deed) self.new out.old out.new }
-        ensures spent { vec_len out.new + owed self.new.live self.new.sets + count_by is_held self.new.window.places
-            ≤ vec_len out.old + owed self.old.live self.old.sets + count_by is_held self.old.window.places + 5 }
+        requires room { S.len out.old + owed self.old.live self.old.sets + most_emptied self.old deed + 5
+            ≤ S.capacity out.old }
+        ensures done { Takes S.has S.capacity (done_at_once self.old request.now deed) self.new out.old out.new }
+        ensures spent { S.len out.new + owed self.new.live self.new.sets + count_by is_held self.new.window.places
+            ≤ S.len out.old + owed self.old.live self.old.sets + count_by is_held self.old.window.places + 5 }
     {
-        out.push_reserved(Effect::Immediate {
-            request: copy_of(request),
-        });
+        out.put_immediate(request);
         let number = self.position(request);
         let event = self.taken - 1;
         self.carry_out(request, number, event, deed, out);
     }
 
     /// A function waits for its number.
-    fn wait(&mut self, request: &Request, out: &mut Vec<Effect>)
+    fn wait<S: EffectSink>(&mut self, request: &Request, out: &mut S)
         requires later { Fits self.old request.now Deed.Wait }
         requires known { known_in (connection_of request.now) self.old.conns ≡ true }
         requires taken { 0 < self.old.taken }
         requires waited { list_all (λ w. nat_lt (w.event + 1) self.old.taken) self.old.waiting ≡ true }
-        requires room { vec_len out.old + 1 ≤ vec_capacity out.old }
-        ensures done { Takes (immediate_taken self.old request.now Deed.Wait) self.new out.old out.new }
-        ensures len { vec_len out.new ≡ vec_len out.old + 1 }
+        requires room { S.len out.old + 1 ≤ S.capacity out.old }
+        ensures done { Takes S.has S.capacity (immediate_taken self.old request.now Deed.Wait) self.new out.old out.new }
+        ensures len { S.len out.new ≤ S.len out.old + 1 }
     {
-        out.push_reserved(Effect::Wait { request: *request });
+        out.put_wait(request);
         let ahead = request.cmd_sn().wrapping_sub(self.window.exp());
         self.waiting.push(Waiting {
             request: *request,
@@ -84,13 +82,13 @@ impl Session {
     }
 
     /// Executes a function that has waited for the next number, if there is one, and tells whether there was.
-    pub(crate) fn execute_next_waiting(&mut self, out: &mut Vec<Effect>) -> bool
-        requires room { vec_len out.old + owed self.old.live self.old.sets + 6 * length self.old.waiting
-            ≤ vec_capacity out.old }
+    pub(crate) fn execute_next_waiting<S: EffectSink>(&mut self, out: &mut S) -> bool
+        requires room { S.len out.old + owed self.old.live self.old.sets + 6 * length self.old.waiting
+            ≤ S.capacity out.old }
         ensures answer { result ≡ is_some (next_waiting self.old) }
-        ensures done { Takes (function_taken self.old (next_waiting self.old)) self.new out.old out.new }
-        ensures spent { vec_len out.new + owed self.new.live self.new.sets + 6 * length self.new.waiting
-            ≤ vec_len out.old + owed self.old.live self.old.sets + 6 * length self.old.waiting }
+        ensures done { Takes S.has S.capacity (function_taken self.old (next_waiting self.old)) self.new out.old out.new }
+        ensures spent { S.len out.new + owed self.new.live self.new.sets + 6 * length self.new.waiting
+            ≤ S.len out.old + owed self.old.live self.old.sets + 6 * length self.old.waiting }
         ensures fewer { result ≡ true → length self.new.waiting < length self.old.waiting }
         ensures places { self.new.window.places ≡ self.old.window.places }
     {
@@ -99,7 +97,7 @@ impl Session {
             return false;
         };
         let request = function.request;
-        out.push_reserved(Effect::Immediate { request });
+        out.put_immediate(&request);
         let deed = self.decide_function(&request);
         self.carry_out(&request, number as i64, function.event, deed, out);
         true
@@ -107,17 +105,17 @@ impl Session {
 
     /// The covered commands of a unit leave, and the function is answered.
     #[inline(never)]
-    pub(crate) fn abort_covered(
+    pub(crate) fn abort_covered<S: EffectSink>(
         &mut self,
         request: &Request,
         unit: u16,
         cover: Cover,
-        out: &mut Vec<Effect>,
+        out: &mut S,
     )
         requires unit { unit < length self.old.sets }
-        requires room { vec_len out.old + owed self.old.live self.old.sets + 1 ≤ vec_capacity out.old }
-        ensures done { Takes (aborted self.old request.now unit (is_covered cover)) self.new out.old out.new }
-        ensures spent { vec_len out.new + owed self.new.live self.new.sets ≤ vec_len out.old
+        requires room { S.len out.old + owed self.old.live self.old.sets + 1 ≤ S.capacity out.old }
+        ensures done { Takes S.has S.capacity (aborted self.old request.now unit (is_covered cover)) self.new out.old out.new }
+        ensures spent { S.len out.new + owed self.new.live self.new.sets ≤ S.len out.old
             + owed self.old.live self.old.sets + 1 }
     {
         self.leave_covered(unit, &cover, out);
@@ -127,17 +125,17 @@ impl Session {
 
     /// The command of a unit with this ticket leaves, and the function is answered.
     #[inline(never)]
-    pub(crate) fn abort_one(
+    pub(crate) fn abort_one<S: EffectSink>(
         &mut self,
         request: &Request,
         unit: u16,
         ticket: u64,
-        out: &mut Vec<Effect>,
+        out: &mut S,
     )
         requires unit { unit < length self.old.sets }
-        requires room { vec_len out.old + owed self.old.live self.old.sets + 1 ≤ vec_capacity out.old }
-        ensures done { Takes (aborted self.old request.now unit (covers_ticket ticket)) self.new out.old out.new }
-        ensures spent { vec_len out.new + owed self.new.live self.new.sets ≤ vec_len out.old
+        requires room { S.len out.old + owed self.old.live self.old.sets + 1 ≤ S.capacity out.old }
+        ensures done { Takes S.has S.capacity (aborted self.old request.now unit (covers_ticket ticket)) self.new out.old out.new }
+        ensures spent { S.len out.new + owed self.new.live self.new.sets ≤ S.len out.old
             + owed self.old.live self.old.sets + 1 }
     {
         self.leave_one(unit, ticket, out);
@@ -147,10 +145,10 @@ impl Session {
 
     /// Takes out the request that is held for this number.
     #[inline(never)]
-    pub(crate) fn empty_number(&mut self, sn: u32, out: &mut Vec<Effect>)
-        requires room { vec_len out.old + 1 ≤ vec_capacity out.old }
-        ensures done { Takes (number_emptied self.old sn) self.new out.old out.new }
-        ensures len { vec_len out.new ≡ vec_len out.old + 1 }
+    pub(crate) fn empty_number<S: EffectSink>(&mut self, sn: u32, out: &mut S)
+        requires room { S.len out.old + 1 ≤ S.capacity out.old }
+        ensures done { Takes S.has S.capacity (number_emptied self.old sn) self.new out.old out.new }
+        ensures len { S.len out.new ≤ S.len out.old + 1 }
         ensures held { count_by is_held self.new.window.places
             + (if is_some (held_at self.old.window (place_in self.old.window sn)) then 1 else 0)
             ≡ count_by is_held self.old.window.places }
@@ -158,24 +156,24 @@ impl Session {
         ensures counted { count_by is_some self.new.window.places ≡ count_by is_some self.old.window.places }
     {
         self.window.empty(sn);
-        out.push_reserved(Effect::Empty { sn });
+        out.put_empty(sn);
     }
 
     /// Receives this number without a request, if it wasn't received before.
     #[inline(never)]
-    pub(crate) fn void_number(&mut self, sn: u32, out: &mut Vec<Effect>)
+    pub(crate) fn void_number<S: EffectSink>(&mut self, sn: u32, out: &mut S)
         requires inside { IsInside (place_in self.old.window sn) }
         requires counted { self.old.window.turned + count_by is_some self.old.window.places < self.old.taken }
         requires entered { self.old.entered + count_by is_some self.old.window.places < self.old.taken }
-        requires room { vec_len out.old + 1 ≤ vec_capacity out.old }
-        ensures done { Takes (number_voided self.old sn) self.new out.old out.new }
-        ensures spent { vec_len out.new ≤ vec_len out.old + 1 }
+        requires room { S.len out.old + 1 ≤ S.capacity out.old }
+        ensures done { Takes S.has S.capacity (number_voided self.old sn) self.new out.old out.new }
+        ensures spent { S.len out.new ≤ S.len out.old + 1 }
         ensures held { count_by is_held self.new.window.places ≡ count_by is_held self.old.window.places }
         ensures counted { self.new.window.turned + count_by is_some self.new.window.places ≤ self.old.window.turned
             + count_by is_some self.old.window.places + 1 }
     {
         if self.window.void(sn) {
-            out.push_reserved(Effect::Void { sn });
+            out.put_void(sn);
         }
     }
 }

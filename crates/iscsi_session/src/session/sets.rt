@@ -5,7 +5,7 @@ ghost use Rattle.iscsi_tasks.specs.Sets.{opened, IsNewest, entered_to, is_new, n
 ghost use Rattle.iscsi_rules.specs.rules.Execution.{unit_named};
 ghost use Rattle.iscsi_session.specs.private.Steps.{Appends, all_given, enable_effects, enable_effect, is_set_full};
 
-use iscsi_rules::Effect;
+use iscsi_sinks::EffectSink;
 use iscsi_tasks::{LinkedTaskSet, Task};
 use iscsi_wire::{Request, unit_of};
 use std::alloc::Global;
@@ -46,46 +46,53 @@ pub(crate) fn is_full(set: &LinkedTaskSet) -> bool
 }
 
 /// A command enters the set of a unit. None but itself can become enabled by that. The slot that it has there.
-pub(crate) fn enter(sets: &mut [LinkedTaskSet], unit: u16, task: Task, out: &mut Vec<Effect>) -> u16
+pub(crate) fn enter<S: EffectSink>(
+    sets: &mut [LinkedTaskSet],
+    unit: u16,
+    task: Task,
+    out: &mut S,
+) -> u16
     requires unit { unit < length sets.old }
     requires not_full { is_set_full (slice_index_or sets.old unit (opened 0)) ≡ false }
     requires newest { IsNewest task.ticket (slice_index_or sets.old unit (opened 0)) }
-    requires room { vec_len out.old + 1 ≤ vec_capacity out.old }
+    requires room { S.len out.old + 1 ≤ S.capacity out.old }
     ensures sets { sets.new ≡ slice_set sets.old unit
         (given_by (entered_to (slice_index_or sets.old unit (opened 0)) task)) }
-    ensures effects { Appends (enable_effect unit
+    ensures effects { Appends S.has S.capacity (enable_effect unit
         (next_in (entered_to (slice_index_or sets.old unit (opened 0)) task).list)) out.old out.new }
-    ensures spent { vec_len out.new ≤ vec_len out.old + 1 }
+    ensures spent { S.len out.new ≤ S.len out.old + 1 }
 {
     let set = &mut sets[usize::from(unit)];
     let entered = set.enter_and_give(task).unwrap();
     if let Some(ticket) = entered.ticket {
-        out.push_reserved(Effect::Enable { ticket, unit });
+        out.put_enable(ticket, unit);
     }
     entered.slot
 }
 
 /// Announces to a unit the commands of its set that became enabled.
-pub(crate) fn announce(sets: &mut [LinkedTaskSet], unit: u16, out: &mut Vec<Effect>)
+#[inline(always)]
+pub(crate) fn announce<S: EffectSink>(sets: &mut [LinkedTaskSet], unit: u16, out: &mut S)
     requires unit { unit < length sets.old }
-    requires room { vec_len out.old + count_by is_new (slice_index_or sets.old unit (opened 0)).list
-        ≤ vec_capacity out.old }
+    requires room { S.len out.old + count_by is_new (slice_index_or sets.old unit (opened 0)).list
+        ≤ S.capacity out.old }
     ensures sets { sets.new ≡ slice_set sets.old unit (all_given (slice_index_or sets.old unit (opened 0))) }
-    ensures effects { Appends (enable_effects unit (slice_index_or sets.old unit (opened 0)).list) out.old out.new }
-    ensures spent { vec_len out.new ≡ vec_len out.old + count_by is_new (slice_index_or sets.old unit (opened 0)).list }
+    ensures effects { Appends S.has S.capacity (enable_effects unit (slice_index_or sets.old unit (opened 0)).list) out.old out.new }
+    ensures spent { S.len out.new ≤ S.len out.old + count_by is_new (slice_index_or sets.old unit (opened 0)).list }
 {
     let set = &mut sets[usize::from(unit)];
     enable_new(set, unit, out);
 }
 
 /// Announces to a unit the commands that became enabled, the oldest first.
-fn enable_new(set: &mut LinkedTaskSet, unit: u16, out: &mut Vec<Effect>)
-    requires room { vec_len out.old + count_by is_new set.old.list ≤ vec_capacity out.old }
+#[inline(always)]
+fn enable_new<S: EffectSink>(set: &mut LinkedTaskSet, unit: u16, out: &mut S)
+    requires room { S.len out.old + count_by is_new set.old.list ≤ S.capacity out.old }
     ensures set { set.new ≡ all_given set.old }
-    ensures effects { Appends (enable_effects unit set.old.list) out.old out.new }
-    ensures spent { vec_len out.new ≡ vec_len out.old + count_by is_new set.old.list }
+    ensures effects { Appends S.has S.capacity (enable_effects unit set.old.list) out.old out.new }
+    ensures spent { S.len out.new ≤ S.len out.old + count_by is_new set.old.list }
 {
     while let Some(ticket) = set.next_new() {
-        out.push_reserved(Effect::Enable { ticket, unit });
+        out.put_enable(ticket, unit);
     }
 }

@@ -1,4 +1,4 @@
-use Rattle.std.proofs.Common.{rules, ◌≡◌, ◌≢◌, ◌∙◌, ◌↔◌, [], ◌∷◌, ◌++◌, refl, ap, sym, subst, Bool, true, false, Result, Ok, Err, MatchResult, IfErr, IsErrOf}
+use Rattle.std.proofs.Common.{rules, ◌≡◌, ◌≢◌, ◌∙◌, ◌↔◌, [], ◌∷◌, ◌++◌, ℕ, List, append_assoc, refl, ap, sym, subst, Bool, true, false, Result, Ok, Err, MatchResult, IfErr, IsErrOf}
 use Rattle.std.specs.Prelude.{OnOk}
 use Rattle.std.proofs.lemmas.Bool.{false≢true}
 use Rattle.std.proofs.lemmas.Result.{IfOk-weaker}
@@ -8,43 +8,69 @@ use Rattle.iscsi_session.proofs.PromiseLemmas.{promises_kept}
 use Rattle.iscsi_session.specs.private.Standing.{StandsFor}
 use Rattle.iscsi_recording.specs.declared.fault.ReplayFault.{ReplayFault}
 use Rattle.iscsi_recording.specs.declared.fault.ReplayFault.TheVariants.{Write, NoMemory}
-use Rattle.iscsi_replay.specs.promises.Replayed.{setting_with}
+use Rattle.std.specs.List.{flat_map}
+use Rattle.iscsi_rules.specs.declared.effect.Effect.{Effect}
+use Rattle.iscsi_rules.specs.rules.Run.{next_entry}
+use Rattle.iscsi_report.specs.Lines.{event_line, effect_line}
+use Rattle.iscsi_report.specs.Filled.{Written, at_rest}
+use Rattle.iscsi_recording.specs.Writing.{AppendsBut}
+use Rattle.iscsi_replay.specs.promises.Replayed.{setting_with, report_by}
 use Rattle.iscsi_recording.proofs.Written.{front_before, front_after, waits_not, waits_less}
 use Rattle.iscsi_replay.proofs.ReportLemmas.{front_of_all, effects_alone, waits_next, all_written}
 use Rattle.iscsi_replay.proofs.RefusalLemmas.{memory_alone, event_taken}
 use Rattle.iscsi_recording.proofs.SourceLemmas.{with_next, past_next, all_came}
+use Rattle.iscsi_replay.proofs.replaying.write_report.Given.{Over}
+use Rattle.iscsi_replay.proofs.replaying.write_report.Goals.{In-Ok-end}
 use Rattle.iscsi_replay.proofs.replaying.write_report.Goals as goal
 
 pub events-init : goal.events-init
 events-init g c = record {
   before = [];
   whole = refl;
+  rest = rw c.new-report.ensures (refl, refl);
   fresh = search rules;
   stands = c.in_ok-session.ensures.stands;
   flow = FlowsThrough-none _;
-  written = waits_not _ _ c.new-lines.ensures;
+  written = waits_not _ _ (ap (λ (w : Written). w.bytes) c.new-report.ensures);
 }
 
-pub returns-in_default-clause-front : goal.returns-in_default-clause-front
-returns-in_default-clause-front g c =
+pub returns-in_default-end-clause-front : goal.returns-in_default-end-clause-front
+returns-in_default-end-clause-front g c =
     let so_far = c.events.invariant in
     front_of_all _ _ (setting_with c.args.most c.args.settings.now c.args.conns.items) so_far.before (g.E.EventSource.rest c.events.events) _ so_far.whole
     (front_before _ _ _ _ so_far.written)
 
-pub returns-in-Err-clause-front : goal.returns-in-Err-clause-front
-returns-in-Err-clause-front g c =
-    let so_far = c.events.invariant in
-    front_of_all _ _ (setting_with c.args.most c.args.settings.now c.args.conns.items) so_far.before (g.E.EventSource.rest c.events.events) _ so_far.whole
-    (front_before _ _ _ _ so_far.written)
-
-pub fault_of-requires : goal.fault_of-requires
-fault_of-requires g c =
+-- the event is taken
+pub unreachable-requires : goal.unreachable-requires
+unreachable-requires g c =
     let o = setting_with c.args.most c.args.settings.now c.args.conns.items in
     let so_far = c.events.invariant in
     let after = g.E.EventSource.rest c.next.new.self in
     let whole = with_next _ so_far.before (g.E.EventSource.rest c.events.events) after c.next.new.event so_far.whole (c.next.ensures.some c.events-test.true) in
-    memory_alone _ _ _ (event_taken o so_far.before after _ c.next.new.event whole c.requires.known c.requires.few)
-    c.in-Err.is (c.step.ensures.refused o so_far.before so_far.stands)
+    c.step_into.ensures.memory (c.in_default.is ∙ ap Err (memory_alone _ _ _ (event_taken o so_far.before after _ c.next.new.event whole c.requires.known c.requires.few)
+    c.in_default.is (c.step_into.ensures.refused o so_far.before so_far.stands)))
+
+-- its lines are there, and no more are to come
+ended : (g : Over) (c : In-Ok-end g) → c.end.new.self ≡ at_rest ((c.events.report.bytes ++ event_line c.next.new.event)
+    ++ flat_map (λ effect. effect_line effect c.in-Ok.numbers) (next_entry (setting_with c.args.most c.args.settings.now c.args.conns.items) c.events.invariant.before c.next.new.event).effects)
+ended g c =
+    let o = setting_with c.args.most c.args.settings.now c.args.conns.items in
+    let so_far = c.events.invariant in
+    let text : List ℕ = c.events.report.bytes ++ event_line c.next.new.event in
+    c.in-Ok-end.ensures.text text _ (c.in-Ok.ensures.effects o so_far.before so_far.stands text [] c.begin.ensures)
+
+pub write_chunk-requires-clause-rest : goal.write_chunk-requires-clause-rest
+write_chunk-requires-clause-rest g c = rw (ended g (goal.at.write_chunk-requires-clause-rest g c).In-Ok-end) (refl, refl)
+
+waits_now : (g : Over) (c : In-Ok-end g) → let o = setting_with c.args.most c.args.settings.now c.args.conns.items in
+    AppendsBut (g.W.Sink.contents c.args.writer.now) (g.W.Sink.contents c.events.writer) c.end.new.self.bytes (report_by o (c.events.invariant.before ++ c.next.new.event ∷ []))
+waits_now g c =
+    let o = setting_with c.args.most c.args.settings.now c.args.conns.items in
+    let so_far = c.events.invariant in
+    let effects : List Effect = (next_entry o so_far.before c.next.new.event).effects in
+    waits_next _ _ o so_far.before c.next.new.event c.events.report.bytes c.end.new.self.bytes c.in-Ok.numbers effects
+    (ap (λ (w : Written). w.bytes) (ended g c) ∙ append_assoc c.events.report.bytes (event_line c.next.new.event) (flat_map (λ effect. effect_line effect c.in-Ok.numbers) effects))
+    (c.in-Ok.ensures.numbers o so_far.before so_far.stands) refl so_far.written
 
 pub returns-in_err-write_chunk-clause-front : goal.returns-in_err-write_chunk-clause-front
 returns-in_err-write_chunk-clause-front g c =
@@ -52,12 +78,8 @@ returns-in_err-write_chunk-clause-front g c =
     let so_far = c.events.invariant in
     let before = so_far.before in
     let after = g.E.EventSource.rest c.next.new.self in
-    let effects_are = effects_alone _ _ _ _ c.deref.ensures.value (c.in-Ok.ensures.effects o before so_far.stands) c.clear.ensures.items in
-    let waits = waits_next _ _ o before c.next.new.event c.events.lines c.put_entry.new.self
-    c.in-Ok.numbers c.deref.result.now c.in-Ok-put_entry.ensures.ok
-    (c.in-Ok.ensures.numbers o before so_far.stands) effects_are so_far.written in
     front_of_all _ _ o (before ++ c.next.new.event ∷ []) after _ (past_next _ before (g.E.EventSource.rest c.events.events) after c.next.new.event so_far.whole (c.next.ensures.some c.events-test.true))
-    (front_after _ _ _ _ _ _ refl waits c.in_err-write_chunk.ensures.front)
+    (front_after _ _ _ _ _ _ refl (waits_now g (goal.at.returns-in_err-write_chunk-clause-front g c).In-Ok-end) c.in_err-write_chunk.ensures.front)
 
 pub events-preserved : goal.events-preserved
 events-preserved g c =
@@ -65,17 +87,14 @@ events-preserved g c =
     let so_far = c.events.invariant in
     let before = so_far.before in
     let after = g.E.EventSource.rest c.next.new.self in
-    let effects_are = effects_alone _ _ _ _ c.deref.ensures.value (c.in-Ok.ensures.effects o before so_far.stands) c.clear.ensures.items in
-    let waits = waits_next _ _ o before c.next.new.event c.events.lines c.put_entry.new.self
-    c.in-Ok.numbers c.deref.result.now c.in-Ok-put_entry.ensures.ok
-    (c.in-Ok.ensures.numbers o before so_far.stands) effects_are so_far.written in
     record {
       before = before ++ c.next.new.event ∷ [];
       whole = past_next _ before (g.E.EventSource.rest c.events.events) after c.next.new.event so_far.whole (c.next.ensures.some c.events-test.true);
+      rest = c.in_ok-write_chunk.ensures.rest;
       fresh = search rules;
       stands = c.in-Ok.ensures.stands o before so_far.stands;
       flow = FlowsThrough-push o before _ so_far.flow (c.in-Ok.ensures.flow o before so_far.stands);
-      written = waits_less _ _ _ _ _ _ waits c.in_ok-write_chunk.ensures.ok;
+      written = waits_less _ _ _ _ _ _ (waits_now g (goal.at.events-preserved g c).In-Ok-end) c.in_ok-write_chunk.ensures.ok;
     }
 
 pub returns-clause-ok : goal.returns-clause-ok

@@ -1,14 +1,18 @@
-use Rattle.std.proofs.Common.{◌∙◌, ◌+◌, ◌-◌, ◌<◌, ℕ, arith, length-set, append_assoc}
-use Rattle.std.proofs.lemmas.List.{append-nil}
+use Rattle.std.proofs.Common.{◌∙◌, ◌+◌, ◌-◌, ◌<◌, ℕ, arith, length-set, refl, List, [], ap, ◌≡◌}
+use Rattle.iscsi_rules.specs.declared.effect.Effect.{Effect}
+use Rattle.std.specs.List.{range_with_len, flat_map}
+use Rattle.iscsi_session.proofs.SinkLemmas.{continued, ended}
 use Rattle.iscsi_session.specs.private.Standing.{Core}
-use Rattle.iscsi_session.specs.private.Steps.{set_at, all_given}
+use Rattle.iscsi_session.specs.private.Steps.{set_at, all_given, enable_effects, all_told}
 use Rattle.iscsi_session.proofs.TellingLemmas.{given_all, told_more, told_all, told_later}
 use Rattle.iscsi_session.proofs.session.Session.announce_all.Goals as goal
 use Rattle.iscsi_rules.proofs.general.ListLemmas.{range_step}
-use Rattle.std.proofs.lemmas.Bool.Decides.{nat_tests}
+
+abbrev told_from : Core → ℕ → ℕ → List Effect
+told_from s from count = flat_map (λ unit. enable_effects unit (set_at s unit).list) (range_with_len from count)
 
 pub loop-unit-preserved : goal.loop-unit-preserved
-loop-unit-preserved c =
+loop-unit-preserved over c =
     let inv = c.loop-unit.invariant in
     let s : Core = c.loop-unit.self in
     let u : ℕ = c.loop-unit.unit in
@@ -18,11 +22,21 @@ loop-unit-preserved c =
     record {
       session = rw (told, given_all s.sets u) inv.session;
       told = rw told (told_more s.sets u (omega (arith, lt, inv.units)) inv.told);
-      effects = rw (c.announce_enabled.ensures.done.effects, told, append_assoc, told_later s.sets u (all_given (set_at s u)) (end - (u + 1)) (u + 1) (omega arith)) (rw (range_step u end lt) at inv.effects);
+      effects = continued over.S.EffectSink.has (all_told c.args.self.now).effects (told_from s u (end - u)) (enable_effects u (set_at s u).list) (told_from c.announce_enabled.new.self (u + 1) (end - (u + 1))) c.args.out.now c.loop-unit.out c.announce_enabled.new.out inv.effects
+          (rw (range_step u end lt, told, told_later s.sets u (all_given (set_at s u)) (end - (u + 1)) (u + 1) (omega arith)) refl) c.announce_enabled.ensures.done.effects;
       units = rw (told, length-set) inv.units;
       spent = omega (arith, c.announce_enabled.ensures.spent, inv.spent);
       capacity = c.announce_enabled.ensures.done.room ∙ inv.capacity;
     }
 
 pub returns-clause-done : goal.returns-clause-done
-returns-clause-done c = grind (arith, nat_tests, told_all, append-nil)
+returns-clause-done over c =
+    let inv = c.loop-unit.invariant in
+    let u : ℕ = c.loop-unit.unit in
+    let end : ℕ = c.units-unit-end.result in
+    let none : range_with_len u (end - u) ≡ [] = ap (range_with_len u) (let z : end - u ≡ 0 = omega (arith, c.loop-unit-test.false) in z) in
+    record {
+      core = rw (told_all c.loop-unit.self.sets (λ k lt. inv.told k (omega (arith, lt, inv.units, c.loop-unit-test.false)))) at inv.session;
+      effects = ended over.S.EffectSink.has (all_told c.args.self.now).effects (told_from c.loop-unit.self u (end - u)) c.args.out.now c.loop-unit.out inv.effects (rw none refl);
+      room = inv.capacity;
+    }

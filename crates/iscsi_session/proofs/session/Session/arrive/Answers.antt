@@ -9,14 +9,14 @@ use Rattle.iscsi_session.proofs.AgendaLemmas.{opened_arrival, closed_arrival}
 use Rattle.iscsi_session.proofs.session.Session.arrive.Goals as goal
 
 pub returns-then-is_open-clause-items : goal.returns-then-is_open-clause-items
-returns-then-is_open-clause-items c = λ o index t taken h.
+returns-then-is_open-clause-items over c = λ o index t taken h.
     let s : Core = c.args.self.now in
     let there : is_among_open (connection_of c.args.request.now) s.open_conns ≡ true = ap (λ n. is_among_open n s.open_conns) (sym c.conn.ensures) ∙ sym c.is_open.ensures ∙ c.if-is_open.true in
-    subst (λ (items : List (List Mark)). Handles o t items HasOneMore c.dispatch.new.self c.args.out.now.items c.dispatch.new.out.items) (sym (opened_arrival o s index t c.args.request.now h.agrees (known_of o s t _ h.agrees c.requires.known) there)) (c.dispatch.ensures.items o index t taken h)
+    subst (λ (items : List (List Mark)). Handles over.S.EffectSink.has o t items HasOneMore c.dispatch.new.self c.args.out.now c.dispatch.new.out) (sym (opened_arrival o s index t c.args.request.now h.agrees (known_of o s t _ h.agrees c.requires.known) there)) (c.dispatch.ensures.items o index t taken h)
 
 pub returns-else-is_open-clause-items : goal.returns-else-is_open-clause-items
-returns-else-is_open-clause-items c = λ o index t taken h.
+returns-else-is_open-clause-items over c = λ o index t taken h.
     let s : Core = c.args.self.now in
     let known = known_of o s t _ h.agrees c.requires.known in
     let gone : is_among_open (connection_of c.args.request.now) s.open_conns ≡ false = ap (λ n. is_among_open n s.open_conns) (sym c.conn.ensures) ∙ sym c.is_open.ensures ∙ c.if-is_open.false in
-    handled o _ t _ s c.args.out.now.items _ (closed_arrival o s index t c.args.request.now h known gone) refl c.push_reserved.ensures.items
+    handled over.S.EffectSink.has o _ t _ s c.args.out.now c.put_ignore.new.self (closed_arrival o s index t c.args.request.now h known gone) refl c.put_ignore.ensures.has

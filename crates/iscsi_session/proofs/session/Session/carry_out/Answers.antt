@@ -6,9 +6,9 @@ use Rattle.iscsi_session.proofs.session.Session.carry_out.Goals as goal
 use Rattle.std.proofs.lemmas.Bool.Decides.{nat_tests}
 
 pub returns-in-Enter-clause-spent : goal.returns-in-Enter-clause-spent
-returns-in-Enter-clause-spent c = grind (arith, nat_tests, carried_stays, owed_entered)
+returns-in-Enter-clause-spent over c = grind (arith, nat_tests, carried_stays, owed_entered)
 
 pub returns-in-AbortEarlier-clause-done : goal.returns-in-AbortEarlier-clause-done
-returns-in-AbortEarlier-clause-done c =
+returns-in-AbortEarlier-clause-done over c =
     let number = to_z-of_z w64 c.args.number (search rules) in
     rw c.in-AbortEarlier.is (rw number at c.abort_covered.ensures.done)

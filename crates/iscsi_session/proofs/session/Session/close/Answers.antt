@@ -5,4 +5,4 @@ use Rattle.std.proofs.Common.{arith}
 use Rattle.std.proofs.lemmas.Bool.Decides.{nat_tests}
 
 pub returns-clause-done : goal.returns-clause-done
-returns-clause-done c = grind (arith, nat_tests, in-Some, append_assoc, in_default)
+returns-clause-done over c = grind (arith, nat_tests, in-Some, append_assoc, in_default)

@@ -4,4 +4,4 @@ use Rattle.std.proofs.Common.{arith}
 use Rattle.std.proofs.lemmas.Bool.Decides.{nat_tests}
 
 pub returns-clause-done : goal.returns-clause-done
-returns-clause-done c = grind (arith, nat_tests, append_assoc)
+returns-clause-done over c = grind (arith, nat_tests, append_assoc)

@@ -23,7 +23,7 @@ received_same : (s : Core) (r : Request) (w : Arrived) → comes_next s r ≡ tr
 received_same s r w next is = let d = turned s r next in omega (arith, ap (λ (v : Arrived). count_by is_some v.places) is, d.advanced_is.counted, d.grown_is.counted)
 
 pub invariant_of-self : goal.invariant_of-self
-invariant_of-self c =
+invariant_of-self over c =
     let inv = c.self.invariant in
     let s : Core = the_view c.self.inside in
     let now = λ (P : Core → Type 0). subst P (sym c.self.view_is) in
@@ -34,26 +34,26 @@ invariant_of-self c =
     window_sound inv (ap (λ (v : Arrived). v.unfinished) is ∙ d.advanced_is.unfinished ∙ d.grown_is.unfinished) (ap (λ (v : Arrived). length v.places) is ∙ d.advanced_is.long ∙ d.grown_is.long) (advanced_sound window d.advanced_is is)
 
 pub deliver-requires-clause-counted : goal.deliver-requires-clause-counted
-deliver-requires-clause-counted c =
+deliver-requires-clause-counted over c =
     let s : Core = the_view c.self.inside in
     let next : comes_next s c.args.request.now ≡ true = ap (λ (v : Core). comes_next v c.args.request.now) c.self.view_is ∙ c.requires.next in
     omega (arith, c.requires.entered, ap (λ (v : Core). v.entered + count_by is_some v.window.places) c.self.view_is, ap (λ (v : Core). v.taken) c.self.view_is, received_same s c.args.request.now c.pass.new.self next (c.pass.ensures.state (s.taken - 1)))
 
 pub deliver-requires-clause-room : goal.deliver-requires-clause-room
-deliver-requires-clause-room c =
+deliver-requires-clause-room over c =
     let s : Core = the_view c.self.inside in
     let next : comes_next s c.args.request.now ≡ true = ap (λ (v : Core). comes_next v c.args.request.now) c.self.view_is ∙ c.requires.next in
     omega (arith, c.requires.room, ap (λ (v : Core). count_by is_held v.window.places) c.self.view_is, ap (λ (v : Core). owed v.live v.sets) c.self.view_is, held_same s c.args.request.now c.pass.new.self next (c.pass.ensures.state (s.taken - 1)))
 
 pub returns-clause-done : goal.returns-clause-done
-returns-clause-done c =
+returns-clause-done over c =
     let s : Core = the_view c.self.inside in
     let r : Request = c.args.request.now in
-    subst (λ (v : Core). Takes (turn_taken (with_offered v r) (Some (Some (held_now v r)))) c.deliver.new.self c.args.out.now c.deliver.new.out) c.self.view_is
-    (subst (λ (v : Arrived). Takes (turn_of (record s { window = v }) (Some (held_now s r))) c.deliver.new.self c.args.out.now c.deliver.new.out) (c.pass.ensures.state (s.taken - 1)) c.deliver.ensures.done)
+    subst (λ (v : Core). Takes over.S.EffectSink.has over.S.EffectSink.capacity (turn_taken (with_offered v r) (Some (Some (held_now v r)))) c.deliver.new.self c.args.out.now c.deliver.new.out) c.self.view_is
+    (subst (λ (v : Arrived). Takes over.S.EffectSink.has over.S.EffectSink.capacity (turn_of (record s { window = v }) (Some (held_now s r))) c.deliver.new.self c.args.out.now c.deliver.new.out) (c.pass.ensures.state (s.taken - 1)) c.deliver.ensures.done)
 
 pub returns-clause-spent : goal.returns-clause-spent
-returns-clause-spent c =
+returns-clause-spent over c =
     let s : Core = the_view c.self.inside in
     let next : comes_next s c.args.request.now ≡ true = ap (λ (v : Core). comes_next v c.args.request.now) c.self.view_is ∙ c.requires.next in
     omega (arith, c.deliver.ensures.spent, c.deliver.ensures.waiting, ap (λ (v : Core). length v.waiting) c.self.view_is, held_same s c.args.request.now c.pass.new.self next (c.pass.ensures.state (s.taken - 1)), ap (λ (v : Core). count_by is_held v.window.places) c.self.view_is, ap (λ (v : Core). owed v.live v.sets) c.self.view_is)

@@ -8,31 +8,32 @@ use Rattle.iscsi_session.specs.private.Deeds.{turn_of}
 use Rattle.iscsi_rules.proofs.general.BoolLemmas.{and_first, not_true}
 use Rattle.iscsi_session.proofs.WindowLemmas.{Advanced, advanced_at}
 use Rattle.iscsi_session.proofs.DeedLemmas.{executed_counted}
+use Rattle.iscsi_session.proofs.session.Session.deliver_next.Given.{Over}
 use Rattle.iscsi_session.proofs.session.Session.deliver_next.Goals as goal
 use Rattle.iscsi_session.proofs.session.Session.deliver_next.Goals.{In-Some, In-Some-held}
 use Rattle.std.proofs.lemmas.Bool.Decides.{nat_tests}
 
 -- the number has turned, and this was held for it
-turned : (c : In-Some-held) → Advanced c.self.inside.window (Some c.in-Some-held.field-0)
-turned c = advanced_at c.self.inside.window (Some c.in-Some-held.field-0) (sym c.advance.ensures.answer ∙ c.in-Some.is ∙ ap Some c.in-Some-held.is)
+turned : (over : Over) (c : In-Some-held over) → Advanced c.self.inside.window (Some c.in-Some-held.field-0)
+turned over c = advanced_at c.self.inside.window (Some c.in-Some-held.field-0) (sym c.advance.ensures.answer ∙ c.in-Some.is ∙ ap Some c.in-Some-held.is)
 
-numbered : (c : In-Some-held) → is_immediate c.in-Some-held.field-0.request ≡ false
-numbered c = grind (arith, nat_tests, not_true, and_first)
+numbered : (over : Over) (c : In-Some-held over) → is_immediate c.in-Some-held.field-0.request ≡ false
+numbered over c = grind (arith, nat_tests, not_true, and_first)
 
 pub returns-in-Some-held-clause-done : goal.returns-in-Some-held-clause-done
-returns-in-Some-held-clause-done c =
+returns-in-Some-held-clause-done over c =
     let s : Core = the_view c.self.inside in
-    let n = turned (goal.at.returns-in-Some-held-clause-done c).In-Some-held in
-    rw (← c.self.view_is, n.here) (subst (λ (v : Arrived). Takes (turn_of (record s { window = v }) (Some c.in-Some-held.field-0)) c.deliver_apart.new.self c.args.out.now c.deliver_apart.new.out) c.advance.ensures.state c.deliver_apart.ensures.done)
+    let n = turned over (goal.at.returns-in-Some-held-clause-done over c).In-Some-held in
+    rw (← c.self.view_is, n.here) (subst (λ (v : Arrived). Takes over.S.EffectSink.has over.S.EffectSink.capacity (turn_of (record s { window = v }) (Some c.in-Some-held.field-0)) c.deliver_apart.new.self c.args.out.now c.deliver_apart.new.out) c.advance.ensures.state c.deliver_apart.ensures.done)
 
 pub returns-in-Some-held-clause-spent : goal.returns-in-Some-held-clause-spent
-returns-in-Some-held-clause-spent c =
-    let n = turned (goal.at.returns-in-Some-held-clause-spent c).In-Some-held in
+returns-in-Some-held-clause-spent over c =
+    let n = turned over (goal.at.returns-in-Some-held-clause-spent over c).In-Some-held in
     rw (← c.self.view_is) (omega (arith, ap (λ w. count_by is_held w.places) c.advance.ensures.state, n.held, c.deliver_apart.ensures.spent))
 
 pub returns-in-Some-held-clause-fewer : goal.returns-in-Some-held-clause-fewer
-returns-in-Some-held-clause-fewer c = λ said.
-    let path = (goal.at.returns-in-Some-held-clause-fewer c).In-Some-held in
+returns-in-Some-held-clause-fewer over c = λ said.
+    let path = (goal.at.returns-in-Some-held-clause-fewer over c).In-Some-held in
     let t : Core = record (the_view c.self.inside) { window = c.advance.new.self } in
-    let counted = executed_counted t c.in-Some-held.field-0.request c.in-Some-held.field-0.event (numbered path) in
-    rw (← c.self.view_is) (omega (arith, ap (λ (u : Core). count_by is_some u.window.places) c.deliver_apart.ensures.done.core, counted, ap (λ w. count_by is_some w.places) c.advance.ensures.state, (turned path).counted))
+    let counted = executed_counted t c.in-Some-held.field-0.request c.in-Some-held.field-0.event (numbered over path) in
+    rw (← c.self.view_is) (omega (arith, ap (λ (u : Core). count_by is_some u.window.places) c.deliver_apart.ensures.done.core, counted, ap (λ w. count_by is_some w.places) c.advance.ensures.state, (turned over path).counted))

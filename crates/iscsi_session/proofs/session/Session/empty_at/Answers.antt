@@ -1,9 +1,14 @@
-use Rattle.std.proofs.Common.{◌≡◌, ℕ, false, ◌∙◌, ap, sym, arith, rules, count_by, Option, Some, None, refl, append_assoc, length-set}
+use Rattle.std.proofs.Common.{◌≡◌, ℕ, false, ◌∙◌, ap, sym, arith, rules, count_by, Option, Some, None, refl, length-set, [], ◌∷◌}
 use Rattle.iscsi_window.specs.Windows.{Arrived, number_expected, number_shown, with_place, at_place, holds_from}
+use Rattle.iscsi_rules.specs.declared.effect.Effect.TheVariants.{Empty}
+use Rattle.iscsi_session.specs.contracts.session.Session.{the_view}
+use Rattle.iscsi_session.specs.private.Steps.{all_emptied}
+use Rattle.iscsi_session.proofs.SinkLemmas.{started, continued}
 use Rattle.iscsi_session.specs.private.Standing.{is_held}
 use Rattle.iscsi_session.proofs.DroppingLemmas.{Dropped, dropped, clear_past, answered_some, answered_none}
 use Rattle.iscsi_session.proofs.WindowLemmas.{Changed}
 use Rattle.iscsi_session.proofs.SoundLemmas.{window_sound, changed_sound, same_sound}
+use Rattle.iscsi_session.proofs.session.Session.empty_at.Given.{Over}
 use Rattle.iscsi_session.proofs.session.Session.empty_at.Goals as goal
 use Rattle.iscsi_session.proofs.session.Session.empty_at.Goals.{In-Some}
 use Rattle.std.proofs.lemmas.Bool.Decides.{nat_tests}
@@ -15,8 +20,8 @@ record Taken (w new : Arrived) (scope : Option ℕ) (k sn : ℕ) : Type 0 where
   number : sn ≡ number_shown w k
   left : Dropped scope (number_expected w) w.places k
 
-taken : (c : In-Some) → Taken c.self.inside.window c.drop_at.new.self c.args.scope c.args.ahead c.in-Some.sn
-taken c =
+taken : (over : Over) (c : In-Some over) → Taken c.self.inside.window c.drop_at.new.self c.args.scope c.args.ahead c.in-Some.sn
+taken over c =
     let w : Arrived = c.self.inside.window in
     let found = answered_some (holds_from c.args.scope (at_place w c.args.ahead)) (number_shown w c.args.ahead) c.in-Some.sn (sym c.drop_at.ensures.answer ∙ c.in-Some.is) in
     record {
@@ -26,33 +31,34 @@ taken c =
     }
 
 pub invariant_of-self-2 : goal.invariant_of-self-2
-invariant_of-self-2 c =
+invariant_of-self-2 over c =
     let inv = c.self.invariant in
     let w : Arrived = c.self.inside.window in
-    let t = taken (goal.at.invariant_of-self-2 c).In-Some in
+    let t = taken over (goal.at.invariant_of-self-2 over c).In-Some in
     let d = t.left in
     let g : Changed w (with_place w c.args.ahead (Some None)) 1 0 = record { long = length-set w.places c.args.ahead (Some None); turned = refl; unfinished = refl; held_is = d.held; counted = omega (arith, d.counted); known = d.known } in
     rw t.is (window_sound inv g.unfinished g.long (changed_sound inv.window g (omega (arith, inv.window.turned)) (omega (arith, inv.window.entered))))
 
 pub returns : goal.returns
-returns c =
-    let t = taken (goal.at.returns c).In-Some in
+returns over c =
+    let t = taken over (goal.at.returns over c).In-Some in
     record {
       session = rw (← c.self.view_is, t.is, t.left.rest);
-      effects = rw (← c.self.view_is, c.push_reserved.ensures.items, append_assoc, t.is, t.number, t.left.effects);
+      effects = rw (← c.self.view_is, t.is) (continued over.S.EffectSink.has (all_emptied (the_view c.self.inside) c.args.scope).effects (all_emptied (the_view c.self.inside) c.args.scope).effects (Empty c.in-Some.sn ∷ []) _ c.args.out.now c.args.out.now c.put_empty.new.self
+          (started over.S.EffectSink.has _ c.args.out.now) (t.left.effects ∙ rw t.number refl) c.put_empty.ensures.has);
       lowest = rw t.is t.left.clear;
       long = rw (← c.self.view_is, t.is, length-set);
-      spent = rw (← c.self.view_is) (omega (arith, t.left.held, ap (λ (v : Arrived). count_by is_held v.places) t.is, c.push_reserved.ensures.len));
+      spent = rw (← c.self.view_is) (omega (arith, t.left.held, ap (λ (v : Arrived). count_by is_held v.places) t.is, c.put_empty.ensures.len));
       capacity = search rules;
     }
 
 -- ---- nothing is taken out
 
-none : (c : goal.In_default) → holds_from c.args.scope (at_place c.self.inside.window c.args.ahead) ≡ false
-none c = answered_none _ (number_shown c.self.inside.window c.args.ahead) (sym c.drop_at.ensures.answer ∙ c.in_default.is)
+none : (over : Over) (c : goal.In_default over) → holds_from c.args.scope (at_place c.self.inside.window c.args.ahead) ≡ false
+none over c = answered_none _ (number_shown c.self.inside.window c.args.ahead) (sym c.drop_at.ensures.answer ∙ c.in_default.is)
 
 pub invariant_of-self : goal.invariant_of-self
-invariant_of-self c = same_sound c.self.invariant (c.drop_at.ensures.state ∙ rw (none c))
+invariant_of-self over c = same_sound c.self.invariant (c.drop_at.ensures.state ∙ rw (none over c))
 
 pub returns-in_default-clause-lowest : goal.returns-in_default-clause-lowest
-returns-in_default-clause-lowest c = grind (arith, nat_tests, none, clear_past)
+returns-in_default-clause-lowest over c = grind (arith, nat_tests, none, clear_past)

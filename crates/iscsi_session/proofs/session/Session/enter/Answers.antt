@@ -15,6 +15,7 @@ use Rattle.iscsi_session.specs.private.Steps.{new_live, new_task, started}
 use Rattle.iscsi_session.proofs.CountLemmas.{AreCounted-entered, room_for_one}
 use Rattle.iscsi_session.proofs.KeptLemmas.{newest_in, Match-entered}
 use Rattle.iscsi_session.proofs.SoundLemmas.{places_sound, commands_sound_on, entered_sound}
+use Rattle.iscsi_session.proofs.session.Session.enter.Given.{Over}
 use Rattle.iscsi_session.proofs.session.Session.enter.Goals as goal
 use Rattle.iscsi_session.proofs.session.Session.enter.Goals.{After-enter-slot, After-push}
 
@@ -24,7 +25,7 @@ started_parts : (w v : Arrived) (r : Request) → v ≡ started w r → w.unfini
 started_parts w v r is few space = grind arith
 
 pub enter-slot-requires-clause-newest : goal.enter-slot-requires-clause-newest
-enter-slot-requires-clause-newest c =
+enter-slot-requires-clause-newest over c =
     let inside : c.args.unit < length c.self.inside.sets.items = omega (arith, c.requires.unit, ap (λ (s : Core). length s.sets) c.self.view_is) in
     rw c.deref_mut.ensures.value
     (newest_in c.self.inside.sets.items c.self.inside.live.items c.self.inside.entered (length c.self.inside.sets.items) c.args.unit c.self.invariant.commands.in_sets c.self.invariant.commands.within inside)
@@ -36,7 +37,7 @@ all_before n units lives within = λ k d lt.
     grind (arith, nat_tests)
 
 pub push-requires-clause-room : goal.push-requires-clause-room
-push-requires-clause-room c =
+push-requires-clause-room over c =
     let inv = c.self.invariant in
     omega (
       arith,
@@ -46,28 +47,28 @@ push-requires-clause-room c =
     )
 
 pub push-requires-clause-newest : goal.push-requires-clause-newest
-push-requires-clause-newest c = all_before c.self.inside.entered (length c.self.inside.sets.items) c.self.inside.live.items c.self.invariant.commands.within
+push-requires-clause-newest over c = all_before c.self.inside.entered (length c.self.inside.sets.items) c.self.inside.live.items c.self.invariant.commands.within
 
 -- the set of the unit has the task as the definitions say
-sets_are : (c : After-enter-slot) → c.enter-slot.new.sets ≡ set c.self.inside.sets.items c.args.unit (given_by (entered_to (get_or c.self.inside.sets.items c.args.unit (opened 0)) (new_task c.args.self.now c.args.request.now)))
-sets_are c =
+sets_are : (over : Over) (c : After-enter-slot over) → c.enter-slot.new.sets ≡ set c.self.inside.sets.items c.args.unit (given_by (entered_to (get_or c.self.inside.sets.items c.args.unit (opened 0)) (new_task c.args.self.now c.args.request.now)))
+sets_are over c =
     let position = to_z-of_z w64 c.args.pos (search rules) in
     c.enter-slot.ensures.sets
     ∙ rw (c.deref_mut.ensures.value, c.conn.ensures, c.itt.ensures, c.attr_of-attr.ensures, c.attr.ensures, c.immediate.ensures, position, c.requires.number, c.event-event.ensures, ap (λ (s : Core). s.entered) c.self.view_is)
 
 -- and so they are written back
-sets_now : (c : After-enter-slot) → take c.self.inside.sets.len (c.enter-slot.new.sets ++ drop (length c.enter-slot.new.sets) c.self.inside.sets.items) ≡ c.enter-slot.new.sets
-sets_now c = written c.self.inside.sets.len c.enter-slot.new.sets c.self.inside.sets.items (ap length (sets_are c) ∙ length-set c.self.inside.sets.items c.args.unit _) c.self.inside.sets.ok.0
+sets_now : (over : Over) (c : After-enter-slot over) → take c.self.inside.sets.len (c.enter-slot.new.sets ++ drop (length c.enter-slot.new.sets) c.self.inside.sets.items) ≡ c.enter-slot.new.sets
+sets_now over c = written c.self.inside.sets.len c.enter-slot.new.sets c.self.inside.sets.items (ap length (sets_are over c) ∙ length-set c.self.inside.sets.items c.args.unit _) c.self.inside.sets.ok.0
 
 -- the live commands are those of before and the new one
-lives_are : (c : After-push) → c.push.new.self.items ≡ c.self.inside.live.items ++ new_live c.args.self.now c.args.request.now c.args.unit ∷ []
-lives_are c = ap (λ (q : Queued Live). q.items) c.push.ensures ∙ rw (c.conn.ensures, c.itt.ensures, c.immediate.ensures, ap (λ (s : Core). s.entered) c.self.view_is)
+lives_are : (over : Over) (c : After-push over) → c.push.new.self.items ≡ c.self.inside.live.items ++ new_live c.args.self.now c.args.request.now c.args.unit ∷ []
+lives_are over c = ap (λ (q : Queued Live). q.items) c.push.ensures ∙ rw (c.conn.ensures, c.itt.ensures, c.immediate.ensures, ap (λ (s : Core). s.entered) c.self.view_is)
 
 pub invariant_of-self : goal.invariant_of-self
-invariant_of-self c =
+invariant_of-self over c =
     let inv = c.self.invariant in
-    let e : After-enter-slot = (goal.at.invariant_of-self c).After-enter-slot in
-    let p : After-push = (goal.at.invariant_of-self c).After-push in
+    let e : After-enter-slot over = (goal.at.invariant_of-self over c).After-enter-slot in
+    let p : After-push over = (goal.at.invariant_of-self over c).After-push in
     let r : Request = c.args.request.now in
     let l : Live = new_live c.args.self.now r c.args.unit in
     let old : List Members = c.self.inside.sets.items in
@@ -75,21 +76,21 @@ invariant_of-self c =
     let w = started_parts c.self.inside.window c.begin.new.window r c.begin.ensures.window inv.window.fits (λ no. (rw (← c.self.view_is) at (c.requires.space no)).not_full) in
     let inside : c.args.unit < length old = omega (arith, c.requires.unit, ap (λ (s : Core). length s.sets) c.self.view_is) in
     let next : l.ticket ≡ c.self.inside.entered + 1 = ap (λ (s : Core). s.entered + 1) (sym c.self.view_is) in
-    let now = sets_now e ∙ sets_are e in
+    let now = sets_now over e ∙ sets_are over e in
     let long = ap length now ∙ length-set old c.args.unit _ in
-    let commands = entered_sound inv.commands l (lives_are p) next inside (rw (← c.self.view_is) at c.requires.known) (omega (arith, inv.commands.numbered, w.1.1.0)) long
+    let commands = entered_sound inv.commands l (lives_are over p) next inside (rw (← c.self.view_is) at c.requires.known) (omega (arith, inv.commands.numbered, w.1.1.0)) long
     (rw now (Match-entered old c.self.inside.live.items l (new_task c.args.self.now r) inv.commands.in_sets inside refl))
     (AreCounted-entered c.self.inside.connections.immediate c.begin.new.connections.immediate conns c.self.inside.live.items l inv.commands.counted c.begin.ensures.long c.begin.ensures.counted (rw (← c.self.view_is) at c.requires.few)) in
     commands_sound_on inv (ap (λ (x : Connected). x.conns) c.begin.ensures.connections) (places_sound inv.window w.1.0 w.0 w.1.1.1 (omega (arith, rw (← c.self.view_is) at c.requires.counted))) commands w.1.0 long
     (let room = ap (λ (q : Queued Live). q.room) c.push.ensures in omega (arith, room))
 
 pub returns-clause-done : goal.returns-clause-done
-returns-clause-done c =
-    let e : After-enter-slot = (goal.at.returns-clause-done c).After-enter-slot in
-    let p : After-push = (goal.at.returns-clause-done c).After-push in
+returns-clause-done over c =
+    let e : After-enter-slot over = (goal.at.returns-clause-done over c).After-enter-slot in
+    let p : After-push over = (goal.at.returns-clause-done over c).After-push in
     let position = to_z-of_z w64 c.args.pos (search rules) in
     record {
-      core = rw (sets_now e, sets_are e, lives_are p, c.begin.ensures.connections, c.begin.ensures.window, ← c.self.view_is);
+      core = rw (sets_now over e, sets_are over e, lives_are over p, c.begin.ensures.connections, c.begin.ensures.window, ← c.self.view_is);
       effects = grind (arith, nat_tests, append_assoc);
-      room = c.enter-slot.ensures.effects.room ∙ c.push_reserved.ensures.capacity;
+      room = c.enter-slot.ensures.effects.room ∙ c.put_enter.ensures.capacity;
     }

@@ -7,18 +7,18 @@ use Rattle.iscsi_session.proofs.DeedLemmas.{executed_stays}
 use Rattle.iscsi_session.proofs.session.Session.execute_by.Goals as goal
 
 pub carry_out-requires-clause-fits : goal.carry_out-requires-clause-fits
-carry_out-requires-clause-fits c = rw c.requires.deed (fits_deed c.args.self.now c.args.request.now)
+carry_out-requires-clause-fits over c = rw c.requires.deed (fits_deed c.args.self.now c.args.request.now)
 
 pub carry_out-requires-clause-ready : goal.carry_out-requires-clause-ready
-carry_out-requires-clause-ready c =
+carry_out-requires-clause-ready over c =
     rw c.requires.deed
     (ready c.args.self.now c.args.request.now (deed_by c.args.self.now c.args.request.now) (fits_deed c.args.self.now c.args.request.now) c.requires.space c.requires.turned c.requires.counted c.requires.known)
 
 pub carry_out-requires-clause-number : goal.carry_out-requires-clause-number
-carry_out-requires-clause-number c = λ unit is. to_z-of_z w64 c.position-number.result (search rules) ∙ c.position-number.ensures
+carry_out-requires-clause-number over c = λ unit is. to_z-of_z w64 c.position-number.result (search rules) ∙ c.position-number.ensures
 
 pub returns : goal.returns
-returns c =
+returns over c =
     let number = to_z-of_z w64 c.position-number.result (search rules) in
     let done = rw (number, c.requires.deed, c.position-number.ensures) at c.carry_out.ensures.done in
     let stays : Stays 1 c.args.self.now c.carry_out.new.self = rw done.core (executed_stays c.args.self.now c.args.request.now c.args.event) in

@@ -2,13 +2,14 @@ use Rattle.std.proofs.Common.{◌≡◌, None}
 use Rattle.iscsi_session.specs.private.Deeds.{next_waiting}
 use Rattle.iscsi_rules.proofs.general.ListLemmas.{is_none}
 use Rattle.iscsi_session.proofs.AgendaLemmas.{none_wait}
+use Rattle.iscsi_session.proofs.session.Session.execute_waiting.Given.{Over}
 use Rattle.iscsi_session.proofs.session.Session.execute_waiting.Goals as goal
 use Rattle.iscsi_session.proofs.session.Session.execute_waiting.Goals.{Else-has_due}
 use Rattle.std.proofs.Common.{arith}
 use Rattle.std.proofs.lemmas.Bool.Decides.{nat_tests}
 
-none_due : (c : Else-has_due) → next_waiting c.args.self.now ≡ None
-none_due c = grind (arith, nat_tests, is_none)
+none_due : (over : Over) (c : Else-has_due over) → next_waiting c.args.self.now ≡ None
+none_due over c = grind (arith, nat_tests, is_none)
 
 pub returns-else-has_due-clause-items : goal.returns-else-has_due-clause-items
-returns-else-has_due-clause-items c = λ o t a. none_wait o t c.args.self.now c.args.out.now.items (none_due (goal.at.returns-else-has_due-clause-items c).Else-has_due) a
+returns-else-has_due-clause-items over c = λ o t a. none_wait over.S.EffectSink.has o t c.args.self.now c.args.out.now (none_due over (goal.at.returns-else-has_due-clause-items over c).Else-has_due) a

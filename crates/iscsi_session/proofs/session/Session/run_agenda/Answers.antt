@@ -8,17 +8,16 @@ use Rattle.iscsi_session.proofs.session.Session.run_agenda.Goals as goal
 use Rattle.std.proofs.lemmas.Bool.Decides.{nat_tests}
 
 pub loop-self-preserved : goal.loop-self-preserved
-loop-self-preserved c =
+loop-self-preserved over c =
     let inv = c.loop-self.invariant in
     let s : Core = c.loop-self.self in
     let p = at_place s.window 0 in
     let f = c.execute_waiting-in-loop-self.ensures in
     record {
       due = λ o t out whole d.
-          let x = c.deliver_next.ensures.done in
-          let due : Due o t out whole c.deliver_next.new.self c.deliver_next.new.out.items =
-          rw (x.core, x.effects) (turned-one o t out whole s c.loop-self.out.items p refl (sym c.deliver_next.ensures.answer ∙ c.loop-self-test.true) (inv.due o t out whole d)) in
-          Due-functions o t out whole c.deliver_next.new.self c.execute_waiting-in-loop-self.new.self c.deliver_next.new.out.items c.execute_waiting-in-loop-self.new.out.items due (same_expected c.deliver_next.new.self.window c.execute_waiting-in-loop-self.new.self.window f.first f.turned) f.items;
+          let due : Due over.S.EffectSink.has o t out whole c.deliver_next.new.self c.deliver_next.new.out =
+          turned-one over.S.EffectSink.has over.S.EffectSink.capacity o t out whole s c.deliver_next.new.self c.loop-self.out c.deliver_next.new.out p refl (sym c.deliver_next.ensures.answer ∙ c.loop-self-test.true) (inv.due o t out whole d) c.deliver_next.ensures.done in
+          Due-functions over.S.EffectSink.has o t out whole c.deliver_next.new.self c.execute_waiting-in-loop-self.new.self c.deliver_next.new.out c.execute_waiting-in-loop-self.new.out due (same_expected c.deliver_next.new.self.window c.execute_waiting-in-loop-self.new.self.window f.first f.turned) f.items;
       pace = grind (arith, nat_tests, pace-turned);
       taken = f.taken ∙ ap (λ (v : Core). v.taken) c.deliver_next.ensures.done.core ∙ turned_taken s p ∙ inv.taken;
       spent = omega (arith, c.deliver_next.ensures.spent, c.deliver_next.ensures.waiting, f.spent, ap (count_by is_held) f.places, inv.spent);
@@ -26,9 +25,9 @@ loop-self-preserved c =
     }
 
 pub returns-clause-items : goal.returns-clause-items
-returns-clause-items c = λ o t a.
+returns-clause-items over c = λ o t a.
     let s : Core = c.args.self.now in
     let f = c.execute_waiting.ensures in
-    let out = c.args.out.now.items in
-    let start = Due-functions o t out (whole_of o s t) s c.execute_waiting.new.self out c.execute_waiting.new.out.items (Due-start o s t out a) (same_expected s.window c.execute_waiting.new.self.window f.first f.turned) f.items in
-    turns_done o t out (whole_of o s t) c.loop-self.self c.deliver_next.new.self c.loop-self.out c.deliver_next.new.out (sym c.deliver_next.ensures.answer ∙ c.loop-self-test.false) c.deliver_next.ensures.done (c.loop-self.invariant.due o t out (whole_of o s t) start)
+    let out = c.args.out.now in
+    let start = Due-functions over.S.EffectSink.has o t out (whole_of o s t) s c.execute_waiting.new.self out c.execute_waiting.new.out (Due-start over.S.EffectSink.has o s t out a) (same_expected s.window c.execute_waiting.new.self.window f.first f.turned) f.items in
+    turns_done over.S.EffectSink.has over.S.EffectSink.capacity o t out (whole_of o s t) c.loop-self.self c.deliver_next.new.self c.loop-self.out c.deliver_next.new.out (sym c.deliver_next.ensures.answer ∙ c.loop-self-test.false) c.deliver_next.ensures.done (c.loop-self.invariant.due o t out (whole_of o s t) start)

@@ -1,5 +1,7 @@
-use Rattle.std.proofs.Common.{◌≤◌, ◌≡◌, ◌∙◌, ◌+◌, ◌++◌, ap, sym, arith, List, [], ◌∷◌, length, length-append, Option}
+use Rattle.std.proofs.Common.{◌≤◌, ◌≡◌, ◌∙◌, ◌+◌, ◌++◌, refl, ℕ, ap, sym, arith, List, [], ◌∷◌, length, length-append, Option}
 use Rattle.std.proofs.lemmas.List.{length_push}
+use Rattle.std.specs.Prelude.{Vec}
+use Rattle.std.specs.declared.alloc.Global.{Global}
 use Rattle.iscsi_rules.specs.declared.effect.Effect.{Effect}
 use Rattle.iscsi_rules.specs.declared.event.Event.{Event}
 use Rattle.iscsi_rules.specs.rules.Settings.{Setting}
@@ -46,8 +48,12 @@ invariant_of-self c = taken_sound c.self.invariant (rw (← c.self.view_is) at (
 pub apply-requires-clause-owed : goal.apply-requires-clause-owed
 apply-requires-clause-owed c = owed_few c.self.inside.sets.items c.self.inside.live.items c.self.invariant.commands.in_sets
 
+-- a vector stands for its effects
+abbrev keeps : Vec Effect Global → List ℕ → List Effect → Type 0
+keeps v text es = v.items ≡ es
+
 -- what the event that is taken does, where the session stood for those before
-applied : (c : After-apply) (o : Setting) (h : List Event) → StandsFor o c.args.self.now h → Handles o (trace_of o h) (items_of o (length h) (trace_of o h) c.args.event.now) HasOneMore c.apply.new.self c.reserve.new.self.items c.apply.new.out.items
+applied : (c : After-apply) (o : Setting) (h : List Event) → StandsFor o c.args.self.now h → Handles keeps o (trace_of o h) (items_of o (length h) (trace_of o h) c.args.event.now) HasOneMore c.apply.new.self c.reserve.new.self c.apply.new.out
 applied c o h stands =
     let here = rw (← c.self.view_is) at stands in
     let index : c.self.inside.taken + 1 ≡ length h + 1 = omega (arith, here.taken) in
@@ -72,7 +78,7 @@ flows c o h stands =
 bounded : (c : After-apply) (o : Setting) (h : List Event) → StandsFor o c.args.self.now h → length (next_entry o h c.args.event.now).effects ≤ effect_bound_of o (trace_of o h)
 bounded c o h stands =
     let es : List Effect = (next_entry o h c.args.event.now).effects in
-    let added = ap length (applied c o h stands).effects ∙ length-append c.reserve.new.self.items es in
+    let added = ap length ((applied c o h stands).effects [] c.reserve.new.self.items refl) ∙ length-append c.reserve.new.self.items es in
     let here = rw (← c.self.view_is) at stands in
     omega (arith, added, c.apply.new.out.ok.0, c.reserve.new.self.ok.0, c.apply.ensures.spent, bound_is o _ h here)
 
@@ -82,7 +88,7 @@ returns c =
     let e : Event = c.args.event.now in
     record {
       stands = stands_now a;
-      effects = λ o h stands. (applied a o h stands).effects ∙ ap (λ (es : List Effect). es ++ (next_entry o h e).effects) c.reserve.ensures.items;
+      effects = λ o h stands. (applied a o h stands).effects [] c.reserve.new.self.items refl ∙ ap (λ (es : List Effect). es ++ (next_entry o h e).effects) c.reserve.ensures.items;
       numbers = λ o h stands. c.numbers-numbers.ensures.value ∙ settled_numbers o c.apply.new.self _ (applied a o h stands).settled;
       refused = λ o h stands. rw (refusal o _ h _ _ _ stands c.refusal.ensures c.in_default.is) tt;
       err = tt;

@@ -1,32 +1,34 @@
-use Rattle.std.proofs.Common.{◌∙◌, ◌<◌, ◌≤◌, ◌==◌, ℕ, not, List, length, count_by, get_or, append_assoc, ap, sym, arith, rules}
+use Rattle.std.proofs.Common.{◌∙◌, ◌<◌, ◌≤◌, ◌==◌, ℕ, not, List, length, count_by, get_or, ap, sym, arith, rules, [], ◌∷◌, drop, ◌+◌}
 use Rattle.std.specs.Prelude.{IsSome}
-use Rattle.std.proofs.lemmas.List.{append-nil}
 use Rattle.iscsi_rules.proofs.general.ListLemmas.{fewer_counted}
 use Rattle.iscsi_commands.specs.declared.live.Live.{Live}
-use Rattle.iscsi_session.specs.private.Steps.{find_ticket, without_ticket, is_numbered}
+use Rattle.iscsi_rules.specs.declared.effect.Effect.TheVariants.{Leave}
+use Rattle.iscsi_session.proofs.SinkLemmas.{started, continued}
+use Rattle.iscsi_session.specs.private.Steps.{leave_each, find_ticket, without_ticket, is_numbered}
 use Rattle.iscsi_session.proofs.KeptLemmas.{ascending-kept}
 use Rattle.iscsi_session.proofs.ListLemmas.{are_known-left}
-use Rattle.iscsi_session.proofs.KeptLemmas.{without_none, without_more, leave_more, there_yet, finished_none, finished_on, without_shorter}
+use Rattle.iscsi_session.proofs.KeptLemmas.{without_none, without_more, leave_next, there_yet, finished_none, finished_on, without_shorter}
 use Rattle.iscsi_session.proofs.session.leaving.end_all.Goals.{In-loop-k}
+use Rattle.iscsi_session.proofs.session.leaving.end_all.Given.{Over}
 use Rattle.iscsi_session.proofs.session.leaving.end_all.Goals as goal
 use Rattle.std.proofs.lemmas.Bool.Decides.{nat_tests}
 
 pub loop-k-init : goal.loop-k-init
-loop-k-init c = search (rules, arith, sym (without_none c.args.live.now.items), sym (finished_none c.args.window.now c.args.live.now.items), sym (append-nil c.args.out.now.items))
+loop-k-init over c = search (rules, arith, sym (without_none c.args.live.now.items), sym (finished_none c.args.window.now c.args.live.now.items), started over.S.EffectSink.has (leave_each c.args.unit c.args.tickets.now) c.args.out.now)
 
 -- the command with the next ticket is still live
-still_live : (c : In-loop-k) → IsSome (find_ticket (get_or c.args.tickets.now c.loop-k.k 0) c.loop-k.live.items)
-still_live c = grind (arith, nat_tests, there_yet)
+still_live : (over : Over) (c : In-loop-k over) → IsSome (find_ticket (get_or c.args.tickets.now c.loop-k.k 0) c.loop-k.live.items)
+still_live over c = grind (arith, nat_tests, there_yet)
 
 pub end-requires-clause-there : goal.end-requires-clause-there
-end-requires-clause-there c = still_live (goal.at.end-requires-clause-there c).In-loop-k
+end-requires-clause-there over c = still_live over (goal.at.end-requires-clause-there over c).In-loop-k
 
-pub push_reserved-requires : goal.push_reserved-requires
-push_reserved-requires c =
-    omega (arith, without_shorter (get_or c.args.tickets.now c.loop-k.k 0) c.loop-k.live.items (still_live (goal.at.push_reserved-requires c).In-loop-k), c.loop-k.invariant.spent, c.loop-k.invariant.capacity, c.requires.room)
+pub put_leave-requires : goal.put_leave-requires
+put_leave-requires over c =
+    omega (arith, without_shorter (get_or c.args.tickets.now c.loop-k.k 0) c.loop-k.live.items (still_live over (goal.at.put_leave-requires over c).In-loop-k), c.loop-k.invariant.spent, c.loop-k.invariant.capacity, c.requires.room)
 
 pub loop-k-preserved : goal.loop-k-preserved
-loop-k-preserved c =
+loop-k-preserved over c =
     let inv = c.loop-k.invariant in
     let tickets : List ℕ = c.args.tickets.now in
     let k : ℕ = c.loop-k.k in
@@ -34,7 +36,7 @@ loop-k-preserved c =
     let lives : List Live = c.args.live.now.items in
     let before : List Live = c.loop-k.live.items in
     let inside : k < length tickets = c.loop-k-test.true in
-    let there = still_live (goal.at.loop-k-preserved c).In-loop-k in
+    let there = still_live over (goal.at.loop-k-preserved over c).In-loop-k in
     let less : count_by is_numbered (without_ticket ticket before) ≤ count_by is_numbered before = fewer_counted is_numbered (λ l. not (l.ticket == ticket)) before in
     record {
       live = rw (c.end.ensures.live, inv.live) (without_more tickets k 0 inside lives);
@@ -45,7 +47,7 @@ loop-k-preserved c =
       ascending = rw c.end.ensures.live (ascending-kept (λ l. not (l.ticket == ticket)) before inv.ascending);
       known = rw c.end.ensures.live (are_known-left ticket before c.args.connections.now.conns inv.known);
       live_capacity = c.end.ensures.capacity ∙ inv.live_capacity;
-      effects = rw (c.push_reserved.ensures.items, inv.effects, append_assoc, leave_more tickets k 0 inside c.args.unit);
-      spent = omega (arith, ap length c.end.ensures.live, without_shorter ticket before there, inv.spent, c.push_reserved.ensures.len);
-      capacity = c.push_reserved.ensures.capacity ∙ inv.capacity;
+      effects = continued over.S.EffectSink.has (leave_each c.args.unit tickets) (leave_each c.args.unit (drop k tickets)) (Leave ticket c.args.unit ∷ []) (leave_each c.args.unit (drop (k + 1) tickets)) c.args.out.now c.loop-k.out c.put_leave.new.self inv.effects (leave_next tickets k 0 inside c.args.unit) c.put_leave.ensures.has;
+      spent = omega (arith, ap length c.end.ensures.live, without_shorter ticket before there, inv.spent, c.put_leave.ensures.len);
+      capacity = c.put_leave.ensures.capacity ∙ inv.capacity;
     }

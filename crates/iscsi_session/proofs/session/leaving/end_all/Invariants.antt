@@ -1,11 +1,11 @@
-use Rattle.std.proofs.Common.{◌≡◌, ◌+◌, ◌≤◌, ◌++◌, true, length, count_by, take, vec_len, vec_capacity}
+use Rattle.std.proofs.Common.{◌≡◌, ◌+◌, ◌≤◌, true, length, count_by, take, drop}
 use Rattle.iscsi_session.specs.private.Standing.{are_ascending, are_known}
-use Rattle.iscsi_session.specs.private.Steps.{AreCounted, is_numbered, finished_by, leave_each, without_tickets}
+use Rattle.iscsi_session.specs.private.Steps.{Continues, AreCounted, is_numbered, finished_by, leave_each, without_tickets}
 use Rattle.iscsi_session.proofs.session.leaving.end_all.Given as goal
 
 -- those are over whose tickets came so far
 abbrev pub invariant-loop-k : goal.invariant-loop-k
-invariant-loop-k l = record {
+invariant-loop-k over l = record {
   live : l.live.items ≡ without_tickets (take l.k l.tickets) l.fn.live.items;
   window : l.window ≡ finished_by l.fn.window l.fn.live.items l.live.items;
   fewer : count_by is_numbered l.live.items ≤ count_by is_numbered l.fn.live.items;
@@ -14,7 +14,7 @@ invariant-loop-k l = record {
   ascending : are_ascending l.live.items ≡ true;
   known : are_known l.live.items l.fn.connections.conns ≡ true;
   live_capacity : l.live.room ≡ l.fn.live.room;
-  effects : l.out.items ≡ l.fn.out.items ++ leave_each l.unit (take l.k l.tickets);
-  spent : vec_len l.out + length l.live.items ≤ vec_len l.fn.out + length l.fn.live.items;
-  capacity : vec_capacity l.out ≡ vec_capacity l.fn.out;
+  effects : Continues over.S.EffectSink.has (leave_each l.unit l.tickets) (leave_each l.unit (drop l.k l.tickets)) l.fn.out l.out;
+  spent : over.S.EffectSink.len l.out + length l.live.items ≤ over.S.EffectSink.len l.fn.out + length l.fn.live.items;
+  capacity : over.S.EffectSink.capacity l.out ≡ over.S.EffectSink.capacity l.fn.out;
 }

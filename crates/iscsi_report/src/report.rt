@@ -1,0 +1,326 @@
+//! A report that is written as the effects of an event come.
+
+ghost use Rattle.std.specs.Prelude.{◌≡◌, ℕ, ◌+◌, ◌*◌, ◌^◌, ◌≤◌, [], ◌++◌, ◌∷◌, length, take, List, true, All, OnOk, OnErr, IfOk, IsOk};
+ghost use Rattle.std.specs.List.{flat_map};
+ghost use Rattle.iscsi_rules.specs.declared.effect.Effect.{Effect as SpecEffect};
+ghost use Rattle.iscsi_rules.specs.declared.effect.Numbers.{Numbers as SpecNumbers};
+ghost use Rattle.iscsi_report.specs.Lines.{event_line, effect_line, entry_lines};
+ghost use Rattle.iscsi_report.specs.Filled.{filled, HasLines, IsAtRest, at_rest, numbers_from_end};
+
+use crate::effect_line::{
+    write_closing, write_deliver, write_enable_near, write_enter, write_ignore, write_immediate,
+    write_leave_near, write_made_send, write_place, write_request,
+};
+use crate::event_line::write_event;
+use crate::line::put_text;
+use crate::lines::make_room;
+use crate::tens::Tens;
+use crate::vector::digits_of_four;
+use iscsi_rules::{Event, Numbers, Why};
+use iscsi_sinks::EffectSink;
+use iscsi_tasks::Attr;
+use iscsi_wire::{Reply, Request};
+use std::alloc::{AllocError, Global};
+use std::marker::Model;
+
+/// How many digits the numbers of a reply have.
+const NUMBERS: usize = 16;
+
+/// How far before the end of its line the numbers of a reply begin that is a header alone.
+const FROM_END: usize = 41;
+
+/// How many bytes the sense of a SCSI Response takes with its length.
+const SENSE: usize = 20;
+
+/// What stands for the numbers of an event before its end.
+const NOT_YET: Numbers = Numbers { exp: 0, max: 0 };
+
+/// The lines of events and of their effects, one after another, as they come. The numbers of an event's replies are
+/// filled in at its end.
+pub struct Report {
+    memory: Vec<u8>,
+    len: usize,
+    /// Where numbers are to be filled in.
+    places: Vec<usize>,
+    /// Memory has sufficed.
+    is_whole: bool,
+    /// The digits of the tickets that entered last, and of those that were completed last.
+    entered: Tens,
+    completed: Tens,
+}
+
+impl Drop for Report {
+    fn drop(self) {
+        let Report {
+            memory: _memory,
+            len: _len,
+            places: _places,
+            is_whole: _is_whole,
+            entered: _entered,
+            completed: _completed,
+        } = self;
+    }
+}
+
+impl Model for Report {
+    ghost use Rattle.std.specs.Prelude.{◌+◌, ◌≤◌, All, take, vec_len};
+    ghost use Rattle.iscsi_report.specs.Filled.{Written};
+
+    ghost Value = { Written };
+
+    ghost view = { λ r. record { bytes = take r.len r.memory.items; places = r.places.items; is_whole = r.is_whole } };
+
+    ghost invariant = { λ r. (r.len ≤ vec_len r.memory) × All (λ p. p + 16 ≤ r.len) r.places.items };
+}
+
+impl Report {
+    /// No line, without memory.
+    pub fn new(alloc: Global) -> Report
+        ensures { result ≡ at_rest [] }
+    {
+        Report {
+            memory: Vec::new(alloc),
+            len: 0,
+            places: Vec::new(alloc),
+            is_whole: true,
+            entered: Tens::new(),
+            completed: Tens::new(),
+        }
+    }
+
+    /// Puts the line of an event behind the others.
+    #[inline(always)]
+    pub fn begin(&mut self, event: &Event)
+        requires { IsAtRest self.old }
+        ensures { HasLines self.new (self.old.bytes ++ event_line event.now) [] }
+    {
+        if make_room(&mut self.memory, self.len).is_err() {
+            self.is_whole = false;
+            return;
+        }
+        // The digits of a ticket that is completed are kept wherever it is, since it leaves next.
+        self.completed.take_any();
+        self.len = write_event(event, &mut self.completed, &mut self.memory, self.len);
+    }
+
+    /// Fills in the numbers of the event. On `Err` memory was wanting, now or before.
+    pub fn end(&mut self, numbers: Numbers) -> Result<(), AllocError>
+        ensures text { (text : List ℕ) (es : List SpecEffect) → HasLines self.old text es →
+            OnOk result (self.new ≡ at_rest (text ++ flat_map (λ effect. effect_line effect numbers) es)) }
+        ensures ok { IsOk result → self.old.is_whole ≡ true }
+    {
+        if !self.is_whole {
+            return Err(AllocError);
+        }
+        fill(numbers, &self.places, &mut self.memory);
+        self.places.clear();
+        Ok(())
+    }
+
+    /// How many bytes there are.
+    pub fn len(&self) -> usize
+        ensures { result ≡ length self.now.bytes }
+    {
+        self.as_slice().len()
+    }
+
+    /// The bytes.
+    pub fn as_slice(&self) -> &[u8]
+        ensures { result.now ≡ self.now.bytes }
+    {
+        &self.memory[..self.len]
+    }
+
+    /// Drops all lines. The memory stays.
+    pub fn clear(&mut self)
+        ensures { self.new ≡ record { bytes = []; places = []; is_whole = self.old.is_whole } }
+    {
+        self.len = 0;
+        self.places.clear();
+    }
+}
+
+impl EffectSink for Report {
+    ghost has = { λ r text es. HasLines r text es };
+
+    ghost len = { λ r. 0 };
+
+    ghost capacity = { λ r. 2 ^ 63 };
+
+    #[inline(always)]
+    fn put_deliver(&mut self, request: &Request) {
+        if make_room(&mut self.memory, self.len).is_err() {
+            self.is_whole = false;
+            return;
+        }
+        self.len = write_deliver(request, &mut self.memory, self.len);
+    }
+
+    #[inline(always)]
+    fn put_immediate(&mut self, request: &Request) {
+        if make_room(&mut self.memory, self.len).is_err() {
+            self.is_whole = false;
+            return;
+        }
+        self.len = write_immediate(request, &mut self.memory, self.len);
+    }
+
+    fn put_wait(&mut self, request: &Request) {
+        if make_room(&mut self.memory, self.len).is_err() {
+            self.is_whole = false;
+            return;
+        }
+        self.len = write_request(b"  wait ", request, &mut self.memory, self.len);
+    }
+
+    fn put_void(&mut self, sn: u32) {
+        if make_room(&mut self.memory, self.len).is_err() {
+            self.is_whole = false;
+            return;
+        }
+        self.len = write_place(b"  void ", sn, &mut self.memory, self.len);
+    }
+
+    fn put_empty(&mut self, sn: u32) {
+        if make_room(&mut self.memory, self.len).is_err() {
+            self.is_whole = false;
+            return;
+        }
+        self.len = write_place(b"  empty ", sn, &mut self.memory, self.len);
+    }
+
+    #[inline(always)]
+    fn put_enter(&mut self, ticket: u64, unit: u16, attr: Attr) {
+        if make_room(&mut self.memory, self.len).is_err() {
+            self.is_whole = false;
+            return;
+        }
+        self.len = write_enter(
+            ticket,
+            unit,
+            attr,
+            &mut self.entered,
+            &mut self.memory,
+            self.len,
+        )
+        .1;
+    }
+
+    #[inline(always)]
+    fn put_enable(&mut self, ticket: u64, _unit: u16) {
+        if make_room(&mut self.memory, self.len).is_err() {
+            self.is_whole = false;
+            return;
+        }
+        self.len = write_enable_near(ticket, &mut self.entered, &mut self.memory, self.len);
+    }
+
+    #[inline(always)]
+    fn put_leave(&mut self, ticket: u64, _unit: u16) {
+        if make_room(&mut self.memory, self.len).is_err() {
+            self.is_whole = false;
+            return;
+        }
+        self.len = write_leave_near(ticket, &mut self.completed, &mut self.memory, self.len);
+    }
+
+    #[inline(always)]
+    fn put_send(&mut self, conn: u16, stat_sn: u32, reply: &Reply) {
+        if make_room(&mut self.memory, self.len).is_err() {
+            self.is_whole = false;
+            return;
+        }
+        let end = write_reply(
+            conn,
+            stat_sn,
+            reply,
+            &mut self.memory,
+            self.len,
+            &mut self.places,
+        );
+        match end {
+            Ok(end) => self.len = end,
+            Err(_) => self.is_whole = false,
+        }
+    }
+
+    fn put_close_conn(&mut self, conn: u16) {
+        if make_room(&mut self.memory, self.len).is_err() {
+            self.is_whole = false;
+            return;
+        }
+        self.len = write_closing(conn, &mut self.memory, self.len);
+    }
+
+    fn put_close_session(&mut self) {
+        if make_room(&mut self.memory, self.len).is_err() {
+            self.is_whole = false;
+            return;
+        }
+        self.len = put_text(b"  close-session\n", &mut self.memory, self.len);
+    }
+
+    #[inline(always)]
+    fn put_ignore(&mut self, why: Why) {
+        if make_room(&mut self.memory, self.len).is_err() {
+            self.is_whole = false;
+            return;
+        }
+        self.len = write_ignore(why, &mut self.memory, self.len);
+    }
+}
+
+/// Writes the line of a reply, and notes where its numbers are to be filled in. On `Err` memory was wanting for that.
+#[inline(always)]
+fn write_reply(
+    conn: u16,
+    stat_sn: u32,
+    reply: &Reply,
+    line: &mut [u8],
+    at: usize,
+    places: &mut Vec<usize>,
+) -> Result<usize, AllocError>
+    requires room { at + 256 ≤ length line.old }
+    requires places { All (λ p. p + 16 ≤ at) places.old.items }
+    ensures end { IfOk result (λ end. (at ≤ end) × (end ≤ at + 256)) }
+    ensures places { IfOk result (λ end. All (λ p. p + 16 ≤ end) places.new.items) }
+    ensures lines { IfOk result (λ end. (n : SpecNumbers) (text : List ℕ) (es : List SpecEffect) →
+        filled n places.old.items (take at line.old) ≡ text ++ flat_map (λ effect. effect_line effect n) es →
+        filled n places.new.items (take end line.new)
+        ≡ text ++ flat_map (λ effect. effect_line effect n) (es ++ SpecEffect.Send conn stat_sn reply.now ∷ [])) }
+    ensures err { OnErr result (places.new.items ≡ places.old.items) }
+{
+    let end = write_made_send(conn, stat_sn, reply, NOT_YET, line, at);
+    match places.push(end - from_end(reply)) {
+        Ok(()) => Ok(end),
+        Err(_) => Err(AllocError),
+    }
+}
+
+/// How far before the end of a reply's line its numbers begin.
+#[inline(always)]
+fn from_end(reply: &Reply) -> usize
+    ensures { result ≡ numbers_from_end reply.now }
+{
+    match reply {
+        Reply::Scsi { sense: Some(_), .. } => FROM_END + 2 * SENSE,
+        Reply::Reject { header, .. } => {
+            let tail: &[u8] = header;
+            FROM_END + 2 * tail.len()
+        }
+        _ => FROM_END,
+    }
+}
+
+/// Writes numbers over those that stand at these places.
+fn fill(numbers: Numbers, places: &[usize], bytes: &mut [u8])
+    requires { All (λ p. p + 16 ≤ length bytes.old) places.now }
+    ensures long { length bytes.new ≡ length bytes.old }
+    ensures filled { bytes.new ≡ filled numbers places.now bytes.old }
+{
+    for place in places {
+        // Their digits are made only where there is a place.
+        let (_, digits) = digits_of_four(0, 0, numbers.exp, numbers.max);
+        bytes[*place..*place + NUMBERS].copy_from_slice(&digits.to_array());
+    }
+}
