@@ -327,7 +327,7 @@ pub fn write_made_send(
     write_other_send(conn, stat_sn, reply, numbers, line, at)
 }
 
-#[inline(never)]
+#[inline(always)]
 fn write_other_send(
     conn: u16,
     stat_sn: u32,

@@ -32,6 +32,9 @@ const FROM_END: usize = 41;
 /// How many bytes the sense of a SCSI Response takes with its length.
 const SENSE: usize = 20;
 
+/// An event mostly has fewer replies.
+const MOST_REPLIES: usize = 512;
+
 /// What stands for the numbers of an event before its end.
 const NOT_YET: Numbers = Numbers { exp: 0, max: 0 };
 
@@ -94,7 +97,9 @@ impl Report {
         requires { IsAtRest self.old }
         ensures { HasLines self.new (self.old.bytes ++ event_line event.now) [] }
     {
-        if make_room(&mut self.memory, self.len).is_err() {
+        // There is room for the places before there is memory for lines, so that this can grow where it lies.
+        let is_wanting = self.places.reserve(MOST_REPLIES).is_err();
+        if is_wanting || make_room(&mut self.memory, self.len).is_err() {
             self.is_whole = false;
             return;
         }
