@@ -113,6 +113,7 @@ impl Report {
         ensures text { (text : List ℕ) (es : List SpecEffect) → HasLines self.old text es →
             OnOk result (self.new ≡ at_rest (text ++ flat_map (λ effect. effect_line effect numbers) es)) }
         ensures ok { IsOk result → self.old.is_whole ≡ true }
+        ensures whole { self.old.is_whole ≡ true → IsOk result }
     {
         if !self.is_whole {
             return Err(AllocError);
