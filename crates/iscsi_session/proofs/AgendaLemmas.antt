@@ -213,6 +213,10 @@ belongs-comes_on o e = grind (arith, nat_tests)
 pub refusal_is : (o : Setting) (s : Core) (h : List Event) (e : Event) → StandsFor o s h → refusal_by s e ≡ refusal_of o h e
 refusal_is o s h e stands = cc (comes_on-same o s (trace_of o h) e stands.settled.agrees, belongs-comes_on o e)
 
+-- what the session found is what the definitions say
+pub refusal_as : (o : Setting) (s : Core) (h : List Event) (e : Event) (x : Option SessionFault) → StandsFor o s h → refusal_by s e ≡ x → refusal_of o h e ≡ x
+refusal_as o s h e x stands is = sym (refusal_is o s h e stands) ∙ is
+
 -- an event that isn't refused
 pub taken_by : (s : Core) (e : Event) → refusal_by s e ≡ None → (comes_on s.conns e ≡ true) × (s.taken < s.events)
 taken_by s e h = grind (arith, nat_tests)

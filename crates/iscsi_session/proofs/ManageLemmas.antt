@@ -1,11 +1,11 @@
 -- The functions that wait, and how many effects are to come.
-use Rattle.std.proofs.Common.{◌≡◌, ℕ, ◌+◌, ◌*◌, ◌<◌, ◌≤◌, ◌==◌, not, cond, Bool, true, false, List, [], ◌∷◌, ◌++◌, length, filter, set, refl, ap, arith}
+use Rattle.std.proofs.Common.{◌≡◌, ℕ, ◌+◌, ◌*◌, ◌<◌, ◌≤◌, ◌==◌, not, cond, Bool, true, false, List, [], ◌∷◌, ◌++◌, length, filter, set, refl, ap, arith, count_by}
 use Rattle.std.specs.List.{list_all}
 use Rattle.std.proofs.lemmas.Bool.{false≢true, eqb-true}
 use Rattle.std.proofs.lemmas.Bool.Decides.{nat_tests}
 use Rattle.std.proofs.lemmas.List.{length_push}
 use Rattle.std.proofs.lemmas.List.Folds.{list_all-append}
-use Rattle.std.proofs.lemmas.List.Sums.{length-filter}
+use Rattle.std.proofs.lemmas.List.Sums.{length-filter, count_by-le-length}
 use Rattle.std.proofs.lemmas.List.Filters.{length-filter_both}
 use Rattle.iscsi_wire.specs.declared.request.Request.{Request}
 use Rattle.iscsi_wire.specs.Fields.{connection_of}
@@ -13,11 +13,13 @@ use Rattle.iscsi_tasks.specs.declared.task.Task.{Task}
 use Rattle.iscsi_tasks.specs.Sets.{Members, entered_to, given_by}
 use Rattle.iscsi_session.specs.declared.session.waiting.Waiting.{Waiting}
 use Rattle.iscsi_rules.specs.rules.Settings.{is_known}
-use Rattle.iscsi_session.specs.private.Standing.{Core}
+use Rattle.iscsi_session.specs.private.Standing.{Core, is_held}
+use Rattle.iscsi_session.specs.private.Invariant.{Inner, IsSessionSound}
 use Rattle.iscsi_session.specs.private.Steps.{waiting_in, command_entered, ungiven, owed}
 use Rattle.iscsi_rules.proofs.general.BoolLemmas.{and_parts}
 use Rattle.iscsi_rules.proofs.general.ListLemmas.{count_by-map, count_by-push, fewer_counted}
 use Rattle.iscsi_rules.proofs.traces.SetLemmas.{ungiven_given}
+use Rattle.iscsi_session.proofs.CountLemmas.{few_live}
 use Rattle.iscsi_session.proofs.KeptLemmas.{ungiven_in-set}
 
 -- ---- how many functions wait
@@ -66,3 +68,12 @@ ungiven_entered set task = grind (arith, nat_tests, count_by-map, count_by-push,
 -- a command that enters may leave, and be enabled before
 pub owed_entered : (s : Core) (r : Request) (unit : ℕ) → unit < length s.sets → owed (command_entered s r unit).core.live (command_entered s r unit).core.sets ≤ owed s.live s.sets + 2
 owed_entered s r unit inside = grind (arith, nat_tests, ungiven_in-set, ungiven_entered, length_push)
+
+-- few requests are held, few functions wait, and few commands are live
+pub record Few (s : Inner) : Type 0 where
+  pub held : count_by is_held s.window.places ≤ length s.window.places
+  pub waiting : length s.waiting ≤ 4 * length s.conns
+  pub live : length s.live ≤ s.window.unfinished + 8 * length s.conns
+
+pub few : {s : Inner} → IsSessionSound s → Few s
+few {s} inv = grind (arith, nat_tests, count_by-le-length, few_waiting, few_live)

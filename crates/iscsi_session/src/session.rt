@@ -1,6 +1,6 @@
 //! The session, and its step.
 
-ghost use Rattle.std.specs.Prelude.{IfSome, Err, ◌*◌, ◌≡◌, ◌≢◌, ℕ, ◌+◌, ◌≤◌, ◌<◌, true, List, [], ◌∷◌, ◌++◌, OnOk, OnErr, IfOk, length, nat_lt, count_by, is_some, vec_len, vec_capacity};
+ghost use Rattle.std.specs.Prelude.{IfSome, Err, ◌⊎◌, ◌*◌, ◌≡◌, ◌≢◌, ℕ, ◌+◌, ◌≤◌, ◌<◌, true, List, [], ◌∷◌, ◌++◌, None, OnOk, OnErr, IfOk, length, nat_lt, count_by, is_some, vec_len, vec_capacity};
 ghost use Rattle.std.specs.List.{list_all};
 ghost use Rattle.iscsi_rules.specs.declared.effect.Effect.{Effect as SpecEffect};
 ghost use Rattle.iscsi_rules.specs.rules.Settings.{Setting, is_valid};
@@ -243,13 +243,36 @@ impl Session {
         if out.reserve(self.effect_bound()).is_err() {
             return Err(SessionFault::NoMemory);
         }
-        self.taken += 1;
-        self.apply(event, out);
-        let numbers = self.numbers();
-        Ok(numbers)
+        Ok(self.take(event, out))
     }
 
-    /// Takes an event that is counted. It is apart from `step`, so that this one is short where it is inlined.
+    /// Takes an event that isn't refused, and hands its effects to `out`, which has room for as many as any event gives
+    /// or for `effect_bound()` more.
+    #[inline(always)]
+    fn take<S: EffectSink>(&mut self, event: &Event, out: &mut S) -> Numbers
+        requires taken { refusal_by self.old event.now ≡ None }
+        requires room { (S.len out.old + 18444 ≤ S.capacity out.old) ⊎ (S.len out.old
+            + 12 * (count_by is_held self.old.window.places + length self.old.waiting + 1) + 2 * length self.old.live
+            ≤ S.capacity out.old) }
+        ensures stands { (o : Setting) (h : List Event) → StandsFor o self.old h →
+            StandsFor o self.new (h ++ event.now ∷ []) }
+        ensures effects { (o : Setting) (h : List Event) → StandsFor o self.old h →
+            (text : List ℕ) (es : List SpecEffect) → S.has out.old text es →
+            S.has out.new text (es ++ (next_entry o h event.now).effects) }
+        ensures numbers { (o : Setting) (h : List Event) → StandsFor o self.old h →
+            result ≡ (next_entry o h event.now).numbers }
+        ensures flow { (o : Setting) (h : List Event) → StandsFor o self.old h →
+            Flows o (trace_of o h) (trace_of o (h ++ event.now ∷ [])) }
+        ensures spent { S.len out.new ≤ S.len out.old
+            + 12 * (count_by is_held self.old.window.places + length self.old.waiting + 1) + 2 * length self.old.live }
+        ensures capacity { S.capacity out.new ≡ S.capacity out.old }
+    {
+        self.taken += 1;
+        self.apply(event, out);
+        self.numbers()
+    }
+
+    /// Takes an event that is counted. It is apart from `take`, so that this one is short where it is inlined.
     #[inline(never)]
     fn apply<S: EffectSink>(&mut self, event: &Event, out: &mut S)
         requires known { comes_on self.old.conns event.now ≡ true }
@@ -303,10 +326,7 @@ impl Session {
         if let Some(fault) = self.refusal(event) {
             return Err(fault);
         }
-        self.taken += 1;
-        self.apply(event, sink);
-        let at_end = self.numbers();
-        Ok(at_end)
+        Ok(self.take(event, sink))
     }
 
     /// Why `step` would refuse this event, memory aside.

@@ -1,22 +1,10 @@
 use Rattle.std.proofs.lemmas.List.{length-map}
-use Rattle.std.proofs.Common.{◌≡◌, ℕ, sym, ◌≤◌, ◌+◌, ◌*◌, ◌∙◌, ap, arith, length, count_by}
-use Rattle.std.proofs.lemmas.List.Sums.{count_by-le-length}
-use Rattle.iscsi_session.specs.private.Standing.{Core, is_held}
-use Rattle.iscsi_session.specs.private.Invariant.{Inner, IsSessionSound}
+use Rattle.std.proofs.Common.{◌≡◌, ℕ, sym, ◌∙◌, ap, arith, length}
+use Rattle.iscsi_session.specs.private.Standing.{Core}
 use Rattle.iscsi_session.proofs.OpenLemmas.{bound_is}
-use Rattle.iscsi_session.proofs.CountLemmas.{few_live}
-use Rattle.iscsi_session.proofs.ManageLemmas.{few_waiting}
+use Rattle.iscsi_session.proofs.ManageLemmas.{few}
 use Rattle.iscsi_session.proofs.session.Session.effect_bound.Goals as goal
 use Rattle.std.proofs.lemmas.Bool.Decides.{nat_tests}
-
--- few requests are held, few functions wait, and few commands are live
-record Few (s : Inner) : Type 0 where
-  held : count_by is_held s.window.places ≤ length s.window.places
-  waiting : length s.waiting ≤ 4 * length s.conns
-  live : length s.live ≤ s.window.unfinished + 8 * length s.conns
-
-few : {s : Inner} → IsSessionSound s → Few s
-few {s} inv = grind (arith, nat_tests, count_by-le-length, few_waiting, few_live)
 
 pub overflow_add-result : goal.overflow_add-result
 overflow_add-result c = omega (arith, few c.self.invariant, c.len.ensures)
