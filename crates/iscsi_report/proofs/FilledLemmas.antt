@@ -1,8 +1,11 @@
 -- Numbers that are filled in behind lines, or in the last one.
 use Rattle.std.proofs.Common.{◌≡◌, ℕ, ◌+◌, ◌*◌, ◌≤◌, List, [], ◌∷◌, ◌++◌, length, take, drop, All, codes, decimal, replicate, refl, sym, ap, ap₂, ◌∙◌, arith, append_assoc, subst}
+use Rattle.std.specs.Prelude.{Vec}
+use Rattle.std.specs.declared.alloc.Global.{Global}
+use Rattle.std.specs.Vec.{with_items}
 use Rattle.std.specs.List.{flat_map}
 use Rattle.std.proofs.Math.Seq.{drop-append_seam, drop-append-add}
-use Rattle.std.proofs.lemmas.List.{length-append, length-take, length-drop, take-append-le, drop-append-le, take_at, take-append-drop, append-nil}
+use Rattle.std.proofs.lemmas.List.{length-append, length-take, length-drop, take-append-le, drop-append-le, take_at, take-append-drop, append-nil, with_items_is}
 use Rattle.std.proofs.lemmas.List.Elements.{All-head, All-tail}
 use Rattle.std.proofs.lemmas.Grind.{flat_map-append}
 use Rattle.hex.specs.Hex.{encode_with, encode_lower}
@@ -117,6 +120,13 @@ pub plain_more : (n : Numbers) (ps memory new : List ℕ) (len : ℕ) (text : Li
 plain_more n ps memory new len text es e within fits lines put same =
     let front : length (take len memory) ≡ len = omega (arith, length-take len memory, fits) in
     effect_more n no_numbers ps (take len memory) new text es e (subst (λ m. All (λ p. p + 16 ≤ m) ps) (sym front) within) lines put same
+
+-- the same, once the line stands in the memory
+pub line_put : (n : Numbers) (ps : List ℕ) (memory : Vec ℕ Global) (old new : List ℕ) (len end : ℕ) (text : List ℕ) (es : List Effect) (e : Effect) → All (λ p. p + 16 ≤ len) ps → len ≤ length old → old ≡ memory.items → length new ≡ memory.len
+    → filled n ps (take len memory.items) ≡ text ++ flat_map (λ effect. effect_line effect n) es → take end new ≡ take len old ++ effect_line e no_numbers → effect_line e no_numbers ≡ effect_line e n
+    → filled n ps (take end (with_items memory new).items) ≡ text ++ flat_map (λ effect. effect_line effect n) (es ++ e ∷ [])
+line_put n ps memory old new len end text es e within fits is long lines put same =
+    plain_more n ps old (take end (with_items memory new).items) len text es e within fits (rw is lines) (ap (take end) (with_items_is memory new long) ∙ put) same
 
 -- how far a line reaches that was written
 pub written_to : (new old line : List ℕ) (at end : ℕ) → take end new ≡ take at old ++ line → end ≤ length new → at ≤ length old → end ≡ at + length line

@@ -5,10 +5,11 @@ ghost use Rattle.std.specs.List.{flat_map};
 ghost use Rattle.iscsi_report.specs.Lines.{event_line, effect_line, entry_lines};
 
 use crate::effect_line::{
-    write_deliver, write_effect, write_enable, write_enter, write_ignore, write_leave, write_send,
+    write_deliver, write_effect, write_enable, write_enter, write_ignore, write_leave,
     write_ticket_again,
 };
 use crate::event_line::{write_arrival, write_completion};
+use crate::send_line::write_send;
 use crate::tens::Tens;
 use iscsi_rules::{Effect, Event, Numbers};
 

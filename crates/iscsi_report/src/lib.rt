@@ -9,6 +9,7 @@ mod event_line;
 mod line;
 mod lines;
 mod report;
+mod send_line;
 mod tens;
 mod vector;
 

@@ -1,6 +1,6 @@
 //! A report that is written as the effects of an event come.
 
-ghost use Rattle.std.specs.Prelude.{◌≡◌, ℕ, ◌+◌, ◌*◌, ◌^◌, ◌≤◌, [], ◌++◌, ◌∷◌, length, take, List, true, All, OnOk, OnErr, IfOk, IsOk};
+ghost use Rattle.std.specs.Prelude.{◌≡◌, ℕ, ◌+◌, ◌*◌, ◌^◌, ◌≤◌, [], ◌++◌, ◌∷◌, length, take, List, true, false, All, OnOk, OnErr, IfOk, IsOk, vec_len};
 ghost use Rattle.std.specs.List.{flat_map};
 ghost use Rattle.iscsi_rules.specs.declared.effect.Effect.{Effect as SpecEffect};
 ghost use Rattle.iscsi_rules.specs.declared.effect.Numbers.{Numbers as SpecNumbers};
@@ -9,11 +9,12 @@ ghost use Rattle.iscsi_report.specs.Filled.{filled, HasLines, IsAtRest, at_rest,
 
 use crate::effect_line::{
     write_closing, write_deliver, write_enable_near, write_enter, write_ignore, write_immediate,
-    write_leave_near, write_made_send, write_place, write_request,
+    write_leave_near, write_place, write_request,
 };
 use crate::event_line::write_event;
 use crate::line::put_text;
 use crate::lines::make_room;
+use crate::send_line::write_made_send;
 use crate::tens::Tens;
 use crate::vector::digits_of_four;
 use iscsi_rules::{Event, Numbers, Why};
@@ -155,125 +156,119 @@ impl EffectSink for Report {
 
     #[inline(always)]
     fn put_deliver(&mut self, request: &Request) {
-        if make_room(&mut self.memory, self.len).is_err() {
-            self.is_whole = false;
-            return;
+        if has_room(&mut self.memory, self.len, &mut self.is_whole) {
+            self.len = write_deliver(request, &mut self.memory, self.len);
         }
-        self.len = write_deliver(request, &mut self.memory, self.len);
     }
 
     #[inline(always)]
     fn put_immediate(&mut self, request: &Request) {
-        if make_room(&mut self.memory, self.len).is_err() {
-            self.is_whole = false;
-            return;
+        if has_room(&mut self.memory, self.len, &mut self.is_whole) {
+            self.len = write_immediate(request, &mut self.memory, self.len);
         }
-        self.len = write_immediate(request, &mut self.memory, self.len);
     }
 
     fn put_wait(&mut self, request: &Request) {
-        if make_room(&mut self.memory, self.len).is_err() {
-            self.is_whole = false;
-            return;
+        if has_room(&mut self.memory, self.len, &mut self.is_whole) {
+            self.len = write_request(b"  wait ", request, &mut self.memory, self.len);
         }
-        self.len = write_request(b"  wait ", request, &mut self.memory, self.len);
     }
 
     fn put_void(&mut self, sn: u32) {
-        if make_room(&mut self.memory, self.len).is_err() {
-            self.is_whole = false;
-            return;
+        if has_room(&mut self.memory, self.len, &mut self.is_whole) {
+            self.len = write_place(b"  void ", sn, &mut self.memory, self.len);
         }
-        self.len = write_place(b"  void ", sn, &mut self.memory, self.len);
     }
 
     fn put_empty(&mut self, sn: u32) {
-        if make_room(&mut self.memory, self.len).is_err() {
-            self.is_whole = false;
-            return;
+        if has_room(&mut self.memory, self.len, &mut self.is_whole) {
+            self.len = write_place(b"  empty ", sn, &mut self.memory, self.len);
         }
-        self.len = write_place(b"  empty ", sn, &mut self.memory, self.len);
     }
 
     #[inline(always)]
     fn put_enter(&mut self, ticket: u64, unit: u16, attr: Attr) {
-        if make_room(&mut self.memory, self.len).is_err() {
-            self.is_whole = false;
-            return;
+        if has_room(&mut self.memory, self.len, &mut self.is_whole) {
+            self.len = write_enter(
+                ticket,
+                unit,
+                attr,
+                &mut self.entered,
+                &mut self.memory,
+                self.len,
+            )
+            .1;
         }
-        self.len = write_enter(
-            ticket,
-            unit,
-            attr,
-            &mut self.entered,
-            &mut self.memory,
-            self.len,
-        )
-        .1;
     }
 
     #[inline(always)]
     fn put_enable(&mut self, ticket: u64, _unit: u16) {
-        if make_room(&mut self.memory, self.len).is_err() {
-            self.is_whole = false;
-            return;
+        if has_room(&mut self.memory, self.len, &mut self.is_whole) {
+            self.len = write_enable_near(ticket, &mut self.entered, &mut self.memory, self.len);
         }
-        self.len = write_enable_near(ticket, &mut self.entered, &mut self.memory, self.len);
     }
 
     #[inline(always)]
     fn put_leave(&mut self, ticket: u64, _unit: u16) {
-        if make_room(&mut self.memory, self.len).is_err() {
-            self.is_whole = false;
-            return;
+        if has_room(&mut self.memory, self.len, &mut self.is_whole) {
+            self.len = write_leave_near(ticket, &mut self.completed, &mut self.memory, self.len);
         }
-        self.len = write_leave_near(ticket, &mut self.completed, &mut self.memory, self.len);
     }
 
     #[inline(always)]
     fn put_send(&mut self, conn: u16, stat_sn: u32, reply: &Reply) {
-        if make_room(&mut self.memory, self.len).is_err() {
-            self.is_whole = false;
-            return;
-        }
-        let end = write_reply(
-            conn,
-            stat_sn,
-            reply,
-            &mut self.memory,
-            self.len,
-            &mut self.places,
-        );
-        match end {
-            Ok(end) => self.len = end,
-            Err(_) => self.is_whole = false,
+        if has_room(&mut self.memory, self.len, &mut self.is_whole) {
+            let end = write_reply(
+                conn,
+                stat_sn,
+                reply,
+                &mut self.memory,
+                self.len,
+                &mut self.places,
+            );
+            match end {
+                Ok(end) => self.len = end,
+                Err(_) => self.is_whole = false,
+            }
         }
     }
 
     fn put_close_conn(&mut self, conn: u16) {
-        if make_room(&mut self.memory, self.len).is_err() {
-            self.is_whole = false;
-            return;
+        if has_room(&mut self.memory, self.len, &mut self.is_whole) {
+            self.len = write_closing(conn, &mut self.memory, self.len);
         }
-        self.len = write_closing(conn, &mut self.memory, self.len);
     }
 
     fn put_close_session(&mut self) {
-        if make_room(&mut self.memory, self.len).is_err() {
-            self.is_whole = false;
-            return;
+        if has_room(&mut self.memory, self.len, &mut self.is_whole) {
+            self.len = put_text(b"  close-session\n", &mut self.memory, self.len);
         }
-        self.len = put_text(b"  close-session\n", &mut self.memory, self.len);
     }
 
     #[inline(always)]
     fn put_ignore(&mut self, why: Why) {
-        if make_room(&mut self.memory, self.len).is_err() {
-            self.is_whole = false;
-            return;
+        if has_room(&mut self.memory, self.len, &mut self.is_whole) {
+            self.len = write_ignore(why, &mut self.memory, self.len);
         }
-        self.len = write_ignore(why, &mut self.memory, self.len);
     }
+}
+
+/// Whether there is room for a line more. Where memory is refused there isn't, and that is noted.
+#[inline(always)]
+fn has_room(memory: &mut Vec<u8>, len: usize, is_whole: &mut bool) -> bool
+    requires { len ≤ vec_len memory.old }
+    ensures kept { take len memory.new.items ≡ take len memory.old.items }
+    ensures longer { len ≤ vec_len memory.new }
+    ensures room { result ≡ true → len + 256 ≤ vec_len memory.new }
+    ensures same { result ≡ true → is_whole.new ≡ is_whole.old }
+    ensures wanting { result ≡ false → is_whole.new ≡ false }
+    ensures whole { is_whole.new ≡ true → is_whole.old ≡ true }
+{
+    let is_there = make_room(memory, len).is_ok();
+    if !is_there {
+        *is_whole = false;
+    }
+    is_there
 }
 
 /// Writes the line of a reply, and notes where its numbers are to be filled in. On `Err` memory was wanting for that.

@@ -4,7 +4,7 @@ use Rattle.iscsi_wire.specs.Pdus.{pdu_header, pdu_tail}
 use Rattle.iscsi_wire.specs.Replies.{header_of, tail_of}
 use Rattle.hex.specs.Hex.{encode_lower}
 use Rattle.iscsi_report.proofs.LineLemmas.{encode_lower_append}
-use Rattle.iscsi_report.proofs.effect_line.write_any_send.Goals as goal
+use Rattle.iscsi_report.proofs.send_line.write_any_send.Goals as goal
 
 both : (header h tail t : List ℕ) → header ≡ h → tail ≡ t → encode_lower header ++ (encode_lower tail ++ codes "\n") ≡ encode_lower (h ++ t) ++ codes "\n"
 both header h tail t e f =

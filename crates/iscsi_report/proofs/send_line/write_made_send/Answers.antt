@@ -1,6 +1,6 @@
 use Rattle.std.proofs.Common.{rules, List, ℕ, ◌++◌, ◌≡◌, None, take, ap, ◌∙◌}
 use Rattle.iscsi_report.proofs.AnswerDigits.{response_line}
-use Rattle.iscsi_report.proofs.effect_line.write_made_send.Goals as goal
+use Rattle.iscsi_report.proofs.send_line.write_made_send.Goals as goal
 
 pub returns-in-Scsi-default-default-None-clause-written :
     goal.returns-in-Scsi-default-default-None-clause-written

@@ -1,6 +1,6 @@
 use Rattle.std.proofs.Common.{List, ℕ, ◌++◌, take, ap, ◌∙◌}
 use Rattle.iscsi_report.proofs.AnswerDigits.{task_line}
-use Rattle.iscsi_report.proofs.effect_line.write_other_send.Goals as goal
+use Rattle.iscsi_report.proofs.send_line.write_other_send.Goals as goal
 
 pub returns-in-Task-clause-written : goal.returns-in-Task-clause-written
 returns-in-Task-clause-written c =

@@ -4,7 +4,7 @@ use Rattle.std.proofs.lemmas.List.{take_at}
 use Rattle.hex.specs.Hex.{encode_lower}
 use Rattle.iscsi_report.specs.Lines.{eight_digits}
 use Rattle.iscsi_report.proofs.AnswerDigits.{answer_text, zeros, length-eight}
-use Rattle.iscsi_report.proofs.effect_line.write_answer.Goals as goal
+use Rattle.iscsi_report.proofs.send_line.write_answer.Goals as goal
 
 pub returns-clause-written : goal.returns-clause-written
 returns-clause-written c =
