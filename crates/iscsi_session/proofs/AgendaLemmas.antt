@@ -20,6 +20,7 @@ use Rattle.iscsi_rules.specs.rules.Execution.{exp_of, max_of, unfinished, ignore
 use Rattle.iscsi_rules.specs.rules.Agenda.{with_turns, numbered, arrival_of, command_of, items_of, belongs, kind_of, arrival_as, arrival_open, arrival}
 use Rattle.iscsi_rules.specs.rules.Items.{agenda, item_of, function_item, functions_at, turn_at, immediate_item}
 use Rattle.iscsi_rules.specs.rules.Run.{newly_enabled, effects_of, trace_of, effects_of_item, stat_sn_of}
+use Rattle.iscsi_session.specs.declared.fault.SessionFault.{SessionFault}
 use Rattle.iscsi_session.specs.promises.Refusals.{refusal_of}
 use Rattle.iscsi_session.specs.private.Standing.{Core, place_of, kept, is_regular, member_of, Agrees, Settled, StandsFor, arrival_waiting}
 use Rattle.iscsi_session.specs.private.Steps.{find_ticket, comes_on, refusal_by, set_at, with_offered, enabled_of, enabled_in, covers_ticket, left_answered, completed, Step, Runs, Handles, HasNoMore, count_reply, is_among_open, Takes, replied, request_answered}
@@ -360,7 +361,7 @@ turned-number has capacity o t₀ out₀ whole s s' out out' None d place takes 
     let past : e < f = subst (λ m. e < m) (same_exp o t t₀ d.same) (expected_past o.first e t (λ k l u. a.window.below k l u) p.received_is) in
     let turn_is : turn_at o e t ≡ [] = ap (λ y. elim y [ Some b ↦ item_of o t b ∷ [] | None ↦ [] ]) p.held_is in
     let next : number_expected s'.window ≡ e + 1 = ap (λ (v : Core). number_expected v.window) takes.core ∙ (let z : number_expected (turned_core s).window ≡ e + 1 = omega arith in z) in
-    let now : Agrees o s' t = subst (λ v. Agrees o v t) (sym takes.core) (record { events = a.events; window = WindowAgrees-passed o s.window t a.window place; replies = a.replies; commands = a.commands; sets = a.sets; unfinished = a.unfinished; enabled = a.enabled; level = a.level; waiting = record { list = a.waiting.list; may = a.waiting.may; known = a.waiting.known }; open_conns = a.open_conns }) in
+    let now : Agrees o s' t = subst (λ v. Agrees o v t) (sym takes.core) (record { events = a.events; window = WindowAgrees-passed o s.window t a.window place; replies = a.replies; commands = a.commands; sets = a.sets; depth = a.depth; unfinished = a.unfinished; enabled = a.enabled; level = a.level; waiting = record { list = a.waiting.list; may = a.waiting.may; known = a.waiting.known }; open_conns = a.open_conns }) in
     Leads-on has o t₀ out₀ whole s s' out out' (left_after o t₀ s) (left_before o t₀ s') d [] now refl
     (turns-more o e f t past ∙ ap (λ now. now ++ agenda o (e + 1) (f - (e + 1)) (after_items now t)) turn_is ∙ ap (λ k. agenda o k (f - k) t) (sym next)) takes.effects
 

@@ -206,14 +206,13 @@ find_kept ticket (c ∷ cs) = grind (arith, find_kept ticket cs)
 pub SetsAgree-untouched : (o : Setting) (sets : List Members) (t : Trace) (item : List Mark) → Untouched item → SetsAgree o sets t → SetsAgree o sets (item ∷ t)
 SetsAgree-untouched o sets t item u a = record {
   units = a.units;
-  depths = a.depths;
   lists = λ unit lt. a.lists unit lt ∙ sym (set_of-same o item t unit (live_in-untouched item t u unit));
 }
 
 -- one set is another now, and the other units are as they were
-pub set-changed : (o : Setting) (sets : List Members) (t : Trace) (item : List Mark) (unit : ℕ) (new : Members) → SetsAgree o sets t → unit < o.units → new.depth ≡ o.depth → new.list ≡ set_of o (item ∷ t) unit
+pub set-changed : (o : Setting) (sets : List Members) (t : Trace) (item : List Mark) (unit : ℕ) (new : Members) → SetsAgree o sets t → unit < o.units → new.list ≡ set_of o (item ∷ t) unit
     → ((other : ℕ) → (other == unit) ≡ false → live_in other (item ∷ t) ≡ live_in other t) → SetsAgree o (set sets unit new) (item ∷ t)
-set-changed o sets t item unit new a inside depth list same = grind (arith, nat_tests, get_or-set_same, get_or-set_other, length-set, set_of-same, ne_eqb)
+set-changed o sets t item unit new a inside list same = grind (arith, nat_tests, get_or-set_same, get_or-set_other, length-set, set_of-same, ne_eqb)
 
 -- ---- a command enters
 
@@ -232,7 +231,7 @@ SetsAgree-entered o lives n sets t item c task commands a e inside is =
     let list_is : old.list ++ newcomer task ∷ [] ≡ set_of o t c.unit ++ newcomer (task_of o c) ∷ [] = cc (a.lists c.unit inside) in
     let elsewhere = live_in-elsewhere o lives n item t c commands e in
     record {
-      agrees = set-changed o sets t item c.unit (given_by (entered_to old task)) a inside (a.depths c.unit inside) (cc (list_is, entry.given)) elsewhere;
+      agrees = set-changed o sets t item c.unit (given_by (entered_to old task)) a inside (cc (list_is, entry.given)) elsewhere;
       effects = cc (list_is, entry.effects, newly-one o item t c.unit inside elsewhere);
     }
 
@@ -351,13 +350,14 @@ pub record Lasting (o : Setting) (s : Core) (t : Trace) : Type 0 where
   pub events : s.events ≡ o.events
   pub commands : CommandsAgree o s.live s.entered t
   pub sets : SetsAgree o s.sets t
+  pub depth : s.depth ≡ o.depth
   pub unfinished_is : s.window.unfinished ≡ unfinished t
   pub enabled : EnabledSoFar o t
   pub level : s.level ≡ o.level
   pub open_is : s.open_conns ≡ open_of o t
 
 pub lasting : (o : Setting) (s : Core) (t : Trace) → Agrees o s t → Lasting o s t
-lasting o s t a = record { events = a.events; commands = a.commands; sets = a.sets; unfinished_is = a.unfinished; enabled = a.enabled; level = a.level; open_is = a.open_conns }
+lasting o s t a = record { events = a.events; commands = a.commands; sets = a.sets; depth = a.depth; unfinished_is = a.unfinished; enabled = a.enabled; level = a.level; open_is = a.open_conns }
 
 pub Agrees-untouched : (o : Setting) (s : Core) (t : Trace) (item : List Mark) (w : Arrived) (conns : List (ℕ × ℕ)) (waits : List Waiting) → Untouched item → ClosesNone item → Lasting o s t → w.unfinished ≡ s.window.unfinished
     → WindowAgrees o w (item ∷ t) → RepliesAgree o conns (item ∷ t) → WaitingAgrees o waits (item ∷ t) → Agrees o (record s { window = w; conns = conns; waiting = waits }) (item ∷ t)
@@ -367,6 +367,7 @@ Agrees-untouched o s t item w conns waits u closes a same window replies waiting
   replies = replies;
   commands = CommandsAgree-untouched o s.live s.entered t item u a.commands;
   sets = SetsAgree-untouched o s.sets t item u a.sets;
+  depth = a.depth;
   unfinished = same ∙ a.unfinished_is ∙ sym (unfinished-untouched item t u);
   enabled = EnabledSoFar-untouched o item t u a.enabled;
   level = a.level;

@@ -38,8 +38,8 @@ use Rattle.iscsi_rules.proofs.items.EnabledItems.{EnabledSoFar-left, newly-one}
 use Rattle.std.proofs.lemmas.Bool.Decides.{nat_tests}
 
 -- what the session says is what the definitions say
-pub full_is : (o : Setting) (s : Core) (t : Trace) (u : ℕ) → SetsAgree o s.sets t → u < o.units → is_set_full (get_or s.sets u (opened 0)) ≡ is_full o t u
-full_is o s t u a inside = cc (a.depths u inside, a.lists u inside, length-map (live_in u t) (member_of o t))
+pub full_is : (o : Setting) (s : Core) (t : Trace) (u : ℕ) → SetsAgree o s.sets t → s.depth ≡ o.depth → u < o.units → is_set_full s.depth (get_or s.sets u (opened 0)) ≡ is_full o t u
+full_is o s t u a depth inside = cc (depth, a.lists u inside, length-map (live_in u t) (member_of o t))
 
 pub crowded_is : (s : Core) (t : Trace) (r : Request) → s.live ≡ map kept (live t) → is_crowded_by s r ≡ is_crowded t r
 crowded_is s t r lives = cc (count_by-map (is_immediate_on (connection_of r)) kept (live t))
@@ -119,6 +119,7 @@ module _ (o : Setting) (s : Core) (t : Trace) (m : Mark) (e : Effect) (a : Arriv
           replies = RepliesAgree-quiet o s.conns t item (cc b.sends_no) b.replies;
           commands = rw live_is (CommandsAgree-entered o s.live s.entered t item c b.lasts.commands en regular);
           sets = entry.agrees;
+          depth = b.lasts.depth;
           unfinished = unfinished-started s.window a.request ∙ ap (λ n. n + cond (not (is_immediate a.request)) 1 0) b.lasts.unfinished_is ∙ sym lives;
           enabled = EnabledSoFar-entered o s.live s.entered item t c b.lasts.commands en inside (never_free c t (b.lasts.commands.fresh c.ticket (omega (arith, en.ticket)))) b.lasts.enabled;
           level = b.lasts.level;
@@ -153,7 +154,7 @@ turn-begun o s t r h place x =
     let regular = and_parts _ _ (h.window.requests e a (admitted_of_held t e a x.held_is)) in
     let number : a.number ≡ e = held-number t e a x.held_is in
     record {
-      lasts = record { events = h.events; commands = h.commands; sets = h.sets; unfinished_is = h.unfinished; enabled = h.enabled; level = h.level; open_is = h.open_conns };
+      lasts = record { events = h.events; commands = h.commands; sets = h.sets; depth = h.depth; unfinished_is = h.unfinished; enabled = h.enabled; level = h.level; open_is = h.open_conns };
       window = λ ms q. (WindowAgrees-turned o s.window t r ms h.window place x q).agrees;
       room = λ is ms q. WindowAgrees-turned o s.window t r ms h.window place x q;
       replies = h.replies;
@@ -201,7 +202,6 @@ none_given o t unit (c ∷ cs) = grind (arith, none_given o t unit cs)
 
 -- what it is then, and what its unit is told
 pub record SetLeft (o : Setting) (t : Trace) (item : List Mark) (unit : ℕ) (old set : Members) : Type 0 where
-  pub depth : set.depth ≡ old.depth
   pub given : map as_given set.list ≡ set_of o (item ∷ t) unit
   pub effects : enable_effects unit set.list ≡ enables (new_in t item unit)
 
@@ -213,11 +213,10 @@ set_left o t item unit old covers list_is stay = by_test (has_covered covers old
     stays = rw (list_is, filter-map, stay)
 
     by_test : (b : Bool) → has_covered covers old ≡ b → SetLeft o t item unit old (set_staying covers old)
-    by_test true some = rw some (record { depth = refl; given = rw stays (noted_given o t item unit); effects = rw stays (noted_effects o t item unit) })
+    by_test true some = rw some (record { given = rw stays (noted_given o t item unit); effects = rw stays (noted_effects o t item unit) })
     by_test false none =
         let same : live_in unit (item ∷ t) ≡ live_in unit t = rw stay (none_out _ (live_in unit t) (rw (list_is, list_any-map) at none)) in
         rw none (record {
-          depth = refl;
           given = rw (list_is, set_of-same o item t unit same) (given_already o t (live_in unit t));
           effects = rw (list_is, new_in-none item t unit same) (none_given o t unit (live_in unit t));
         })
@@ -312,7 +311,8 @@ module _ (o : Setting) (s : Core) (t : Trace) (item : List Mark) (unit : ℕ) (c
         window = WindowAgrees-fewer o s.window (item ∷ t) (s.window.unfinished + count_by is_numbered rest - count_by is_numbered s.live) (omega (arith, fewer)) b.window;
         replies = RepliesAgree-sent o s.conns t item conn b.sends b.known b.replies;
         commands = commands;
-        sets = rw (left_is, set-set) (set-changed o s.sets t item unit (all_given (set_staying covers old)) b.lasts.sets b.inside (left.depth ∙ b.lasts.sets.depths unit b.inside) left.given elsewhere);
+        sets = rw (left_is, set-set) (set-changed o s.sets t item unit (all_given (set_staying covers old)) b.lasts.sets b.inside left.given elsewhere);
+        depth = b.lasts.depth;
         unfinished = omega (arith, numbered_live o s.live s.entered t b.lasts.commands, numbered_live o rest s.entered (item ∷ t) commands, b.lasts.unfinished_is);
         enabled = EnabledSoFar-left o item t out b.leaves (units_live o rest s.entered (item ∷ t) commands) b.lasts.enabled;
         level = b.lasts.level;

@@ -123,7 +123,7 @@ module _ (o : Setting) (s : Core) (t : Trace) (m : Mark) (e : Effect) (a : Arriv
     unit = rw b.lasts.sets.units;
     is_used = sym (asked (λ c. itt c.arrival.request == itt a.request) (λ l. l.itt == itt a.request) (λ c. refl));
     is_crowded = sym (crowded_is s t₁ a.request commands.commands);
-    is_full = rw b.lasts.sets.units (of_unit-same (unit_named o.units a.request) false _ _ (λ unit is. sym (full_is o s t₁ unit sets (named_below o.units a.request unit is))));
+    is_full = rw b.lasts.sets.units (of_unit-same (unit_named o.units a.request) false _ _ (λ unit is. sym (full_is o s t₁ unit sets b.lasts.depth (named_below o.units a.request unit is))));
     has_commands = rw b.lasts.sets.units (of_unit-same (unit_named o.units a.request) false _ _ (λ unit is. has unit));
     live = rw b.lasts.sets.units (of_unit-same (unit_named o.units a.request) None _ _ (λ unit is. ticket_kept (live_with_tag t₁ (rtt a.request) unit) ∙ ap (option_map (λ (l : Live). l.ticket)) (sym (tagged_in-is s t₁ (rtt a.request) unit commands.commands))));
     is_open = sym (open_same o s t m e a b (cid a.request));
@@ -318,7 +318,7 @@ turned-item o s t r h place x =
 immediate_begun : (o : Setting) (s : Core) (t : Trace) (a : Arrival) (waits : List Waiting) → Agrees o s t → is_immediate a.request ≡ true → is_known (connection_of a.request) o.conns ≡ true → WaitingAgrees o waits ((Executes a ∷ []) ∷ t)
     → Begun o (record s { waiting = waits }) t (Executes a) (Immediate a.request) a
 immediate_begun o s t a waits h immediate known w = record {
-  lasts = record { events = h.events; commands = h.commands; sets = h.sets; unfinished_is = h.unfinished; enabled = h.enabled; level = h.level; open_is = h.open_conns };
+  lasts = record { events = h.events; commands = h.commands; sets = h.sets; depth = h.depth; unfinished_is = h.unfinished; enabled = h.enabled; level = h.level; open_is = h.open_conns };
   window = λ ms q. WindowAgrees-quiet o s.window t (Executes a ∷ ms) (quiet_executes a ms q) h.window;
   room = λ no ms q. absurd (false≢true (sym no ∙ immediate));
   replies = h.replies;

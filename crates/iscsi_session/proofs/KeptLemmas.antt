@@ -1,7 +1,7 @@
 -- The live commands that a session keeps, beside its task sets.
 use Rattle.std.proofs.Common.{◌≡◌, ℕ, ◌+◌, ◌<◌, ◌==◌, ◌&&◌, cond, Bool, true, false, nat_lt, nat_le, List, [], ◌∷◌, ◌++◌, length, map, filter, get_or, set, Option, Some, None, refl, arith, length-set, eq-eqb, zero, suc, ◌≤◌, ◌||◌, not, ⊎_elim, count_by, All, take, is_some, ap, sym, ◌∙◌, drop}
 use Rattle.std.specs.List.{list_all, list_any, AllPairs}
-use Rattle.std.proofs.lemmas.Bool.{cond_both, leb-true, cases_Bool, eqb-true, false≢true, ltb-true, ne_eqb}
+use Rattle.std.proofs.lemmas.Bool.{cond_both, leb-true, cases_Bool, cases_eq, eqb-true, false≢true, ltb-true, ne_eqb}
 use Rattle.std.proofs.lemmas.Bool.Decides.{nat_tests}
 use Rattle.std.proofs.lemmas.List.{append-nil, map-append, get_or-set_same, get_or-set_other, length-map, get_or_default, get_or-take, length-take-le, at_drop_more}
 use Rattle.std.proofs.lemmas.List.Elements.{filter-append}
@@ -12,7 +12,7 @@ use Rattle.iscsi_tasks.specs.declared.member.Member.{Member}
 use Rattle.iscsi_rules.proofs.traces.ApartLemmas.{eq_sym}
 use Rattle.iscsi_tasks.specs.Sets.{is_enabled_in, Members, opened, entered_to, given_by, tasks_in, left_by, with_ticket, uncovered, is_new}
 use Rattle.iscsi_commands.specs.declared.live.Live.{Live}
-use Rattle.iscsi_session.specs.private.Standing.{Match, are_ascending, are_within, tickets_of, tickets_in}
+use Rattle.iscsi_session.specs.private.Standing.{Match, AreRoomy, are_ascending, are_within, tickets_of, tickets_in}
 use Rattle.iscsi_session.specs.private.Steps.{enabled_of, covers_ticket, has_covered, set_staying, covered_tickets, find_ticket, without_ticket, as_given, all_given, is_numbered, is_gone, staying, finished_by, leave_each, without_tickets, ungiven, ungiven_in}
 use Rattle.iscsi_rules.proofs.general.BoolLemmas.{and_parts, and_both, and_comm, and_true, and_false, or_first, or_second}
 use Rattle.iscsi_rules.proofs.general.ListLemmas.{list_all-filter, any_filter, any_same, list_any-map, count_by-map, filter-swap, filter-map, map-map, find-found, filter-shorter, filter_every, filter_here, fewer_counted, none_out}
@@ -35,6 +35,12 @@ tickets-entered s task = grind (arith, nat_tests, tickets-given_in, tickets-mome
 pub match_set : (sets : List Members) (lives left : List Live) (unit : ℕ) (new : Members) → unit < length sets → Match sets lives → tickets_of new ≡ tickets_in unit left
     → ((u : ℕ) → (u == unit) ≡ false → tickets_in u left ≡ tickets_in u lives) → Match (set sets unit new) left
 match_set sets lives left unit new inside m here elsewhere = grind (arith, nat_tests, get_or-set_same, get_or-set_other, length-set)
+
+-- as roomy as it was
+pub roomy_set : (depth most : ℕ) (sets : List Members) (unit : ℕ) (new : Members) → unit < length sets → AreRoomy depth most sets → new.depth ≡ (get_or sets unit (opened 0)).depth → AreRoomy depth most (set sets unit new)
+roomy_set depth most sets unit new inside roomy same = λ u n lt few fits.
+    let old : n < (get_or sets u (opened 0)).depth = roomy u n (omega (arith, lt, length-set sets unit new)) few fits in
+    grind (arith, get_or-set_same, get_or-set_other, cases_eq u unit, old)
 
 -- ---- a command enters
 

@@ -254,12 +254,11 @@ module _ (o : Setting) (s : Core) (t : Trace) (m : Mark) (e : Effect) (a : Arriv
   sets : SetsAgree o (map all_given left.sets) (item ∷ t)
   sets = record {
     units = length-map left.sets all_given ∙ units_same;
-    depths = λ unit inside. rw (get_or-map all_given left.sets unit (opened 0), set_is unit inside) ((set_after unit inside).depth ∙ b.lasts.sets.depths unit inside);
     lists = λ unit inside. rw (get_or-map all_given left.sets unit (opened 0), set_is unit inside) (set_after unit inside).given;
   }
 
   enabling : flat_map (λ unit. enable_effects unit (set_at left unit).list) (units_of left) ≡ enables (newly_enabled o t item)
-  enabling = grind (arith, nat_tests, units_same, map-flat_map, flat_map_in_range, set_is, set_after)
+  enabling = rw (units_same, map-flat_map) (flat_map_in_range _ _ 0 o.units (λ unit low high. rw (set_is unit (omega arith)) (set_after unit (omega arith)).effects))
 
   -- ---- the window
 
@@ -334,6 +333,7 @@ module _ (o : Setting) (s : Core) (t : Trace) (m : Mark) (e : Effect) (a : Arriv
     replies = rw k.same (RepliesAgree-sent o s.conns t item conn sends b.known b.replies);
     commands = rw k.same commands;
     sets = sets;
+    depth = rw k.same b.lasts.depth;
     unfinished = numbered;
     enabled = EnabledSoFar-left o item t out leaves (units_live o left.live s.entered (item ∷ t) commands) b.lasts.enabled;
     level = rw k.same b.lasts.level;

@@ -23,25 +23,27 @@ first_number : (cid : ℕ) (cs : List (ℕ × ℕ)) → stat_sn_on cid cs ≡ wi
 first_number cid [] = refl
 first_number cid (c ∷ cs) = grind (arith, first_number cid cs)
 
-pub Settled-opened : (o : Setting) (taken : ℕ) → Settled o (record {
+pub Settled-opened : (o : Setting) (room taken : ℕ) → Settled o (record {
   window = opened o.first o.window;
   events = o.events;
   conns = o.conns;
   entered = 0;
   taken = taken;
   live = [];
-  sets = replicate o.units (opened_set o.depth);
+  sets = replicate o.units (opened_set room);
+  depth = o.depth;
   level = o.level;
   waiting = [];
   open_conns = map (λ (c : ℕ × ℕ). c.0) o.conns;
 }) []
-Settled-opened o taken = record {
+Settled-opened o room taken = record {
   agrees = record {
     events = refl;
     window = grind (arith, nat_tests, length-replicate, nothing_at);
     replies = record { cids = refl; stat_sns = λ cid known. first_number cid o.conns };
     commands = record { commands = refl; regular = refl; apart = refl; count_is = refl; fresh = λ k h. refl; unleft = λ k h. refl };
     sets = grind (arith, nat_tests, length-replicate, set_opened);
+    depth = refl;
     unfinished = refl;
     enabled = EnabledSoFar-none o;
     level = refl;

@@ -9,7 +9,7 @@ use Rattle.iscsi_commands.specs.declared.live.Live.{Live}
 use Rattle.iscsi_session.specs.declared.session.waiting.Waiting.{Waiting}
 use Rattle.iscsi_rules.specs.rules.Settings.{is_known}
 use Rattle.iscsi_rules.specs.rules.Management.{may_wait}
-use Rattle.iscsi_session.specs.private.Standing.{is_place_known, Match}
+use Rattle.iscsi_session.specs.private.Standing.{is_place_known, Match, AreRoomy}
 use Rattle.iscsi_session.specs.private.Steps.{count_reply, AreCounted, is_numbered, set_staying, is_gone, staying, finished_by}
 use Rattle.iscsi_session.specs.private.Invariant.{Inner, IsWindowSound, AreCommandsSound, AreFunctionsSound, IsSessionSound}
 use Rattle.iscsi_rules.proofs.general.ListLemmas.{count_by-push, list_all-filter, fewer_counted}
@@ -22,7 +22,7 @@ use Rattle.iscsi_session.proofs.KeptLemmas.{ascending-push, within-push, ascendi
 use Rattle.std.proofs.lemmas.Bool.Decides.{nat_tests}
 use Rattle.iscsi_tasks.specs.declared.task.Task.{Task}
 use Rattle.iscsi_rules.proofs.general.PlaceLemmas.{written}
-use Rattle.iscsi_session.proofs.KeptLemmas.{Match-staying}
+use Rattle.iscsi_session.proofs.KeptLemmas.{Match-staying, roomy_set}
 
 -- ---- the window
 
@@ -53,19 +53,21 @@ advanced_sound {conns = conns} sound a is = rw is (search (arith, a.known conns 
 
 -- a command has entered or left: the window counts it, and the room is no less
 pub commands_sound : {s : Inner} → IsSessionSound s → {w : Arrived} {count : ℕ} {live : List Live} {immediate : List ℕ} {sets : List Members} {live_room : ℕ} → IsWindowSound w count s.taken s.conns
-    → AreCommandsSound w.unfinished count s.conns immediate sets live → w.places ≡ s.window.places → length sets ≡ length s.sets → s.live_room ≤ live_room
+    → AreCommandsSound w.unfinished count s.conns immediate sets live → w.places ≡ s.window.places → length sets ≡ length s.sets → AreRoomy s.depth live_room sets → s.live_room ≤ live_room
     → IsSessionSound (record s { window = w; entered = count; live = live; immediate = immediate; sets = sets; live_room = live_room })
-commands_sound inv window commands places units more_live = search (arith, ap length places)
+commands_sound inv window commands places units roomy more_live = search (arith, ap length places)
 
 -- the same, where the connections are written as others that are the same
 pub commands_sound_on : {s : Inner} → IsSessionSound s → {w : Arrived} {count : ℕ} {live : List Live} {immediate : List ℕ} {sets : List Members} {live_room : ℕ} {conns : List (ℕ × ℕ)} → conns ≡ s.conns
-    → IsWindowSound w count s.taken s.conns → AreCommandsSound w.unfinished count s.conns immediate sets live → w.places ≡ s.window.places → length sets ≡ length s.sets → s.live_room ≤ live_room
+    → IsWindowSound w count s.taken s.conns → AreCommandsSound w.unfinished count s.conns immediate sets live → w.places ≡ s.window.places → length sets ≡ length s.sets → AreRoomy s.depth live_room sets → s.live_room ≤ live_room
     → IsSessionSound (record s { window = w; conns = conns; entered = count; live = live; immediate = immediate; sets = sets; live_room = live_room })
-commands_sound_on inv same window commands places units more_live = rw same (commands_sound inv window commands places units more_live)
+commands_sound_on inv same window commands places units roomy more_live = rw same (commands_sound inv window commands places units roomy more_live)
 
 -- the sets have become others, of the same commands
-pub sets_sound : {s : Inner} → IsSessionSound s → {sets new : List Members} → sets ≡ new → length new ≡ length s.sets → Match new s.live → IsSessionSound (record s { sets = sets })
-sets_sound {s} inv {new = new} is long match = grind (arith, nat_tests)
+pub sets_sound : {s : Inner} → IsSessionSound s → {sets new : List Members} → sets ≡ new → length new ≡ length s.sets → Match new s.live → AreRoomy s.depth s.live_room new → IsSessionSound (record s { sets = sets })
+sets_sound {s} inv is long match roomy =
+    let c = inv.commands in
+    rw is (commands_sound inv inv.window (record { numbered = c.numbered; known = c.known; in_sets = match; ascending = c.ascending; within = rw long c.within; counted = c.counted }) refl long roomy (omega arith))
 
 -- one more, of the next ticket, has entered
 pub entered_sound : {unfinished now count : ℕ} {conns : List (ℕ × ℕ)} {immediate counts : List ℕ} {sets new : List Members} {live entered : List Live} → AreCommandsSound unfinished count conns immediate sets live
@@ -123,6 +125,9 @@ pub sets_written : (unit n : ℕ) (covers : Task → Bool) (old sets : List Memb
     → take n (sets ++ drop (length sets) old) ≡ set old unit (set_staying covers (get_or old unit (opened 0)))
 sets_written unit n covers old sets long is = written n sets old (rw is (length-set old unit (set_staying covers (get_or old unit (opened 0))))) long ∙ is
 
+staying_depth : (covers : Task → Bool) (set : Members) → (set_staying covers set).depth ≡ set.depth
+staying_depth covers set = grind (arith, nat_tests)
+
 pub left_sound : {s : Inner} → IsSessionSound s → (unit : ℕ) (covers : Task → Bool) → unit < length s.sets → {immediate : List ℕ} → AreCounted immediate s.conns (staying covers (get_or s.sets unit (opened 0)) s.live)
     → IsSessionSound (record s { window = finished_by s.window s.live (staying covers (get_or s.sets unit (opened 0)) s.live); live = staying covers (get_or s.sets unit (opened 0)) s.live; immediate = immediate; sets = set s.sets unit (set_staying covers (get_or s.sets unit (opened 0))) })
 left_sound {s} inv unit covers inside counted =
@@ -131,4 +136,4 @@ left_sound {s} inv unit covers inside counted =
     let fewer = fewer_counted is_numbered stays s.live in
     commands_sound inv (places_sound inv.window refl refl (omega (arith, inv.window.fits, fewer)) inv.window.entered)
     (kept_sound inv.commands stays refl (omega (arith, fewer, inv.commands.numbered)) long (Match-staying s.sets s.live unit covers inside inv.commands.in_sets inv.commands.ascending) counted)
-    refl long (omega arith)
+    refl long (roomy_set s.depth s.live_room s.sets unit (set_staying covers (get_or s.sets unit (opened 0))) inside inv.sets (staying_depth covers (get_or s.sets unit (opened 0)))) (omega arith)

@@ -65,8 +65,10 @@ pub struct Session {
     taken: u64,
     /// The live commands, found by ticket and by Initiator Task Tag.
     live: LiveCommands,
-    /// The task set of each unit, at the unit's number.
+    /// The task set of each unit, at the unit's number. None has memory for more commands than may be live.
     sets: Vec<LinkedTaskSet>,
+    /// As many commands as this make a task set full.
+    depth: u32,
     /// The protocol level, by which task management knows the queries (RFC 7144).
     level: u32,
     /// The functions that wait for lower numbers, in the order of their arrival.
@@ -86,6 +88,7 @@ impl Drop for Session {
             taken: _taken,
             live: _live,
             sets: _sets,
+            depth: _depth,
             level: _level,
             waiting: _waiting,
             left: _left,
@@ -108,6 +111,7 @@ impl Model for Session {
       taken = s.taken;
       live = s.live.items;
       sets = s.sets.items;
+      depth = s.depth;
       level = s.level;
       waiting = s.waiting.items;
       open_conns = s.connections.open_conns;
@@ -122,6 +126,7 @@ impl Model for Session {
       live = s.live.items;
       immediate = s.connections.immediate;
       sets = s.sets.items;
+      depth = s.depth;
       waiting = s.waiting.items;
       live_room = s.live.room;
       waiting_room = s.waiting.room;
@@ -378,7 +383,8 @@ fn make_on(alloc: Global, options: Options, connections: Connections) -> Option<
         entered: 0,
         taken: 0,
         live: LiveCommands::with_room(alloc, most_live).ok()?,
-        sets: sets::open(alloc, units, depth)?,
+        sets: sets::open(alloc, units, depth.min(most_live as u32))?,
+        depth,
         level,
         waiting: Waitlist::with_room(alloc, waiting::MOST * conns.len())?,
         left: Vec::with_capacity(alloc, most_live).ok()?,

@@ -50,7 +50,7 @@ facts_by s r = record {
   unit = unit_named (length s.sets) r;
   is_used = is_tag_kept s (itt r);
   is_crowded = is_crowded_by s r;
-  is_full = of_unit (unit_named (length s.sets) r) false (λ unit. is_set_full (set_at s unit));
+  is_full = of_unit (unit_named (length s.sets) r) false (λ unit. is_set_full s.depth (set_at s unit));
   has_commands = of_unit (unit_named (length s.sets) r) false (λ unit. list_any (λ l. l.unit == unit) s.live);
   live = of_unit (unit_named (length s.sets) r) None (live_by s r);
   held = of_unit (unit_named (length s.sets) r) None (held_by s r);
@@ -86,7 +86,7 @@ arrival_by s r =
 -- a command enters
 pub record FitsEnter (s : Core) (r : Request) (unit : ℕ) : Type 0 where
   pub inside : unit < length s.sets
-  pub not_full : is_set_full (set_at s unit) ≡ false
+  pub not_full : is_set_full s.depth (set_at s unit) ≡ false
   pub unused : is_tag_kept s (itt r) ≡ false
   pub uncrowded : is_crowded_by s r ≡ false
 

@@ -8,7 +8,7 @@ use Rattle.iscsi_commands.specs.declared.live.Live.{Live}
 use Rattle.iscsi_session.specs.declared.session.waiting.Waiting.{Waiting}
 use Rattle.iscsi_rules.specs.rules.Settings.{is_known}
 use Rattle.iscsi_rules.specs.rules.Management.{may_wait}
-use Rattle.iscsi_session.specs.private.Standing.{are_known, is_place_known, Match, are_ascending, are_within}
+use Rattle.iscsi_session.specs.private.Standing.{are_known, is_place_known, Match, AreRoomy, are_ascending, are_within}
 use Rattle.iscsi_session.specs.private.Steps.{is_numbered, AreCounted, waiting_in}
 
 -- what the invariant speaks of: the fields that callers see as `Core`, those behind them, and the containers' rooms
@@ -21,6 +21,7 @@ pub record Inner : Type 0 where
   pub live : List Live
   pub immediate : List ℕ  -- the count of immediate commands, for each connection
   pub sets : List Members
+  pub depth : ℕ
   pub waiting : List Waiting
   pub live_room : ℕ  -- how many elements each of these has memory for
   pub waiting_room : ℕ
@@ -73,5 +74,6 @@ pub record IsSessionSound (s : Inner) : Type 0 where
   pub window : IsWindowSound s.window s.entered s.taken s.conns
   pub commands : AreCommandsSound s.window.unfinished s.entered s.conns s.immediate s.sets s.live
   pub functions : AreFunctionsSound s.taken s.conns s.waiting
+  pub sets : AreRoomy s.depth s.live_room s.sets
   pub rooms : HasRooms (length s.window.places) (length s.conns) s.live_room s.waiting_room s.left_room
   pub limits : IsWithinLimits s.taken s.events (length s.conns) (length s.sets)

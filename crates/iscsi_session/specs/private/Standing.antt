@@ -33,6 +33,7 @@ pub record Core : Type 0 where
   pub taken : ℕ  -- the events
   pub live : List Live
   pub sets : List Members  -- the task set of each unit
+  pub depth : ℕ  -- as many commands make one full
   pub level : ℕ
   pub waiting : List Waiting  -- the functions that wait, in order of arrival
   pub open_conns : List ℕ  -- the connections that aren't closed
@@ -97,6 +98,10 @@ tickets_in unit live = map (λ l. l.ticket) (filter (λ l. l.unit == unit) live)
 abbrev pub Match : List Members → List Live → Type 0
 Match sets live = (unit : ℕ) → unit < length sets → tickets_of (slice_index_or sets unit (opened 0)) ≡ tickets_in unit live
 
+-- each set has room for as many as make it full, or for as many as may be live
+abbrev pub AreRoomy : ℕ → ℕ → List Members → Type 0
+AreRoomy depth most sets = (unit n : ℕ) → unit < length sets → n < depth → n < most → n < (slice_index_or sets unit (opened 0)).depth
+
 -- tickets go up
 abbrev pub are_ascending : List Live → Bool
 are_ascending [] = true
@@ -160,7 +165,6 @@ pub record CommandsAgree (o : Setting) (lives : List Live) (count : ℕ) (t : Tr
 -- its task sets
 pub record SetsAgree (o : Setting) (sets : List Members) (t : Trace) : Type 0 where
   pub units : length sets ≡ o.units
-  pub depths : (unit : ℕ) → unit < o.units → (slice_index_or sets unit (opened 0)).depth ≡ o.depth
   pub lists : (unit : ℕ) → unit < o.units → (slice_index_or sets unit (opened 0)).list ≡ set_of o t unit
 
 pub record Agrees (o : Setting) (s : Core) (t : Trace) : Type 0 where
@@ -169,6 +173,7 @@ pub record Agrees (o : Setting) (s : Core) (t : Trace) : Type 0 where
   pub replies : RepliesAgree o s.conns t
   pub commands : CommandsAgree o s.live s.entered t
   pub sets : SetsAgree o s.sets t
+  pub depth : s.depth ≡ o.depth
   pub unfinished : s.window.unfinished ≡ unfinished t
   pub enabled : EnabledSoFar o t  -- what was given is what the rule enables
   pub level : s.level ≡ o.level

@@ -131,8 +131,8 @@ all_told s = record { core = record s { sets = map all_given s.sets }; effects =
 abbrev pub is_tag_kept : Core → ℕ → Bool
 is_tag_kept s tag = list_any (λ l. l.itt == tag) s.live
 
-abbrev pub is_set_full : Members → Bool
-is_set_full set = nat_le set.depth (length set.list)
+abbrev pub is_set_full : ℕ → Members → Bool
+is_set_full depth set = nat_le depth (length set.list)
 
 -- an immediate command of the connection
 abbrev pub is_immediate_on : ℕ → Live → Bool

@@ -73,7 +73,7 @@ impl Session {
         };
         if self.is_crowded(request) {
             rejected(Reason::TooManyImmediate)
-        } else if is_full(&self.sets[usize::from(unit)]) {
+        } else if is_full(&self.sets[usize::from(unit)], self.depth) {
             Deed::Reply(Answer::Full)
         } else {
             Deed::Enter(unit)

@@ -229,7 +229,7 @@ impl Session {
         requires counted { self.old.entered + count_by is_some self.old.window.places < self.old.taken }
         requires known { known_in (connection_of request.now) self.old.conns ≡ true }
         requires unit { unit < length self.old.sets }
-        requires not_full { is_set_full (set_at self.old unit) ≡ false }
+        requires not_full { is_set_full self.old.depth (set_at self.old unit) ≡ false }
         requires unused { is_tag_kept self.old (tag_of request.now) ≡ false }
         requires number { pos ≡ position_by self.old request.now }
         requires room { S.len out.old + 2 ≤ S.capacity out.old }

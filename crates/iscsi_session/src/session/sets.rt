@@ -1,6 +1,6 @@
 //! The task sets of a session's units.
 
-ghost use Rattle.std.specs.Prelude.{false, ◌≡◌, ◌+◌, ◌<◌, ◌≤◌, length, count_by, replicate, slice_index_or, slice_set, Some, IfSome, vec_len, vec_capacity};
+ghost use Rattle.std.specs.Prelude.{◌≡◌, ◌+◌, ◌<◌, ◌≤◌, length, count_by, replicate, slice_index_or, slice_set, Some, IfSome, vec_len, vec_capacity};
 ghost use Rattle.iscsi_tasks.specs.Sets.{opened, IsNewest, entered_to, is_new, next_in, given_by};
 ghost use Rattle.iscsi_rules.specs.rules.Execution.{unit_named};
 ghost use Rattle.iscsi_session.specs.private.Steps.{Appends, all_given, enable_effects, enable_effect, is_set_full};
@@ -37,12 +37,12 @@ pub(crate) fn unit_named(request: &Request, units: usize) -> Option<u16>
     }
 }
 
-/// Whether a task set has as many commands as it may.
+/// Whether a task set has as many commands as make it full.
 #[inline(always)]
-pub(crate) fn is_full(set: &LinkedTaskSet) -> bool
-    ensures { result ≡ is_set_full set.now }
+pub(crate) fn is_full(set: &LinkedTaskSet, depth: u32) -> bool
+    ensures { result ≡ is_set_full depth set.now }
 {
-    set.depth() <= set.len()
+    depth <= set.len()
 }
 
 /// A command enters the set of a unit. None but itself can become enabled by that. The slot that it has there.
@@ -53,7 +53,8 @@ pub(crate) fn enter<S: EffectSink>(
     out: &mut S,
 ) -> u16
     requires unit { unit < length sets.old }
-    requires not_full { is_set_full (slice_index_or sets.old unit (opened 0)) ≡ false }
+    requires not_full { length (slice_index_or sets.old unit (opened 0)).list
+        < (slice_index_or sets.old unit (opened 0)).depth }
     requires newest { IsNewest task.ticket (slice_index_or sets.old unit (opened 0)) }
     requires room { S.len out.old + 1 ≤ S.capacity out.old }
     ensures sets { sets.new ≡ slice_set sets.old unit

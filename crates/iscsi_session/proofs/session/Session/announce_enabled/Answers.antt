@@ -1,8 +1,8 @@
-use Rattle.std.proofs.Common.{◌≡◌, ◌∙◌, ◌<◌, ◌++◌, length, take, drop, get_or, set, length-set, ap, arith}
+use Rattle.std.proofs.Common.{◌≡◌, ◌∙◌, ◌<◌, ◌++◌, length, take, drop, get_or, set, length-set, ap, arith, refl}
 use Rattle.iscsi_tasks.specs.Sets.{opened}
 use Rattle.iscsi_session.specs.private.Steps.{all_given}
 use Rattle.iscsi_rules.proofs.general.PlaceLemmas.{written}
-use Rattle.iscsi_session.proofs.KeptLemmas.{owed-given, Match-given}
+use Rattle.iscsi_session.proofs.KeptLemmas.{owed-given, Match-given, roomy_set}
 use Rattle.iscsi_session.proofs.SoundLemmas.{sets_sound}
 use Rattle.iscsi_session.proofs.session.Session.announce_enabled.Given.{Over}
 use Rattle.iscsi_session.proofs.session.Session.announce_enabled.Goals as goal
@@ -32,4 +32,4 @@ returns-clause-spent over c =
 pub invariant_of-self : goal.invariant_of-self
 invariant_of-self over c =
     let within = inside over (goal.at.invariant_of-self over c).After-deref_mut in
-    sets_sound c.self.invariant (told over (goal.at.invariant_of-self over c).After-announce within) (length-set c.self.inside.sets.items c.args.unit _) (Match-given c.self.inside.sets.items c.self.inside.live.items c.args.unit c.self.invariant.commands.in_sets within)
+    sets_sound c.self.invariant (told over (goal.at.invariant_of-self over c).After-announce within) (length-set c.self.inside.sets.items c.args.unit _) (Match-given c.self.inside.sets.items c.self.inside.live.items c.args.unit c.self.invariant.commands.in_sets within) (roomy_set _ _ c.self.inside.sets.items c.args.unit (all_given (get_or c.self.inside.sets.items c.args.unit (opened 0))) within c.self.invariant.sets refl)

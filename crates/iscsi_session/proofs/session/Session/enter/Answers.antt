@@ -1,4 +1,5 @@
 use Rattle.std.proofs.Common.{rules, w64, refl, All, nat_le, nat_lt, ◌≡◌, ◌∙◌, ◌<◌, ◌≤◌, ◌&&◌, not, cond, ap, sym, true, false, arith, length, ◌+◌, ℕ, List, [], ◌∷◌, get_or, set, take, drop, ◌++◌, length-set, append_assoc}
+use Rattle.std.proofs.lemmas.Bool.{leb-false}
 use Rattle.std.proofs.lemmas.Bool.Decides.{nat_tests}
 use Rattle.std.proofs.lemmas.List.Sums.{AllPass-from_list_all}
 use Rattle.iscsi_slots.specs.Queued.{Queued}
@@ -13,11 +14,11 @@ use Rattle.iscsi_connections.specs.Connected.{Connected}
 use Rattle.iscsi_session.specs.private.Standing.{Core, are_within}
 use Rattle.iscsi_session.specs.private.Steps.{new_live, new_task, started}
 use Rattle.iscsi_session.proofs.CountLemmas.{AreCounted-entered, room_for_one}
-use Rattle.iscsi_session.proofs.KeptLemmas.{newest_in, Match-entered}
+use Rattle.iscsi_session.proofs.KeptLemmas.{newest_in, Match-entered, roomy_set, few_in}
 use Rattle.iscsi_session.proofs.SoundLemmas.{places_sound, commands_sound_on, entered_sound}
 use Rattle.iscsi_session.proofs.session.Session.enter.Given.{Over}
 use Rattle.iscsi_session.proofs.session.Session.enter.Goals as goal
-use Rattle.iscsi_session.proofs.session.Session.enter.Goals.{After-enter-slot, After-push}
+use Rattle.iscsi_session.proofs.session.Session.enter.Goals.{After-deref_mut, After-enter-slot, After-push}
 
 -- the window, once the command began: a place of it is left
 started_parts : (w v : Arrived) (r : Request) → v ≡ started w r → w.unfinished ≤ length w.places → (is_immediate r ≡ false → w.unfinished < length w.places)
@@ -30,14 +31,9 @@ enter-slot-requires-clause-newest over c =
     rw c.deref_mut.ensures.value
     (newest_in c.self.inside.sets.items c.self.inside.live.items c.self.inside.entered (length c.self.inside.sets.items) c.args.unit c.self.invariant.commands.in_sets c.self.invariant.commands.within inside)
 
--- each has a ticket before the next
-all_before : (n units : ℕ) (lives : List Live) → are_within n units lives ≡ true → All (λ l. l.ticket < n + 1) lives
-all_before n units lives within = λ k d lt.
-    let test = AllPass-from_list_all (λ (l : Live). nat_le l.ticket n && nat_lt l.unit units) lives within k d lt in
-    grind (arith, nat_tests)
-
-pub push-requires-clause-room : goal.push-requires-clause-room
-push-requires-clause-room over c =
+-- there is room for one command more
+room_left : (over : Over) (c : After-deref_mut over) → length c.self.inside.live.items < c.self.inside.live.room
+room_left over c =
     let inv = c.self.invariant in
     omega (
       arith,
@@ -45,6 +41,23 @@ push-requires-clause-room over c =
       room_for_one c.self.inside.window.unfinished (length c.self.inside.window.places) c.self.inside.connections.conns c.self.inside.live.items (new_live c.args.self.now c.args.request.now c.args.unit)
           inv.commands.numbered inv.window.fits inv.commands.counted.few inv.commands.known (rw (← c.self.view_is) at c.requires.known) (λ is. (rw (← c.self.view_is) at (c.requires.space is)).not_full) (rw (← c.self.view_is) at c.requires.few),
     )
+
+pub enter-slot-requires-clause-not_full : goal.enter-slot-requires-clause-not_full
+enter-slot-requires-clause-not_full over c =
+    let sets : List Members = c.self.inside.sets.items in
+    let inside : c.args.unit < length sets = omega (arith, c.requires.unit, ap (λ (s : Core). length s.sets) c.self.view_is) in
+    let below : length (get_or sets c.args.unit (opened 0)).list < c.self.inside.depth = leb-false _ _ (rw (← c.self.view_is) at c.requires.not_full) in
+    let few = few_in (get_or sets c.args.unit (opened 0)) c.args.unit c.self.inside.live.items (c.self.invariant.commands.in_sets c.args.unit inside) in
+    rw c.deref_mut.ensures.value (c.self.invariant.sets c.args.unit (length (get_or sets c.args.unit (opened 0)).list) inside below (omega (arith, few, room_left over (goal.at.enter-slot-requires-clause-not_full over c).After-deref_mut)))
+
+pub push-requires-clause-room : goal.push-requires-clause-room
+push-requires-clause-room over c = room_left over (goal.at.push-requires-clause-room over c).After-deref_mut
+
+-- each has a ticket before the next
+all_before : (n units : ℕ) (lives : List Live) → are_within n units lives ≡ true → All (λ l. l.ticket < n + 1) lives
+all_before n units lives within = λ k d lt.
+    let test = AllPass-from_list_all (λ (l : Live). nat_le l.ticket n && nat_lt l.unit units) lives within k d lt in
+    grind (arith, nat_tests)
 
 pub push-requires-clause-newest : goal.push-requires-clause-newest
 push-requires-clause-newest over c = all_before c.self.inside.entered (length c.self.inside.sets.items) c.self.inside.live.items c.self.invariant.commands.within
@@ -77,12 +90,13 @@ invariant_of-self over c =
     let inside : c.args.unit < length old = omega (arith, c.requires.unit, ap (λ (s : Core). length s.sets) c.self.view_is) in
     let next : l.ticket ≡ c.self.inside.entered + 1 = ap (λ (s : Core). s.entered + 1) (sym c.self.view_is) in
     let now = sets_now over e ∙ sets_are over e in
+    let room = ap (λ (q : Queued Live). q.room) c.push.ensures in
     let long = ap length now ∙ length-set old c.args.unit _ in
     let commands = entered_sound inv.commands l (lives_are over p) next inside (rw (← c.self.view_is) at c.requires.known) (omega (arith, inv.commands.numbered, w.1.1.0)) long
     (rw now (Match-entered old c.self.inside.live.items l (new_task c.args.self.now r) inv.commands.in_sets inside refl))
     (AreCounted-entered c.self.inside.connections.immediate c.begin.new.connections.immediate conns c.self.inside.live.items l inv.commands.counted c.begin.ensures.long c.begin.ensures.counted (rw (← c.self.view_is) at c.requires.few)) in
     commands_sound_on inv (ap (λ (x : Connected). x.conns) c.begin.ensures.connections) (places_sound inv.window w.1.0 w.0 w.1.1.1 (omega (arith, rw (← c.self.view_is) at c.requires.counted))) commands w.1.0 long
-    (let room = ap (λ (q : Queued Live). q.room) c.push.ensures in omega (arith, room))
+    (rw (now, room) (roomy_set _ _ old c.args.unit _ inside inv.sets refl)) (omega (arith, room))
 
 pub returns-clause-done : goal.returns-clause-done
 returns-clause-done over c =

@@ -1,4 +1,4 @@
-use Rattle.std.proofs.Common.{◌≤◌, ◌≡◌, ◌∙◌, ◌++◌, inr, refl, ap, sym, arith, List, [], ◌∷◌, length, length-append}
+use Rattle.std.proofs.Common.{◌≤◌, ◌∙◌, ◌++◌, inr, refl, ap, sym, arith, List, [], ◌∷◌, length, length-append}
 use Rattle.iscsi_rules.specs.declared.effect.Effect.{Effect}
 use Rattle.iscsi_rules.specs.declared.event.Event.{Event}
 use Rattle.iscsi_rules.specs.rules.Settings.{Setting}
@@ -30,7 +30,7 @@ bounded c o h stands =
     omega (arith, added, c.take.new.out.ok.0, c.reserve.new.self.ok.0, c.take.ensures.spent, bound_is o _ h stands)
 
 pub take-requires-clause-room : goal.take-requires-clause-room
-take-requires-clause-room c = inr (omega (arith, c.reserve.ensures))
+take-requires-clause-room c = inr (search arith)
 
 pub returns : goal.returns
 returns c =

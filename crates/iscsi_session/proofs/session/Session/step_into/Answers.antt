@@ -1,4 +1,4 @@
-use Rattle.std.proofs.Common.{◌≡◌, ◌∙◌, inl, sym, arith, Some, None, Bool, true, false, not, cond, nat_lt, ◌≢◌}
+use Rattle.std.proofs.Common.{◌≡◌, ◌∙◌, inl, sym, Some, None, Bool, true, false, not, cond, nat_lt, ◌≢◌}
 use Rattle.iscsi_session.specs.declared.fault.SessionFault.{SessionFault}
 use Rattle.iscsi_session.specs.declared.fault.SessionFault.TheVariants.{UnknownConnection, Exhausted, NoMemory}
 use Rattle.iscsi_session.specs.private.Standing.{Core}
@@ -25,13 +25,13 @@ take-requires-clause-room over c = inl c.requires.room
 
 pub returns : goal.returns
 returns over c = record {
-    stands = c.take.ensures.stands;
-    effects = c.take.ensures.effects;
-    numbers = c.take.ensures.numbers;
-    refused = λ o h stands. rw (refusal_as o _ h _ _ stands (sym c.refusal.ensures ∙ c.in_default.is)) tt;
-    memory = λ said. cc;
-    err = tt;
-    err_out = tt;
-    flow = c.take.ensures.flow;
-    capacity = c.take.ensures.capacity;
+  stands = c.take.ensures.stands;
+  effects = c.take.ensures.effects;
+  numbers = c.take.ensures.numbers;
+  refused = λ o h stands. rw (refusal_as o _ h _ _ stands (sym c.refusal.ensures ∙ c.in_default.is)) tt;
+  memory = λ said. cc;
+  err = tt;
+  err_out = tt;
+  flow = c.take.ensures.flow;
+  capacity = c.take.ensures.capacity;
 }

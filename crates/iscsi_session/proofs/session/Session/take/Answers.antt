@@ -1,4 +1,4 @@
-use Rattle.std.proofs.Common.{◌≡◌, ◌∙◌, ◌+◌, ◌++◌, ap, arith, List, [], ◌∷◌, length, ⊎_elim}
+use Rattle.std.proofs.Common.{◌≡◌, ◌∙◌, ◌+◌, ap, arith, List, length, ⊎_elim}
 use Rattle.std.proofs.lemmas.List.{length_push}
 use Rattle.iscsi_rules.specs.declared.event.Event.{Event}
 use Rattle.iscsi_rules.specs.rules.Settings.{Setting}
@@ -51,7 +51,7 @@ returns over c =
       effects = λ o h stands. (applied over a o h stands).effects;
       numbers = λ o h stands. c.numbers.ensures.value ∙ settled_numbers o a.apply.new.self _ (applied over a o h stands).settled;
       flow = λ o h stands. let now = applied over a o h stands in
-      rw (trace_of-push o h e) (Flows-step o c.args.self.now a.apply.new.self (length h) (trace_of o h) e now.receives stands.settled now.settled pace);
-      spent = a.apply.ensures.spent;
+          rw (trace_of-push o h e) (Flows-step o c.args.self.now a.apply.new.self (length h) (trace_of o h) e now.receives stands.settled now.settled pace);
+      spent = rw (← c.self.view_is) a.apply.ensures.spent;
       capacity = a.apply.ensures.capacity;
     }
