@@ -106,7 +106,7 @@ enabled_covered sets k (Some y) l h = by_test (is_enabled_in k (get_or sets y.un
 later_in : (k unit : ℕ) (lives : List Live) → list_all (λ m. nat_lt k m.ticket) lives ≡ true → list_all (λ u. nat_lt k u) (tickets_in unit lives) ≡ true
 later_in k unit lives h = rw list_all-map (list_all-filter _ _ lives h)
 
-rising_in : (unit : ℕ) (lives : List Live) → are_ascending lives ≡ true → rising (tickets_in unit lives) ≡ true
+pub rising_in : (unit : ℕ) (lives : List Live) → are_ascending lives ≡ true → rising (tickets_in unit lives) ≡ true
 rising_in unit lives up = rw rising_are (ascending-kept _ lives up)
   where
     rising_are : (ls : List Live) → rising (map (λ (l : Live). l.ticket) ls) ≡ are_ascending ls
@@ -270,7 +270,7 @@ finished_none w a = ap (with_unfinished w) {y = w.unfinished} (omega arith)
 pub one_leaving : (k : ℕ) (now : Members) → (set_staying (covers_ticket k) now ≡ left_by now (with_ticket k (tasks_in now))) × (is_some (with_ticket k (tasks_in now)) ≡ has_covered (covers_ticket k) now)
 one_leaving k now = grind (arith, nat_tests, none_found, some_covered, eqb-true, find-found)
 
-pub one_found : (k unit : ℕ) (now : Members) (lives : List Live) → tickets_of now ≡ tickets_in unit lives → has_covered (covers_ticket k) now ≡ true → IsSome (find_ticket k lives)
+one_found : (k unit : ℕ) (now : Members) (lives : List Live) → tickets_of now ≡ tickets_in unit lives → has_covered (covers_ticket k) now ≡ true → IsSome (find_ticket k lives)
 one_found k unit now lives match has = some_live k unit lives (rw (← match, list_any-map) has)
 
 pub one_missing : (k unit : ℕ) (now : Members) (lives : List Live) → tickets_of now ≡ tickets_in unit lives → find_ticket k lives ≡ None → has_covered (covers_ticket k) now ≡ false
@@ -286,13 +286,16 @@ one_live k now lives = simp one_gone (by_test (has_covered (covers_ticket k) now
     by_test true = simp and_true
     by_test false = simp (and_false, filter-true)
 
-pub one_leaves : (k unit : ℕ) (ms : List Member) → rising (tickets ms) ≡ true → cond (list_any (λ m. m.task.ticket == k) ms) (Leave k unit ∷ []) [] ≡ leave_each unit (covered_tickets (covers_ticket k) ms)
-one_leaves k unit [] up = refl
-one_leaves k unit (x ∷ ms) up =
+pub one_covered : (k : ℕ) (ms : List Member) → rising (tickets ms) ≡ true → covered_tickets (covers_ticket k) ms ≡ cond (list_any (λ m. m.task.ticket == k) ms) (k ∷ []) []
+one_covered k [] up = refl
+one_covered k (x ∷ ms) up =
     let parts = and_parts (list_all (λ u. nat_lt x.task.ticket u) (tickets ms)) (rising (tickets ms)) up in
     let none : (x.task.ticket == k) ≡ true → list_any (λ (m : Member). m.task.ticket == k) ms ≡ false =
     λ is. rw (← eqb-true x.task.ticket k is) (simp list_any-map at (none_above x.task.ticket (tickets ms) parts.0)) in
-    grind (arith, nat_tests, one_leaves k unit ms parts.1, none, none_filtered (λ m. m.task.ticket == k) ms)
+    grind (arith, nat_tests, eqb-true x.task.ticket k, one_covered k ms parts.1, none, none_filtered (λ m. m.task.ticket == k) ms)
+
+pub one_leaves : (k unit : ℕ) (ms : List Member) → rising (tickets ms) ≡ true → cond (list_any (λ m. m.task.ticket == k) ms) (Leave k unit ∷ []) [] ≡ leave_each unit (covered_tickets (covers_ticket k) ms)
+one_leaves k unit ms up = rw (one_covered k ms up) (elim (list_any (λ m. m.task.ticket == k) ms) as (λ b. cond b (Leave k unit ∷ []) [] ≡ leave_each unit (cond b (k ∷ []) [])) [ true ↦ refl | false ↦ refl ])
 
 -- ---- a unit is told
 

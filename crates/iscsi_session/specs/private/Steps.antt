@@ -32,6 +32,8 @@ use Rattle.iscsi_rules.specs.rules.Run.{effects_of}
 use Rattle.iscsi_rules.specs.rules.Execution.{sense_of_status, attr_of, reply_of, MOST_IMMEDIATE}
 use Rattle.iscsi_session.specs.declared.fault.SessionFault.{SessionFault}
 use Rattle.iscsi_session.specs.declared.fault.SessionFault.TheVariants.{UnknownConnection, Exhausted}
+use Rattle.iscsi_session.specs.declared.session.leaving.Leaving.{Leaving}
+use Rattle.iscsi_session.specs.declared.session.leaving.Leaving.TheVariants.{One, Covered}
 use Rattle.iscsi_session.specs.declared.session.waiting.Waiting.{Waiting}
 use Rattle.iscsi_session.specs.private.Standing.{Core, Agrees, Settled, stat_sn_on}
 
@@ -257,6 +259,10 @@ without_tickets tickets live = filter (λ l. not (list_any (λ t. t == l.ticket)
 
 abbrev pub covers_ticket : ℕ → Task → Bool
 covers_ticket ticket t = t.ticket == ticket
+
+abbrev pub covers_by : Leaving → Task → Bool
+covers_by (One ticket) = covers_ticket ticket
+covers_by (Covered cover) = is_covered cover
 
 -- the sets, once this command left its own, if there is one
 abbrev pub sets_left : List Members → Option Live → List Members

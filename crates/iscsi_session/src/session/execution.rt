@@ -13,6 +13,7 @@ ghost use Rattle.iscsi_session.specs.private.Deeds.{Fits, IsReady, most_emptied,
 
 use crate::opcode::Opcode;
 use crate::reason::Reason;
+use crate::session::leaving::Leaving;
 use crate::session::management::COMPLETE;
 use crate::session::sets::CHECK_CONDITION;
 use crate::session::{Session, sets};
@@ -162,11 +163,12 @@ impl Session {
                 self.empty_number(sn, out);
                 self.answer(request, COMPLETE, out);
             }
-            Deed::Abort { unit, ticket } => self.abort_one(request, unit, ticket, out),
+            Deed::Abort { unit, ticket } => self.abort(request, unit, Leaving::One(ticket), out),
             Deed::AbortEarlier(unit) => {
-                self.abort_covered(request, unit, Cover::Below { pos: number, event }, out)
+                let earlier = Cover::Below { pos: number, event };
+                self.abort(request, unit, Leaving::Covered(earlier), out)
             }
-            Deed::AbortAll(unit) => self.abort_covered(request, unit, Cover::All, out),
+            Deed::AbortAll(unit) => self.abort(request, unit, Leaving::Covered(Cover::All), out),
             Deed::CloseConn(conn) => self.log_out(request, Some(conn), out),
             Deed::CloseSession => self.log_out(request, None, out),
         }

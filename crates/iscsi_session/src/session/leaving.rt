@@ -1,11 +1,10 @@
 //! Commands of a unit that leave before they are completed.
 
-ghost use Rattle.std.specs.Prelude.{Some, ◌≡◌, ◌+◌, ◌<◌, ◌≤◌, [], ◌∷◌, true, length, count_by, slice_index_or, slice_set, All, IsSome, vec_len, vec_capacity, if◌then◌else◌};
+ghost use Rattle.std.specs.Prelude.{Some, ◌≡◌, ◌+◌, ◌<◌, ◌≤◌, [], true, length, count_by, slice_index_or, slice_set, All, IsSome, vec_len, vec_capacity};
 ghost use Rattle.std.specs.List.{AllPairs};
-ghost use Rattle.iscsi_tasks.specs.Sets.{opened, is_covered};
+ghost use Rattle.iscsi_tasks.specs.Sets.{opened};
 ghost use Rattle.iscsi_session.specs.private.Standing.{are_ascending, are_known, tickets_of, tickets_in};
-ghost use Rattle.iscsi_session.specs.private.Steps.{set_staying, covered_tickets, find_ticket, without_ticket, Appends, Takes, unit_told, AreCounted, is_numbered, finished_by, leave_each, commands_left, without_tickets, covers_ticket, has_covered, owed};
-ghost use Rattle.iscsi_rules.specs.declared.effect.Effect.{Effect};
+ghost use Rattle.iscsi_session.specs.private.Steps.{set_staying, covered_tickets, find_ticket, without_ticket, Appends, Takes, unit_told, AreCounted, is_numbered, finished_by, leave_each, commands_left, without_tickets, covers_ticket, covers_by, owed};
 
 use crate::session::completion::finish;
 use crate::session::{Session, sets};
@@ -15,39 +14,28 @@ use iscsi_sinks::EffectSink;
 use iscsi_tasks::{Cover, LinkedTaskSet};
 use iscsi_window::EventWindow;
 
+/// Which commands of a unit leave.
+#[derive(Clone, Copy)]
+pub(crate) enum Leaving {
+    /// The one with this ticket, if it is there.
+    One(u64),
+    /// The covered ones.
+    Covered(Cover),
+}
+
 impl Session {
-    /// The covered commands of a unit leave, the oldest first.
-    pub(crate) fn leave_covered<S: EffectSink>(&mut self, unit: u16, cover: &Cover, out: &mut S)
+    /// These commands of a unit leave, the oldest first.
+    pub(crate) fn leave<S: EffectSink>(&mut self, unit: u16, leaving: &Leaving, out: &mut S)
         requires unit { unit < length self.old.sets }
         requires room { S.len out.old + owed self.old.live self.old.sets ≤ S.capacity out.old }
-        ensures done { Takes S.has S.capacity (commands_left self.old unit (is_covered cover.now)) self.new out.old out.new }
+        ensures done { Takes S.has S.capacity (commands_left self.old unit (covers_by leaving.now)) self.new out.old out.new }
         ensures spent { S.len out.new + owed self.new.live self.new.sets ≤ S.len out.old
             + owed self.old.live self.old.sets }
     {
-        dequeue_covered(&mut self.sets, unit, cover, &mut self.left);
+        dequeue(&mut self.sets, &self.live, unit, leaving, &mut self.left);
         end_all(
             &self.left,
             unit,
-            &mut self.window,
-            &mut self.connections,
-            &mut self.live,
-            out,
-        );
-    }
-
-    /// The command of a unit with this ticket leaves.
-    pub(crate) fn leave_one<S: EffectSink>(&mut self, unit: u16, ticket: u64, out: &mut S)
-        requires unit { unit < length self.old.sets }
-        requires room { S.len out.old + owed self.old.live self.old.sets ≤ S.capacity out.old }
-        ensures done { Takes S.has S.capacity (commands_left self.old unit (covers_ticket ticket)) self.new out.old out.new }
-        ensures spent { S.len out.new + owed self.new.live self.new.sets ≤ S.len out.old
-            + owed self.old.live self.old.sets }
-    {
-        let is_there = dequeue_one(&mut self.sets, &self.live, unit, ticket);
-        end_one(
-            is_there,
-            unit,
-            ticket,
             &mut self.window,
             &mut self.connections,
             &mut self.live,
@@ -68,33 +56,58 @@ impl Session {
     }
 }
 
-/// The covered commands leave the set of their unit, and their tickets are noted, the oldest one's first. They are still
-/// among the live ones.
-fn dequeue_covered(sets: &mut [LinkedTaskSet], unit: u16, cover: &Cover, left: &mut Vec<u64>)
+/// These commands leave the set of their unit, and their tickets are noted, the oldest one's first. They are still among
+/// the live ones.
+fn dequeue(
+    sets: &mut [LinkedTaskSet],
+    live: &LiveCommands,
+    unit: u16,
+    leaving: &Leaving,
+    left: &mut Vec<u64>,
+)
     requires unit { unit < length sets.old }
+    requires there { tickets_of (slice_index_or sets.old unit (opened 0)) ≡ tickets_in unit live.now.items }
+    requires ascending { are_ascending live.now.items ≡ true }
     requires room { length (slice_index_or sets.old unit (opened 0)).list ≤ vec_capacity left.old }
     ensures sets { sets.new ≡ slice_set sets.old unit
-        (set_staying (is_covered cover.now) (slice_index_or sets.old unit (opened 0))) }
-    ensures left { left.new.items ≡ covered_tickets (is_covered cover.now)
+        (set_staying (covers_by leaving.now) (slice_index_or sets.old unit (opened 0))) }
+    ensures left { left.new.items ≡ covered_tickets (covers_by leaving.now)
         (slice_index_or sets.old unit (opened 0)).list }
     ensures capacity { vec_capacity left.new ≡ vec_capacity left.old }
 {
     left.clear();
-    sets[usize::from(unit)].leave_covered(cover, left);
+    match leaving {
+        Leaving::One(ticket) => dequeue_one(sets, live, unit, *ticket, left),
+        Leaving::Covered(cover) => sets[usize::from(unit)].leave_covered(cover, left),
+    }
 }
 
-/// The command with this ticket leaves the set of its unit: whether it was there. It is still among the live ones.
-fn dequeue_one(sets: &mut [LinkedTaskSet], live: &LiveCommands, unit: u16, ticket: u64) -> bool
+/// The command with this ticket leaves the set of its unit, and its ticket is noted, if it is there. It is still among
+/// the live ones.
+fn dequeue_one(
+    sets: &mut [LinkedTaskSet],
+    live: &LiveCommands,
+    unit: u16,
+    ticket: u64,
+    left: &mut Vec<u64>,
+)
     requires unit { unit < length sets.old }
     requires there { tickets_of (slice_index_or sets.old unit (opened 0)) ≡ tickets_in unit live.now.items }
-    ensures there { result ≡ has_covered (covers_ticket ticket) (slice_index_or sets.old unit (opened 0)) }
+    requires ascending { are_ascending live.now.items ≡ true }
+    requires none { left.old.items ≡ [] }
+    requires room { length (slice_index_or sets.old unit (opened 0)).list ≤ vec_capacity left.old }
     ensures sets { sets.new ≡ slice_set sets.old unit
         (set_staying (covers_ticket ticket) (slice_index_or sets.old unit (opened 0))) }
+    ensures left { left.new.items ≡ covered_tickets (covers_ticket ticket)
+        (slice_index_or sets.old unit (opened 0)).list }
+    ensures capacity { vec_capacity left.new ≡ vec_capacity left.old }
 {
     let Some(placed) = live.find_placed(ticket) else {
-        return false;
+        return;
     };
-    sets[usize::from(unit)].leave(ticket, placed.slot).is_some()
+    if sets[usize::from(unit)].leave(ticket, placed.slot).is_some() {
+        left.push_reserved(ticket);
+    }
 }
 
 /// The live commands with these tickets are over, and each is told to leave.
@@ -124,36 +137,6 @@ fn end_all<S: EffectSink>(
 {
     for k in 0..tickets.len() {
         let ticket = tickets[k];
-        end(window, connections, live, ticket);
-        out.put_leave(ticket, unit);
-    }
-}
-
-/// The live command with this ticket is over, where it is there, and is told to leave.
-fn end_one<S: EffectSink>(
-    is_there: bool,
-    unit: u16,
-    ticket: u64,
-    window: &mut EventWindow,
-    connections: &mut Connections,
-    live: &mut LiveCommands,
-    out: &mut S,
-)
-    requires there { is_there ≡ true → IsSome (find_ticket ticket live.old.items) }
-    requires ascending { are_ascending live.old.items ≡ true }
-    requires numbered { count_by is_numbered live.old.items ≤ window.old.unfinished }
-    requires known { are_known live.old.items connections.old.conns ≡ true }
-    requires counted { AreCounted connections.old.immediate connections.old.conns live.old.items }
-    requires room { S.len out.old + length live.old.items ≤ S.capacity out.old }
-    ensures window { window.new ≡ finished_by window.old live.old.items live.new.items }
-    ensures live { live.new.items ≡ (if is_there then without_ticket ticket live.old.items else live.old.items) }
-    ensures connections { connections.new ≡ record connections.old { immediate = connections.new.immediate } }
-    ensures counted { AreCounted connections.new.immediate connections.old.conns live.new.items }
-    ensures live_capacity { live.new.room ≡ live.old.room }
-    ensures effects { Appends S.has S.capacity (if is_there then Effect.Leave ticket unit ∷ [] else []) out.old out.new }
-    ensures spent { S.len out.new + length live.new.items ≤ S.len out.old + length live.old.items }
-{
-    if is_there {
         end(window, connections, live, ticket);
         out.put_leave(ticket, unit);
     }

@@ -8,6 +8,7 @@ ghost use Rattle.iscsi_session.specs.private.Steps.{Continues, is_among_open, Ta
 
 use crate::closing::LogoutResponse;
 use crate::session::Session;
+use crate::session::leaving::Leaving;
 use iscsi_rules::Answer;
 use iscsi_sinks::EffectSink;
 use iscsi_tasks::Cover;
@@ -57,7 +58,7 @@ impl Session {
     {
         let cover = cover_of(scope);
         for unit in 0..self.units() {
-            self.leave_covered(unit, &cover, out);
+            self.leave(unit, &Leaving::Covered(cover), out);
         }
     }
 

@@ -4,18 +4,17 @@ ghost use Rattle.std.specs.Prelude.{◌-◌, ◌≡◌, ◌+◌, ◌*◌, ◌≤
 ghost use Rattle.std.specs.List.{list_all};
 ghost use Rattle.iscsi_wire.specs.Fields.{connection_of, is_immediate};
 ghost use Rattle.iscsi_window.specs.Windows.{IsInside, place_in, held_at};
-ghost use Rattle.iscsi_tasks.specs.Sets.{is_covered};
 ghost use Rattle.iscsi_rules.specs.rules.Settings.{is_known as known_in};
 ghost use Rattle.iscsi_session.specs.private.Standing.{is_held};
-ghost use Rattle.iscsi_session.specs.private.Steps.{KeepsPace, Takes, covers_ticket, aborted, number_voided, number_emptied, owed};
+ghost use Rattle.iscsi_session.specs.private.Steps.{KeepsPace, Takes, covers_by, aborted, number_voided, number_emptied, owed};
 ghost use Rattle.iscsi_session.specs.private.Deeds.{arrival_by, Fits, IsReady, most_emptied, next_waiting, function_taken, done_at_once, immediate_taken};
 
 use crate::response::Response;
 use crate::session::Session;
+use crate::session::leaving::Leaving;
 use crate::session::waiting::Waiting;
 use iscsi_rules::{Answer, Deed};
 use iscsi_sinks::EffectSink;
-use iscsi_tasks::Cover;
 use iscsi_wire::Request;
 
 /// A function is complete.
@@ -103,42 +102,22 @@ impl Session {
         true
     }
 
-    /// The covered commands of a unit leave, and the function is answered.
+    /// These commands of a unit leave, and the function is answered.
     #[inline(never)]
-    pub(crate) fn abort_covered<S: EffectSink>(
+    pub(crate) fn abort<S: EffectSink>(
         &mut self,
         request: &Request,
         unit: u16,
-        cover: Cover,
+        leaving: Leaving,
         out: &mut S,
     )
         requires unit { unit < length self.old.sets }
         requires room { S.len out.old + owed self.old.live self.old.sets + 1 ≤ S.capacity out.old }
-        ensures done { Takes S.has S.capacity (aborted self.old request.now unit (is_covered cover)) self.new out.old out.new }
+        ensures done { Takes S.has S.capacity (aborted self.old request.now unit (covers_by leaving)) self.new out.old out.new }
         ensures spent { S.len out.new + owed self.new.live self.new.sets ≤ S.len out.old
             + owed self.old.live self.old.sets + 1 }
     {
-        self.leave_covered(unit, &cover, out);
-        self.answer(request, COMPLETE, out);
-        self.announce_enabled(unit, out);
-    }
-
-    /// The command of a unit with this ticket leaves, and the function is answered.
-    #[inline(never)]
-    pub(crate) fn abort_one<S: EffectSink>(
-        &mut self,
-        request: &Request,
-        unit: u16,
-        ticket: u64,
-        out: &mut S,
-    )
-        requires unit { unit < length self.old.sets }
-        requires room { S.len out.old + owed self.old.live self.old.sets + 1 ≤ S.capacity out.old }
-        ensures done { Takes S.has S.capacity (aborted self.old request.now unit (covers_ticket ticket)) self.new out.old out.new }
-        ensures spent { S.len out.new + owed self.new.live self.new.sets ≤ S.len out.old
-            + owed self.old.live self.old.sets + 1 }
-    {
-        self.leave_one(unit, ticket, out);
+        self.leave(unit, &leaving, out);
         self.answer(request, COMPLETE, out);
         self.announce_enabled(unit, out);
     }

@@ -11,4 +11,4 @@ returns-in-Enter-clause-spent over c = grind (arith, nat_tests, carried_stays, o
 pub returns-in-AbortEarlier-clause-done : goal.returns-in-AbortEarlier-clause-done
 returns-in-AbortEarlier-clause-done over c =
     let number = to_z-of_z w64 c.args.number (search rules) in
-    rw c.in-AbortEarlier.is (rw number at c.abort_covered.ensures.done)
+    rw c.in-AbortEarlier.is (rw number at c.abort-in-AbortEarlier.ensures.done)

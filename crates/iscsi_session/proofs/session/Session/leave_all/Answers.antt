@@ -13,16 +13,16 @@ loop-unit-preserved over c =
     let u : ℕ = c.loop-unit.unit in
     let end : ℕ = c.units-unit-end.result in
     let step = range_step u end c.loop-unit-test.true in
-    let x = c.leave_covered.ensures.done in
-    let left : c.leave_covered.new.self ≡ (commands_left s u (covers_of c.args.scope)).core = x.core ∙ rw inv.cover in
+    let x = c.leave.ensures.done in
+    let left : c.leave.new.self ≡ (commands_left s u (covers_of c.args.scope)).core = x.core ∙ rw inv.cover in
     record {
       session = rw left (rw step at inv.session);
       effects = continued over.S.EffectSink.has (all_commands_left c.args.self.now (units_of c.args.self.now) (covers_of c.args.scope)).effects (all_commands_left s (range_with_len u (end - u)) (covers_of c.args.scope)).effects
-          (commands_left s u (covers_of c.args.scope)).effects (all_commands_left c.leave_covered.new.self (range_with_len (u + 1) (end - (u + 1))) (covers_of c.args.scope)).effects c.args.out.now c.loop-unit.out c.leave_covered.new.out inv.effects
+          (commands_left s u (covers_of c.args.scope)).effects (all_commands_left c.leave.new.self (range_with_len (u + 1) (end - (u + 1))) (covers_of c.args.scope)).effects c.args.out.now c.loop-unit.out c.leave.new.out inv.effects
           (rw (step, left) refl) (rw inv.cover at x.effects);
       cover = inv.cover;
       units = rw (left, length-set) inv.units;
       places = rw left inv.places;
-      spent = omega (arith, c.leave_covered.ensures.spent, inv.spent);
+      spent = omega (arith, c.leave.ensures.spent, inv.spent);
       capacity = x.room ∙ inv.capacity;
     }
