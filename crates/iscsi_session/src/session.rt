@@ -149,6 +149,7 @@ impl Session {
     }
 
     /// ExpCmdSN and MaxCmdSN, as a reply that went out now would carry them (RFC 7143 section 4.2.2.1).
+    #[tactic(auto, using(crate::proofs::AgreeLemmas::settled_numbers, std::proofs::lemmas::Bool::Decides::nat_tests))]
     pub fn numbers(&self) -> Numbers
         ensures numbers { (o : Setting) (h : List Event) → StandsFor o self.now h →
             result ≡ numbers_of o (trace_of o h) }
@@ -171,6 +172,7 @@ impl Session {
     /// The most effects that the next event gives.
     ///
     /// For a window of W and C connections it is never more than 12 (W + 4 C + 1) + 2 (W + 8 C).
+    #[tactic(auto, using(crate::proofs::OpenLemmas::bound_is, std::proofs::lemmas::Bool::Decides::nat_tests))]
     pub fn effect_bound(&self) -> usize
         ensures bound { (o : Setting) (h : List Event) → StandsFor o self.now h →
             result ≡ effect_bound_of o (trace_of o h) }

@@ -28,6 +28,7 @@ impl Session {
     /// Takes a completion: the command leaves and is answered, and others may become enabled.
     ///
     /// Rules: `completion/stale`, `completion/status`.
+    #[tactic(auto, using(std::proofs::Common::append_assoc, std::proofs::lemmas::Bool::Decides::nat_tests))]
     pub(crate) fn complete<S: EffectSink>(&mut self, ticket: u64, status: u8, out: &mut S)
         requires room { S.len out.old + owed self.old.live self.old.sets + 1 ≤ S.capacity out.old }
         ensures done { Takes S.has S.capacity (completed self.old (enabled_in self.old.sets self.old.live ticket) status) self.new
@@ -48,6 +49,7 @@ impl Session {
     }
 
     /// The live command with this ticket leaves, if it is enabled in the set of its unit.
+    #[tactic(auto, using(iscsi_rules::proofs::traces::TraceLemmas::weaker, iscsi_rules::proofs::general::BoolLemmas::and_second, std::proofs::lemmas::Bool::Decides::nat_tests))]
     #[inline(always)]
     fn leave_enabled<S: EffectSink>(&mut self, ticket: u64, out: &mut S) -> Option<Live>
         requires room { S.len out.old + owed self.old.live self.old.sets ≤ S.capacity out.old }

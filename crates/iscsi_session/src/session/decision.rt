@@ -81,6 +81,7 @@ impl Session {
     }
 
     /// Whether a live command has this tag.
+    #[tactic(auto, using(crate::proofs::TagLemmas::any_found, std::proofs::lemmas::Bool::Decides::nat_tests))]
     #[inline(always)]
     fn is_tag_live(&self, itt: u32) -> bool
         ensures { result ≡ is_tag_kept self.now itt }

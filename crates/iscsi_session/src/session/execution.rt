@@ -68,6 +68,7 @@ impl Session {
 
     /// Executes a request that arrived in this event.
     // A SCSI Command, which most are, has a way of its own: what it does stays in registers there.
+    #[tactic(auto, using(std::proofs::lemmas::Bool::Decides::nat_tests))]
     #[inline(always)]
     fn execute<S: EffectSink>(&mut self, request: &Request, event: u64, out: &mut S)
         requires space { is_immediate request.now ≡ false → HasRoom self.old.window }
@@ -132,6 +133,7 @@ impl Session {
 
     /// Does what a request does that executes, by which alone that changes anything. Its number less the first CmdSN is this
     /// one, and it arrived in this event.
+    #[tactic(auto, using(crate::proofs::DeedLemmas::carried_stays, crate::proofs::ManageLemmas::owed_entered, std::proofs::lemmas::Bool::Decides::nat_tests))]
     #[inline(always)]
     pub(crate) fn carry_out<S: EffectSink>(
         &mut self,

@@ -105,6 +105,7 @@ impl Session {
     }
 
     /// A connection is closed, or the session for None, and with the last connection the session.
+    #[tactic(auto, using(std::proofs::Common::append_assoc, std::proofs::lemmas::Bool::Decides::nat_tests))]
     fn close<S: EffectSink>(&mut self, scope: Option<u16>, out: &mut S)
         requires room { S.len out.old + 2 ≤ S.capacity out.old }
         ensures done { Takes S.has S.capacity (conns_closed self.old scope) self.new out.old out.new }

@@ -13,13 +13,10 @@ use Rattle.iscsi_session.specs.promises.Refusals.{refusal_of, refusal_of_options
 use Rattle.iscsi_session.specs.private.Standing.{StandsFor}
 use Rattle.iscsi_rules.proofs.traces.RunLemmas.{run_of-push}
 use Rattle.iscsi_rules.proofs.traces.FlowItems.{FlowsThrough-push}
-use Rattle.iscsi_session.proofs.RefusalLemmas.{taken_none, refused_cases, refusal_more, refusal_here, options_refused, event_refused, run_taken}
+use Rattle.iscsi_session.proofs.RefusalLemmas.{taken_none, refused_cases, refusal_more, refusal_here, event_refused, run_taken}
 use Rattle.iscsi_session.proofs.PromiseLemmas.{promises_kept}
 use Rattle.iscsi_session.proofs.log.run.Goals as goal
 use Rattle.std.proofs.lemmas.Bool.Decides.{nat_tests}
-
-pub returns-in_err-session-clause-refused : goal.returns-in_err-session-clause-refused
-returns-in_err-session-clause-refused c = grind (arith, nat_tests, err_from_is_err_and, options_refused)
 
 pub returns-in_err-numbers-clause-refused : goal.returns-in_err-numbers-clause-refused
 returns-in_err-numbers-clause-refused c =
@@ -32,9 +29,6 @@ returns-in_err-numbers-clause-refused c =
     let p = err_from_is_err_and c.from_residual-in_err-numbers.result c.from_residual-in_err-numbers.ensures.1 in
     rw (p.1, p.2) (event_refused _ _ _ c.in_err-numbers.field-0.0 opened
     (⊎_elim (λ wanting. inl wanting) (λ refused. inr (refusal_here o c.args.events.now i _ (first_refusal o 0 c.args.events.now) c.in_err-numbers.field-0.0 in_range inv.refusal refused)) cases))
-
-pub returns-then-is_err-clause-refused : goal.returns-then-is_err-clause-refused
-returns-then-is_err-clause-refused c = grind (arith, nat_tests, taken_none, event_refused)
 
 -- what an answer says that is no error
 granted : {T E : Type 0} (P : Type 0) (r : Result T E) → is_err r ≡ false → OnOk r P → P

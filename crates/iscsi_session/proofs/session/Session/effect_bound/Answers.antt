@@ -1,10 +1,8 @@
 use Rattle.std.proofs.lemmas.List.{length-map}
 use Rattle.std.proofs.Common.{◌≡◌, ℕ, sym, ◌∙◌, ap, arith, length}
 use Rattle.iscsi_session.specs.private.Standing.{Core}
-use Rattle.iscsi_session.proofs.OpenLemmas.{bound_is}
 use Rattle.iscsi_session.proofs.ManageLemmas.{few}
 use Rattle.iscsi_session.proofs.session.Session.effect_bound.Goals as goal
-use Rattle.std.proofs.lemmas.Bool.Decides.{nat_tests}
 
 pub overflow_add-result : goal.overflow_add-result
 overflow_add-result c = omega (arith, few c.self.invariant, c.len.ensures)
@@ -20,9 +18,6 @@ overflow_mul-result-2 c = omega (arith, few c.self.invariant, ap (λ (s : Core).
 
 pub overflow_add-result-3 : goal.overflow_add-result-3
 overflow_add-result-3 c = omega (arith, few c.self.invariant, ap (λ (s : Core). length s.live) c.self.view_is)
-
-pub returns-clause-bound : goal.returns-clause-bound
-returns-clause-bound c = grind (arith, nat_tests, bound_is)
 
 pub returns-clause-most : goal.returns-clause-most
 returns-clause-most c = λ o h stands.

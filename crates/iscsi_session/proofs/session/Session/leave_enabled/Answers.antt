@@ -6,7 +6,6 @@ use Rattle.iscsi_session.specs.private.Standing.{Core}
 use Rattle.iscsi_session.specs.private.Steps.{find_ticket, without_ticket, enabled_in, staying, finished_by, covers_ticket, sets_left, has_covered, ungiven_in, owed}
 use Rattle.iscsi_rules.proofs.general.BoolLemmas.{and_second}
 use Rattle.iscsi_rules.proofs.general.ListLemmas.{find-passes}
-use Rattle.iscsi_rules.proofs.traces.TraceLemmas.{weaker}
 use Rattle.iscsi_rules.proofs.general.CountLemmas.{fewer}
 use Rattle.iscsi_session.proofs.FoundLemmas.{found_ticket}
 use Rattle.iscsi_session.proofs.KeptLemmas.{enabled_found, enabled_covered}
@@ -15,7 +14,6 @@ use Rattle.iscsi_session.proofs.SoundLemmas.{sets_written, left_sound}
 use Rattle.iscsi_session.proofs.session.Session.leave_enabled.Given.{Over}
 use Rattle.iscsi_session.proofs.session.Session.leave_enabled.Goals as goal
 use Rattle.iscsi_session.proofs.session.Session.leave_enabled.Goals.{In-Some, After-end_command}
-use Rattle.std.proofs.lemmas.Bool.Decides.{nat_tests}
 
 -- the command that leaves, as the session keeps it
 record Found (sets : List Members) (lives : List Live) (l : Live) : Type 0 where
@@ -23,10 +21,6 @@ record Found (sets : List Members) (lives : List Live) (l : Live) : Type 0 where
   inside : l.unit < length sets
   covered : has_covered (covers_ticket l.ticket) (get_or sets l.unit (opened 0)) ≡ true
   left : length (without_ticket l.ticket lives) + 1 ≤ length lives
-
--- each live command has a unit of the session
-pub take_enabled-requires : goal.take_enabled-requires
-take_enabled-requires over c = grind (arith, nat_tests, weaker, and_second)
 
 -- it is the one that is looked for
 found_it : (over : Over) (c : In-Some over) → enabled_in c.self.inside.sets.items c.self.inside.live.items c.args.ticket ≡ Some c.in-Some.command

@@ -1,8 +1,0 @@
-use Rattle.std.proofs.Common.{append_assoc}
-use Rattle.iscsi_session.proofs.session.Session.close.Goals.{in-Some, in_default}
-use Rattle.iscsi_session.proofs.session.Session.close.Goals as goal
-use Rattle.std.proofs.Common.{arith}
-use Rattle.std.proofs.lemmas.Bool.Decides.{nat_tests}
-
-pub returns-clause-done : goal.returns-clause-done
-returns-clause-done over c = grind (arith, nat_tests, in-Some, append_assoc, in_default)
