@@ -252,11 +252,23 @@ fn put_attr(attr: Attr, line: &mut [u8], at: usize) -> usize
     ensures end { (at ≤ result) × (result ≤ at + 16) }
     ensures written { take result line.new ≡ take at line.old ++ (codes " " ++ (attr_word attr ++ codes "\n")) }
 {
+    // Most are of this kind.
+    if let Attr::Simple = attr {
+        let word = *b" simple\n";
+        return put_text(&word, line, at);
+    }
+    put_other_attr(attr, line, at)
+}
+
+/// Writes any attribute. It is apart, so that the commonest one is written where its line is.
+#[inline(never)]
+fn put_other_attr(attr: Attr, line: &mut [u8], at: usize) -> usize
+    requires { at + 16 ≤ length line.old }
+    ensures end { (at ≤ result) × (result ≤ at + 16) }
+    ensures written { take result line.new ≡ take at line.old ++ (codes " " ++ (attr_word attr ++ codes "\n")) }
+{
     match attr {
-        Attr::Simple => {
-            let word = *b" simple\n";
-            put_text(&word, line, at)
-        }
+        Attr::Simple => put_text(b" simple\n", line, at),
         Attr::Ordered => put_text(b" ordered\n", line, at),
         Attr::Head => put_text(b" head\n", line, at),
     }

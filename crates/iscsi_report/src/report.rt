@@ -1,6 +1,6 @@
 //! A report that is written as the effects of an event come.
 
-ghost use Rattle.std.specs.Prelude.{◌≡◌, ℕ, ◌+◌, ◌*◌, ◌^◌, ◌≤◌, [], ◌++◌, ◌∷◌, length, take, List, true, false, All, OnOk, OnErr, IfOk, IsOk, vec_len};
+ghost use Rattle.std.specs.Prelude.{◌≡◌, ℕ, ◌+◌, ◌-◌, ◌*◌, ◌^◌, ◌≤◌, [], ◌++◌, ◌∷◌, length, take, List, true, false, All, OnOk, OnErr, IfOk, IsOk, vec_len};
 ghost use Rattle.std.specs.List.{flat_map};
 ghost use Rattle.iscsi_rules.specs.declared.effect.Effect.{Effect as SpecEffect};
 ghost use Rattle.iscsi_rules.specs.declared.effect.Numbers.{Numbers as SpecNumbers};
@@ -13,7 +13,7 @@ use crate::effect_line::{
 };
 use crate::event_line::write_event;
 use crate::line::put_text;
-use crate::lines::make_room;
+use crate::lines::{LONGEST_LINE, make_room};
 use crate::send_line::write_made_send;
 use crate::tens::Tens;
 use crate::vector::digits_of_four;
@@ -44,6 +44,8 @@ const NOT_YET: Numbers = Numbers { exp: 0, max: 0 };
 pub struct Report {
     memory: Vec<u8>,
     len: usize,
+    /// A line that begins before this place has room.
+    room: usize,
     /// Where numbers are to be filled in.
     places: Vec<usize>,
     /// Memory has sufficed.
@@ -58,6 +60,7 @@ impl Drop for Report {
         let Report {
             memory: _memory,
             len: _len,
+            room: _room,
             places: _places,
             is_whole: _is_whole,
             entered: _entered,
@@ -67,14 +70,15 @@ impl Drop for Report {
 }
 
 impl Model for Report {
-    ghost use Rattle.std.specs.Prelude.{◌+◌, ◌≤◌, All, take, vec_len};
+    ghost use Rattle.std.specs.Prelude.{◌+◌, ◌-◌, ◌≤◌, All, take, vec_len};
     ghost use Rattle.iscsi_report.specs.Filled.{Written};
 
     ghost Value = { Written };
 
     ghost view = { λ r. record { bytes = take r.len r.memory.items; places = r.places.items; is_whole = r.is_whole } };
 
-    ghost invariant = { λ r. (r.len ≤ vec_len r.memory) × All (λ p. p + 16 ≤ r.len) r.places.items };
+    ghost invariant = { λ r. (r.len ≤ vec_len r.memory) × (All (λ p. p + 16 ≤ r.len) r.places.items
+        × (r.room ≤ vec_len r.memory - 255)) };
 }
 
 impl Report {
@@ -85,6 +89,7 @@ impl Report {
         Report {
             memory: Vec::new(alloc),
             len: 0,
+            room: 0,
             places: Vec::new(alloc),
             is_whole: true,
             entered: Tens::new(),
@@ -99,9 +104,16 @@ impl Report {
         ensures { HasLines self.new (self.old.bytes ++ event_line event.now) [] }
     {
         // There is room for the places before there is memory for lines, so that this can grow where it lies.
-        let is_wanting = self.places.reserve(MOST_REPLIES).is_err();
-        if is_wanting || make_room(&mut self.memory, self.len).is_err() {
+        if self.places.reserve(MOST_REPLIES).is_err() {
             self.is_whole = false;
+            return;
+        }
+        if !has_room(
+            &mut self.memory,
+            &mut self.room,
+            self.len,
+            &mut self.is_whole,
+        ) {
             return;
         }
         // The digits of a ticket that is completed are kept wherever it is, since it leaves next.
@@ -156,39 +168,69 @@ impl EffectSink for Report {
 
     #[inline(always)]
     fn put_deliver(&mut self, request: &Request) {
-        if has_room(&mut self.memory, self.len, &mut self.is_whole) {
+        if has_room(
+            &mut self.memory,
+            &mut self.room,
+            self.len,
+            &mut self.is_whole,
+        ) {
             self.len = write_deliver(request, &mut self.memory, self.len);
         }
     }
 
     #[inline(always)]
     fn put_immediate(&mut self, request: &Request) {
-        if has_room(&mut self.memory, self.len, &mut self.is_whole) {
+        if has_room(
+            &mut self.memory,
+            &mut self.room,
+            self.len,
+            &mut self.is_whole,
+        ) {
             self.len = write_immediate(request, &mut self.memory, self.len);
         }
     }
 
     fn put_wait(&mut self, request: &Request) {
-        if has_room(&mut self.memory, self.len, &mut self.is_whole) {
+        if has_room(
+            &mut self.memory,
+            &mut self.room,
+            self.len,
+            &mut self.is_whole,
+        ) {
             self.len = write_request(b"  wait ", request, &mut self.memory, self.len);
         }
     }
 
     fn put_void(&mut self, sn: u32) {
-        if has_room(&mut self.memory, self.len, &mut self.is_whole) {
+        if has_room(
+            &mut self.memory,
+            &mut self.room,
+            self.len,
+            &mut self.is_whole,
+        ) {
             self.len = write_place(b"  void ", sn, &mut self.memory, self.len);
         }
     }
 
     fn put_empty(&mut self, sn: u32) {
-        if has_room(&mut self.memory, self.len, &mut self.is_whole) {
+        if has_room(
+            &mut self.memory,
+            &mut self.room,
+            self.len,
+            &mut self.is_whole,
+        ) {
             self.len = write_place(b"  empty ", sn, &mut self.memory, self.len);
         }
     }
 
     #[inline(always)]
     fn put_enter(&mut self, ticket: u64, unit: u16, attr: Attr) {
-        if has_room(&mut self.memory, self.len, &mut self.is_whole) {
+        if has_room(
+            &mut self.memory,
+            &mut self.room,
+            self.len,
+            &mut self.is_whole,
+        ) {
             self.len = write_enter(
                 ticket,
                 unit,
@@ -203,21 +245,36 @@ impl EffectSink for Report {
 
     #[inline(always)]
     fn put_enable(&mut self, ticket: u64, _unit: u16) {
-        if has_room(&mut self.memory, self.len, &mut self.is_whole) {
+        if has_room(
+            &mut self.memory,
+            &mut self.room,
+            self.len,
+            &mut self.is_whole,
+        ) {
             self.len = write_enable_near(ticket, &mut self.entered, &mut self.memory, self.len);
         }
     }
 
     #[inline(always)]
     fn put_leave(&mut self, ticket: u64, _unit: u16) {
-        if has_room(&mut self.memory, self.len, &mut self.is_whole) {
+        if has_room(
+            &mut self.memory,
+            &mut self.room,
+            self.len,
+            &mut self.is_whole,
+        ) {
             self.len = write_leave_near(ticket, &mut self.completed, &mut self.memory, self.len);
         }
     }
 
     #[inline(always)]
     fn put_send(&mut self, conn: u16, stat_sn: u32, reply: &Reply) {
-        if has_room(&mut self.memory, self.len, &mut self.is_whole) {
+        if has_room(
+            &mut self.memory,
+            &mut self.room,
+            self.len,
+            &mut self.is_whole,
+        ) {
             let end = write_reply(
                 conn,
                 stat_sn,
@@ -234,20 +291,35 @@ impl EffectSink for Report {
     }
 
     fn put_close_conn(&mut self, conn: u16) {
-        if has_room(&mut self.memory, self.len, &mut self.is_whole) {
+        if has_room(
+            &mut self.memory,
+            &mut self.room,
+            self.len,
+            &mut self.is_whole,
+        ) {
             self.len = write_closing(conn, &mut self.memory, self.len);
         }
     }
 
     fn put_close_session(&mut self) {
-        if has_room(&mut self.memory, self.len, &mut self.is_whole) {
+        if has_room(
+            &mut self.memory,
+            &mut self.room,
+            self.len,
+            &mut self.is_whole,
+        ) {
             self.len = put_text(b"  close-session\n", &mut self.memory, self.len);
         }
     }
 
     #[inline(always)]
     fn put_ignore(&mut self, why: Why) {
-        if has_room(&mut self.memory, self.len, &mut self.is_whole) {
+        if has_room(
+            &mut self.memory,
+            &mut self.room,
+            self.len,
+            &mut self.is_whole,
+        ) {
             self.len = write_ignore(why, &mut self.memory, self.len);
         }
     }
@@ -255,20 +327,42 @@ impl EffectSink for Report {
 
 /// Whether there is room for a line more. Where memory is refused there isn't, and that is noted.
 #[inline(always)]
-fn has_room(memory: &mut Vec<u8>, len: usize, is_whole: &mut bool) -> bool
-    requires { len ≤ vec_len memory.old }
+fn has_room(memory: &mut Vec<u8>, room: &mut usize, len: usize, is_whole: &mut bool) -> bool
+    requires within { len ≤ vec_len memory.old }
+    requires room { room.old ≤ vec_len memory.old - 255 }
     ensures kept { take len memory.new.items ≡ take len memory.old.items }
     ensures longer { len ≤ vec_len memory.new }
+    ensures there { room.new ≤ vec_len memory.new - 255 }
     ensures room { result ≡ true → len + 256 ≤ vec_len memory.new }
     ensures same { result ≡ true → is_whole.new ≡ is_whole.old }
     ensures wanting { result ≡ false → is_whole.new ≡ false }
     ensures whole { is_whole.new ≡ true → is_whole.old ≡ true }
 {
-    let is_there = make_room(memory, len).is_ok();
-    if !is_there {
-        *is_whole = false;
+    if len < *room {
+        return true;
     }
-    is_there
+    has_grown(memory, room, len, is_whole)
+}
+
+/// The same, where there isn't room yet.
+#[inline(never)]
+fn has_grown(memory: &mut Vec<u8>, room: &mut usize, len: usize, is_whole: &mut bool) -> bool
+    requires within { len ≤ vec_len memory.old }
+    requires room { room.old ≤ vec_len memory.old - 255 }
+    ensures kept { take len memory.new.items ≡ take len memory.old.items }
+    ensures longer { len ≤ vec_len memory.new }
+    ensures there { room.new ≤ vec_len memory.new - 255 }
+    ensures room { result ≡ true → len + 256 ≤ vec_len memory.new }
+    ensures same { result ≡ true → is_whole.new ≡ is_whole.old }
+    ensures wanting { result ≡ false → is_whole.new ≡ false }
+    ensures whole { is_whole.new ≡ true → is_whole.old ≡ true }
+{
+    if make_room(memory, len).is_err() {
+        *is_whole = false;
+        return false;
+    }
+    *room = memory.len() - (LONGEST_LINE - 1);
+    true
 }
 
 /// Writes the line of a reply, and notes where its numbers are to be filled in. On `Err` memory was wanting for that.

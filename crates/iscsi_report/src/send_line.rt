@@ -104,7 +104,9 @@ fn write_other_send(
             at,
         );
     }
-    write_any_send(conn, stat_sn, reply, numbers, line, at)
+    // A copy goes there, so that a reply that is made where this is inlined needn't stand in memory before.
+    let apart = *reply;
+    write_any_send(conn, stat_sn, &apart, numbers, line, at)
 }
 
 /// The line of a reply that is a header alone, without a target transfer tag. Most of its digits are always the same.

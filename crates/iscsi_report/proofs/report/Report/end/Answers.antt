@@ -15,6 +15,6 @@ returns-clause-text c = λ text es lines.
     let is : inside.is_whole ≡ true = c.if-not-self.false in
     let text_is : take inside.len (with_items inside.memory c.fill.new.bytes).items ≡ text ++ flat_map (λ effect. effect_line effect c.args.numbers) es =
     ap (take inside.len) (with_items_is inside.memory c.fill.new.bytes (omega (arith, c.fill.ensures.long, c.deref_mut.ensures.len)) ∙ whole)
-    ∙ filled_front c.args.numbers inside.places.items inside.memory.items inside.len c.self.invariant.1 (omega (arith, c.self.invariant.0, ap length c.deref_mut.ensures.value, c.deref_mut.ensures.len))
+    ∙ filled_front c.args.numbers inside.places.items inside.memory.items inside.len c.self.invariant.1.0 (omega (arith, c.self.invariant.0, ap length c.deref_mut.ensures.value, c.deref_mut.ensures.len))
     ∙ (rw (← c.self.view_is) at lines) is c.args.numbers in
     rw (text_is, c.clear.ensures.items, is)
