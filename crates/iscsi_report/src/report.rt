@@ -42,7 +42,7 @@ const NOT_YET: Numbers = Numbers { exp: 0, max: 0 };
 /// The lines of events and of their effects, one after another, as they come. The numbers of an event's replies are
 /// filled in at its end.
 pub struct Report {
-    memory: Vec<u8>,
+    text: Vec<u8>,
     len: usize,
     /// A line that begins before this place has room.
     room: usize,
@@ -58,7 +58,7 @@ pub struct Report {
 impl Drop for Report {
     fn drop(self) {
         let Report {
-            memory: _memory,
+            text: _text,
             len: _len,
             room: _room,
             places: _places,
@@ -75,10 +75,10 @@ impl Model for Report {
 
     ghost Value = { Written };
 
-    ghost view = { λ r. record { bytes = take r.len r.memory.items; places = r.places.items; is_whole = r.is_whole } };
+    ghost view = { λ r. record { bytes = take r.len r.text.items; places = r.places.items; is_whole = r.is_whole } };
 
-    ghost invariant = { λ r. (r.len ≤ vec_len r.memory) × (All (λ p. p + 16 ≤ r.len) r.places.items
-        × (r.room ≤ vec_len r.memory - 255)) };
+    ghost invariant = { λ r. (r.len ≤ vec_len r.text) × (All (λ p. p + 16 ≤ r.len) r.places.items
+        × (r.room ≤ vec_len r.text - 255)) };
 }
 
 impl Report {
@@ -87,7 +87,7 @@ impl Report {
         ensures { result ≡ at_rest [] }
     {
         Report {
-            memory: Vec::new(alloc),
+            text: Vec::new(alloc),
             len: 0,
             room: 0,
             places: Vec::new(alloc),
@@ -108,17 +108,12 @@ impl Report {
             self.is_whole = false;
             return;
         }
-        if !has_room(
-            &mut self.memory,
-            &mut self.room,
-            self.len,
-            &mut self.is_whole,
-        ) {
+        if !has_room(&mut self.text, &mut self.room, self.len, &mut self.is_whole) {
             return;
         }
         // The digits of a ticket that is completed are kept wherever it is, since it leaves next.
         self.completed.take_any();
-        self.len = write_event(event, &mut self.completed, &mut self.memory, self.len);
+        self.len = write_event(event, &mut self.completed, &mut self.text, self.len);
     }
 
     /// Fills in the numbers of the event. On `Err` memory was wanting, now or before.
@@ -131,7 +126,7 @@ impl Report {
         if !self.is_whole {
             return Err(AllocError);
         }
-        fill(numbers, &self.places, &mut self.memory);
+        fill(numbers, &self.places, &mut self.text);
         self.places.clear();
         Ok(())
     }
@@ -147,7 +142,7 @@ impl Report {
     pub fn as_slice(&self) -> &[u8]
         ensures { result.now ≡ self.now.bytes }
     {
-        &self.memory[..self.len]
+        &self.text[..self.len]
     }
 
     /// Drops all lines. The memory stays.
@@ -168,75 +163,45 @@ impl EffectSink for Report {
 
     #[inline(always)]
     fn put_deliver(&mut self, request: &Request) {
-        if has_room(
-            &mut self.memory,
-            &mut self.room,
-            self.len,
-            &mut self.is_whole,
-        ) {
-            self.len = write_deliver(request, &mut self.memory, self.len);
+        if has_room(&mut self.text, &mut self.room, self.len, &mut self.is_whole) {
+            self.len = write_deliver(request, &mut self.text, self.len);
         }
     }
 
     #[inline(always)]
     fn put_immediate(&mut self, request: &Request) {
-        if has_room(
-            &mut self.memory,
-            &mut self.room,
-            self.len,
-            &mut self.is_whole,
-        ) {
-            self.len = write_immediate(request, &mut self.memory, self.len);
+        if has_room(&mut self.text, &mut self.room, self.len, &mut self.is_whole) {
+            self.len = write_immediate(request, &mut self.text, self.len);
         }
     }
 
     fn put_wait(&mut self, request: &Request) {
-        if has_room(
-            &mut self.memory,
-            &mut self.room,
-            self.len,
-            &mut self.is_whole,
-        ) {
-            self.len = write_request(b"  wait ", request, &mut self.memory, self.len);
+        if has_room(&mut self.text, &mut self.room, self.len, &mut self.is_whole) {
+            self.len = write_request(b"  wait ", request, &mut self.text, self.len);
         }
     }
 
     fn put_void(&mut self, sn: u32) {
-        if has_room(
-            &mut self.memory,
-            &mut self.room,
-            self.len,
-            &mut self.is_whole,
-        ) {
-            self.len = write_place(b"  void ", sn, &mut self.memory, self.len);
+        if has_room(&mut self.text, &mut self.room, self.len, &mut self.is_whole) {
+            self.len = write_place(b"  void ", sn, &mut self.text, self.len);
         }
     }
 
     fn put_empty(&mut self, sn: u32) {
-        if has_room(
-            &mut self.memory,
-            &mut self.room,
-            self.len,
-            &mut self.is_whole,
-        ) {
-            self.len = write_place(b"  empty ", sn, &mut self.memory, self.len);
+        if has_room(&mut self.text, &mut self.room, self.len, &mut self.is_whole) {
+            self.len = write_place(b"  empty ", sn, &mut self.text, self.len);
         }
     }
 
     #[inline(always)]
     fn put_enter(&mut self, ticket: u64, unit: u16, attr: Attr) {
-        if has_room(
-            &mut self.memory,
-            &mut self.room,
-            self.len,
-            &mut self.is_whole,
-        ) {
+        if has_room(&mut self.text, &mut self.room, self.len, &mut self.is_whole) {
             self.len = write_enter(
                 ticket,
                 unit,
                 attr,
                 &mut self.entered,
-                &mut self.memory,
+                &mut self.text,
                 self.len,
             )
             .1;
@@ -245,41 +210,26 @@ impl EffectSink for Report {
 
     #[inline(always)]
     fn put_enable(&mut self, ticket: u64, _unit: u16) {
-        if has_room(
-            &mut self.memory,
-            &mut self.room,
-            self.len,
-            &mut self.is_whole,
-        ) {
-            self.len = write_enable_near(ticket, &mut self.entered, &mut self.memory, self.len);
+        if has_room(&mut self.text, &mut self.room, self.len, &mut self.is_whole) {
+            self.len = write_enable_near(ticket, &mut self.entered, &mut self.text, self.len);
         }
     }
 
     #[inline(always)]
     fn put_leave(&mut self, ticket: u64, _unit: u16) {
-        if has_room(
-            &mut self.memory,
-            &mut self.room,
-            self.len,
-            &mut self.is_whole,
-        ) {
-            self.len = write_leave_near(ticket, &mut self.completed, &mut self.memory, self.len);
+        if has_room(&mut self.text, &mut self.room, self.len, &mut self.is_whole) {
+            self.len = write_leave_near(ticket, &mut self.completed, &mut self.text, self.len);
         }
     }
 
     #[inline(always)]
     fn put_send(&mut self, conn: u16, stat_sn: u32, reply: &Reply) {
-        if has_room(
-            &mut self.memory,
-            &mut self.room,
-            self.len,
-            &mut self.is_whole,
-        ) {
+        if has_room(&mut self.text, &mut self.room, self.len, &mut self.is_whole) {
             let end = write_reply(
                 conn,
                 stat_sn,
                 reply,
-                &mut self.memory,
+                &mut self.text,
                 self.len,
                 &mut self.places,
             );
@@ -291,36 +241,21 @@ impl EffectSink for Report {
     }
 
     fn put_close_conn(&mut self, conn: u16) {
-        if has_room(
-            &mut self.memory,
-            &mut self.room,
-            self.len,
-            &mut self.is_whole,
-        ) {
-            self.len = write_closing(conn, &mut self.memory, self.len);
+        if has_room(&mut self.text, &mut self.room, self.len, &mut self.is_whole) {
+            self.len = write_closing(conn, &mut self.text, self.len);
         }
     }
 
     fn put_close_session(&mut self) {
-        if has_room(
-            &mut self.memory,
-            &mut self.room,
-            self.len,
-            &mut self.is_whole,
-        ) {
-            self.len = put_text(b"  close-session\n", &mut self.memory, self.len);
+        if has_room(&mut self.text, &mut self.room, self.len, &mut self.is_whole) {
+            self.len = put_text(b"  close-session\n", &mut self.text, self.len);
         }
     }
 
     #[inline(always)]
     fn put_ignore(&mut self, why: Why) {
-        if has_room(
-            &mut self.memory,
-            &mut self.room,
-            self.len,
-            &mut self.is_whole,
-        ) {
-            self.len = write_ignore(why, &mut self.memory, self.len);
+        if has_room(&mut self.text, &mut self.room, self.len, &mut self.is_whole) {
+            self.len = write_ignore(why, &mut self.text, self.len);
         }
     }
 }
