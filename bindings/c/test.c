@@ -174,7 +174,9 @@ static void test_memory(void) {
 
 /* What an opening asks for, by docs/USING.md. */
 static size_t formula(const cundarrix_options *options, size_t connections) {
-    return 71668 + (size_t)5574 * options->window + (size_t)(160 + 48 * options->depth) * options->units
+    size_t live = options->window + 8 * connections;
+    size_t most = options->depth < live ? options->depth : live;
+    return 71668 + (size_t)5574 * options->window + (160 + 48 * most) * options->units
         + (59626 + (size_t)462 * options->own + (size_t)328 * options->unwritten) * connections;
 }
 
