@@ -186,6 +186,7 @@ impl Lines {
 pub(crate) fn make_room(memory: &mut Vec<u8>, len: usize) -> Result<(), AllocError>
     requires { len ≤ vec_len memory.old }
     ensures room { OnOk result (len + 256 ≤ vec_len memory.new) }
+    ensures fits { len + 256 ≤ vec_len memory.old → IsOk result }
     ensures kept { take len memory.new.items ≡ take len memory.old.items }
     ensures longer { vec_len memory.old ≤ vec_len memory.new }
 {

@@ -270,6 +270,7 @@ fn has_room(memory: &mut Vec<u8>, room: &mut usize, len: usize, is_whole: &mut b
     ensures there { room.new ≤ vec_len memory.new - 255 }
     ensures room { result ≡ true → len + 256 ≤ vec_len memory.new }
     ensures same { result ≡ true → is_whole.new ≡ is_whole.old }
+    ensures fits { len + 256 ≤ vec_len memory.old → result ≡ true }
     ensures wanting { result ≡ false → is_whole.new ≡ false }
     ensures whole { is_whole.new ≡ true → is_whole.old ≡ true }
 {
@@ -289,6 +290,7 @@ fn has_grown(memory: &mut Vec<u8>, room: &mut usize, len: usize, is_whole: &mut 
     ensures there { room.new ≤ vec_len memory.new - 255 }
     ensures room { result ≡ true → len + 256 ≤ vec_len memory.new }
     ensures same { result ≡ true → is_whole.new ≡ is_whole.old }
+    ensures fits { len + 256 ≤ vec_len memory.old → result ≡ true }
     ensures wanting { result ≡ false → is_whole.new ≡ false }
     ensures whole { is_whole.new ≡ true → is_whole.old ≡ true }
 {
