@@ -263,12 +263,7 @@ fn end(log: &mut Vec<Entry>, k: usize)
     ensures log { log.new.items ≡ slice_set log.old.items k (ended (entry_at log.old.items k)) }
     ensures capacity { vec_capacity log.new ≡ vec_capacity log.old }
 {
-    let Entry { command, slot, .. } = log[k];
-    log[k] = Entry {
-        command,
-        slot,
-        is_live: false,
-    };
+    log[k].is_live = false;
 }
 
 /// Whether a ticket is greater than all of the log.

@@ -6,9 +6,7 @@ ghost use Rattle.iscsi_ffi_desk.specs.Courses.{answering, begun, executing};
 
 use iscsi_ffi_rules::StopReason;
 use iscsi_wire::Request;
-
-/// The opcode of a Logout Request (RFC 7143 section 11.14).
-const LOGOUT: u8 = 0x06;
+use iscsi_wire::opcode::LOGOUT;
 
 /// How far a walk over the effects of an event has come.
 #[derive(Clone, Copy)]

@@ -8,14 +8,9 @@ ghost use Rattle.iscsi_ffi_rules.specs.rules.Happening.{is_reset};
 ghost use Rattle.iscsi_ffi_desk.specs.Calls.{is_completing};
 
 use iscsi_rules::Effect;
+use iscsi_wire::function::{CLEAR_TASK_SET, LOGICAL_UNIT_RESET};
+use iscsi_wire::opcode::TASK_MANAGEMENT;
 use iscsi_wire::{Reply, Request};
-
-/// The opcode of a Task Management Function Request (RFC 7143 section 11.5).
-const TASK_MANAGEMENT: u8 = 0x02;
-
-const CLEAR_TASK_SET: u8 = 4;
-
-const LOGICAL_UNIT_RESET: u8 = 5;
 
 /// Whether a request executes, or is set to wait: an item begins.
 pub(crate) fn is_request(effect: &Effect) -> bool

@@ -7,6 +7,7 @@ ghost use Rattle.iscsi_ffi_handle.specs.Bytes.{bytes_of, kind_code, plain_pdu, p
 use crate::plain::PlainPdu;
 use iscsi_outbox::{Handed, Pdu, header};
 use iscsi_wire::Reply;
+use iscsi_wire::opcode::SCSI_RESPONSE;
 
 /// How many bytes a header has.
 const HEADER: usize = 48;
@@ -87,7 +88,7 @@ fn scsi_header(itt: u32, status: u8, stat_sn: u32, exp: u32, max: u32) -> [u8; 4
     ensures { result ≡ header_of (Reply.Scsi itt status None) stat_sn exp max }
 {
     let mut header = [0u8; HEADER];
-    header[..8].copy_from_slice(&[0x21, 0x80, 0, status, 0, 0, 0, 0]);
+    header[..8].copy_from_slice(&[SCSI_RESPONSE, 0x80, 0, status, 0, 0, 0, 0]);
     header[16..24].copy_from_slice(&pair(itt, 0));
     header[24..32].copy_from_slice(&pair(stat_sn, exp));
     header[32..40].copy_from_slice(&pair(max, 0));

@@ -6,6 +6,7 @@ ghost use Rattle.iscsi_host.specs.Plain.{NO_HEADER, plain_of, request_form, numb
 
 use iscsi_rules::{Effect, Numbers, Why};
 use iscsi_tasks::Attr;
+use iscsi_wire::opcode::SCSI_RESPONSE;
 use iscsi_wire::{Reply, Request};
 
 /// An effect in plain form. Fields that its kind has no use for are 0.
@@ -176,7 +177,7 @@ fn put_scsi_header(itt: u32, status: u8, stat_sn: u32, numbers: Numbers, header:
     requires { header.old ≡ NO_HEADER }
     ensures { header.new ≡ header_of (Reply.Scsi itt status None) stat_sn numbers.exp numbers.max }
 {
-    header[..8].copy_from_slice(&[0x21, 0x80, 0, status, 0, 0, 0, 0]);
+    header[..8].copy_from_slice(&[SCSI_RESPONSE, 0x80, 0, status, 0, 0, 0, 0]);
     header[16..24].copy_from_slice(&pair(itt, 0));
     header[24..32].copy_from_slice(&pair(stat_sn, numbers.exp));
     header[32..40].copy_from_slice(&pair(numbers.max, 0));

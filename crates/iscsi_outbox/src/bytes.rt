@@ -8,9 +8,8 @@ ghost use Rattle.iscsi_outbox.specs.rules.Headers.{header_of};
 use byteorder::{BigEndian, ByteOrder};
 use iscsi_outbox_rules::OwnPdu;
 use iscsi_outbox_steps::{Handed, Pdu};
-
-/// The tag of no task, and of no transfer (RFC 7143 section 11.2.1.8).
-const NO_TAG: u32 = 0xffff_ffff;
+use iscsi_wire::NO_TAG;
+use iscsi_wire::opcode::NOP_IN;
 
 /// The header of a PDU that is handed out, with its numbers (RFC 7143 chapter 11). What follows that of a reply is what
 /// `Reply::encode` has, and the data of a Data-In are the target's.
@@ -52,7 +51,7 @@ fn nop_in(transfer_tag: u32, stat_sn: u32, exp: u32, max: u32) -> [u8; 48]
     ensures { result ≡ nop_in_header transfer_tag stat_sn exp max }
 {
     let mut header = [0u8; 48];
-    header[0] = 0x20;
+    header[0] = NOP_IN;
     header[1] = 0x80;
     BigEndian::write_u32(&mut header[16..20], NO_TAG);
     BigEndian::write_u32(&mut header[20..24], transfer_tag);

@@ -252,24 +252,23 @@ fn put_attr(attr: Attr, line: &mut [u8], at: usize) -> usize
     ensures end { (at ≤ result) × (result ≤ at + 16) }
     ensures written { take result line.new ≡ take at line.old ++ (codes " " ++ (attr_word attr ++ codes "\n")) }
 {
-    // Most are of this kind.
-    if let Attr::Simple = attr {
-        let word = *b" simple\n";
-        return put_text(&word, line, at);
+    match attr {
+        // Most are of this kind.
+        Attr::Simple => {
+            let word = *b" simple\n";
+            put_text(&word, line, at)
+        }
+        Attr::Ordered => put_rarer(b" ordered\n", line, at),
+        Attr::Head => put_rarer(b" head\n", line, at),
     }
-    put_other_attr(attr, line, at)
 }
 
-/// Writes any attribute. It is apart, so that the commonest one is written where its line is.
+/// Writes a text as `put_text` does. It is apart, so that the commonest attribute is written where its line is.
 #[inline(never)]
-fn put_other_attr(attr: Attr, line: &mut [u8], at: usize) -> usize
-    requires { at + 16 ≤ length line.old }
-    ensures end { (at ≤ result) × (result ≤ at + 16) }
-    ensures written { take result line.new ≡ take at line.old ++ (codes " " ++ (attr_word attr ++ codes "\n")) }
+fn put_rarer(text: &[u8], line: &mut [u8], at: usize) -> usize
+    requires { at + length text.now ≤ length line.old }
+    ensures end { result ≡ at + length text.now }
+    ensures written { take result line.new ≡ take at line.old ++ text.now }
 {
-    match attr {
-        Attr::Simple => put_text(b" simple\n", line, at),
-        Attr::Ordered => put_text(b" ordered\n", line, at),
-        Attr::Head => put_text(b" head\n", line, at),
-    }
+    put_text(text, line, at)
 }

@@ -104,7 +104,7 @@ impl Report {
         ensures { HasLines self.new (self.old.bytes ++ event_line event.now) [] }
     {
         // There is room for the places before there is memory for lines, so that this can grow where it lies.
-        if self.places.reserve(MOST_REPLIES).is_err() {
+        if self.room <= self.len && self.places.reserve(MOST_REPLIES).is_err() {
             self.is_whole = false;
             return;
         }

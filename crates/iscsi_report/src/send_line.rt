@@ -14,12 +14,8 @@ use crate::line::{
 };
 use crate::vector::digits_of_four;
 use iscsi_rules::Numbers;
+use iscsi_wire::opcode::{SCSI_RESPONSE, TASK_RESPONSE};
 use iscsi_wire::{Pdu, Reply};
-
-/// The opcodes of a SCSI Response and of a Task Management Function Response.
-const SCSI_RESPONSE: u8 = 0x21;
-
-const TASK_RESPONSE: u8 = 0x22;
 
 /// The line of a reply. It is apart from the lines of other effects, since its header stands on the stack.
 #[inline(never)]

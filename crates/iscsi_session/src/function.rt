@@ -3,7 +3,7 @@
 ghost use Rattle.std.specs.Prelude.{◌≡◌};
 ghost use Rattle.iscsi_session.specs.private.Codes.{function_named};
 
-use iscsi_wire::Request;
+use iscsi_wire::{Request, function};
 
 /// A task management function (RFC 7143 section 11.5.1, RFC 7144).
 #[derive(Clone, Copy)]
@@ -32,13 +32,13 @@ impl Function {
         ensures { result ≡ function_named request.now }
     {
         match request.function() {
-            1 => Function::AbortTask,
-            2 => Function::AbortTaskSet,
-            4 => Function::ClearTaskSet,
-            5 => Function::LogicalUnitReset,
-            8 => Function::TaskReassign,
-            9 => Function::QueryTask,
-            10 => Function::QueryTaskSet,
+            function::ABORT_TASK => Function::AbortTask,
+            function::ABORT_TASK_SET => Function::AbortTaskSet,
+            function::CLEAR_TASK_SET => Function::ClearTaskSet,
+            function::LOGICAL_UNIT_RESET => Function::LogicalUnitReset,
+            function::TASK_REASSIGN => Function::TaskReassign,
+            function::QUERY_TASK => Function::QueryTask,
+            function::QUERY_TASK_SET => Function::QueryTaskSet,
             _ => Function::Unsupported,
         }
     }

@@ -5,7 +5,7 @@ ghost use Rattle.iscsi_rules.specs.rules.Agenda.{kind_of as kind_named};
 ghost use Rattle.iscsi_session.specs.private.Codes.{opcode_named};
 
 use iscsi_rules::Kind;
-use iscsi_wire::Request;
+use iscsi_wire::{Request, opcode};
 
 /// What a PDU of an initiator is by its opcode (RFC 7143 section 11.2.1.2).
 #[derive(Clone, Copy)]
@@ -34,13 +34,13 @@ impl Opcode {
         ensures { result ≡ opcode_named request.now }
     {
         match request.opcode() {
-            0x00 => Opcode::NopOut,
-            0x01 => Opcode::ScsiCommand,
-            0x02 => Opcode::TaskManagement,
-            0x04 => Opcode::Text,
-            0x05 => Opcode::DataOut,
-            0x06 => Opcode::Logout,
-            0x10 => Opcode::Snack,
+            opcode::NOP_OUT => Opcode::NopOut,
+            opcode::SCSI_COMMAND => Opcode::ScsiCommand,
+            opcode::TASK_MANAGEMENT => Opcode::TaskManagement,
+            opcode::TEXT => Opcode::Text,
+            opcode::DATA_OUT => Opcode::DataOut,
+            opcode::LOGOUT => Opcode::Logout,
+            opcode::SNACK => Opcode::Snack,
             _ => Opcode::Unknown,
         }
     }

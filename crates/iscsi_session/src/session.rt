@@ -297,9 +297,9 @@ impl Session {
             + 12 * (count_by is_held self.old.window.places + length self.old.waiting + 1) + 2 * length self.old.live }
         ensures capacity { S.capacity out.new ≡ S.capacity out.old }
     {
-        match *event {
-            Event::Arrive { conn, header } => self.arrive(&Request::read(conn, &header), out),
-            Event::Done { ticket, status } => self.complete(ticket, status, out),
+        match event {
+            Event::Arrive { conn, header } => self.arrive(&Request::read(*conn, header), out),
+            Event::Done { ticket, status } => self.complete(*ticket, *status, out),
         }
     }
 

@@ -136,6 +136,7 @@ impl Chain {
     }
 
     /// A member enters, behind all others: its slot.
+    #[inline(always)]
     pub(crate) fn push(&mut self, task: Task, enabled: bool, given: bool) -> u16
         requires { length self.old.slots < self.old.room }
         ensures state { self.new ≡ chained (self.old.slots ++ result ∷ [])

@@ -41,6 +41,7 @@ fn seek(chain: &Chain, ticket: u64) -> Option<u16>
 }
 
 /// The command enters behind all others: its slot.
+#[inline(always)]
 pub(crate) fn push(
     chain: &mut Chain,
     marks: &mut Marks,

@@ -10,12 +10,10 @@ use crate::held_request::HeldRequest;
 use crate::place_tags::{PlaceTags, of_one_word};
 use crate::tags::{TagBounds, TagCounts};
 use circular_buffer::HeapCircularBuffer;
+use iscsi_wire::opcode::SCSI_COMMAND;
 use iscsi_wire::unit_of;
 use std::alloc::{AllocError, Global};
 use std::marker::Model;
-
-/// The opcode of a SCSI Command.
-const SCSI_COMMAND: u8 = 0x01;
 
 /// None for a number that wasn't received, and Some of what is held for one that was.
 pub(crate) type Received = Option<Option<HeldRequest>>;

@@ -4,7 +4,9 @@
 //! No call of this crate refuses, and none takes memory.
 #![tactic(auto)]
 
+pub mod function;
 mod logical_unit;
+pub mod opcode;
 mod pdu;
 mod reply;
 mod request;
@@ -12,6 +14,6 @@ mod serial;
 
 pub use logical_unit::unit_of;
 pub use pdu::Pdu;
-pub use reply::{Reply, Sense};
+pub use reply::{NO_TAG, Reply, Sense};
 pub use request::Request;
 pub use serial::{distance, serial_add, serial_lt};

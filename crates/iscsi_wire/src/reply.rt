@@ -4,11 +4,12 @@ ghost use Rattle.std.specs.Prelude.{◌≡◌};
 ghost use Rattle.iscsi_wire.specs.Replies.{opcode_of, response_of, status_of, tag_of, transfer_tag_of, sense_bytes, header_of, tail_of};
 ghost use Rattle.iscsi_wire.specs.Pdus.{pdu_header, pdu_tail, bytes_of_tail};
 
+use crate::opcode::{LOGOUT_RESPONSE, NOP_IN, REJECT, SCSI_RESPONSE, TASK_RESPONSE};
 use crate::pdu::{Pdu, Tail};
 use byteorder::{BigEndian, ByteOrder};
 
-/// The tag that names no task (RFC 7143 section 11.2.1.8).
-const NO_TAG: u32 = 0xffff_ffff;
+/// The tag of no task, and of no transfer (RFC 7143 section 11.2.1.8).
+pub const NO_TAG: u32 = 0xffff_ffff;
 
 /// Sense data in fixed format: the sense key, the additional sense code and its qualifier (SPC).
 #[derive(Clone, Copy, Debug, PartialEq, Eq)]
@@ -54,11 +55,11 @@ impl Reply {
         ensures { result ≡ opcode_of self.now }
     {
         match self {
-            Reply::Scsi { .. } => 0x21,
-            Reply::Task { .. } => 0x22,
-            Reply::Logout { .. } => 0x26,
-            Reply::Nop { .. } => 0x20,
-            Reply::Reject { .. } => 0x3f,
+            Reply::Scsi { .. } => SCSI_RESPONSE,
+            Reply::Task { .. } => TASK_RESPONSE,
+            Reply::Logout { .. } => LOGOUT_RESPONSE,
+            Reply::Nop { .. } => NOP_IN,
+            Reply::Reject { .. } => REJECT,
         }
     }
 

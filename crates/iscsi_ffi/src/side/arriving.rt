@@ -16,10 +16,8 @@ use crate::side::events::following;
 use byteorder::{BigEndian, ByteOrder};
 use iscsi_ffi_rules::Refusal;
 use iscsi_rules::{Effect, Event};
-use iscsi_wire::Request;
-
-/// The tag of no task, and of no transfer (RFC 7143 section 11.2.1.8).
-const NO_TAG: u32 = 0xffff_ffff;
+use iscsi_wire::opcode::NOP_OUT;
+use iscsi_wire::{NO_TAG, Request};
 
 impl Side {
     /// A request PDU arrived on a connection, with the caller's word for it. Its header is heard, too.
@@ -123,7 +121,7 @@ pub(super) fn word_at(header: &[u8; 48], from: usize) -> u32
 pub(super) fn transfer_tag(header: &[u8; 48]) -> u32
     ensures { result ≡ tag_heard header.now }
 {
-    if header[0] % 64 == 0x00 {
+    if header[0] % 64 == NOP_OUT {
         word_at(header, 20)
     } else {
         NO_TAG

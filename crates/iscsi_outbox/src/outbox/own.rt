@@ -13,9 +13,8 @@ use byteorder::{BigEndian, ByteOrder};
 use iscsi_outbox_rules::{OwnPdu, PutRefusal};
 use iscsi_outbox_state::{Content, Waiting};
 use iscsi_tracked::{Command, Phase};
-
-/// The tag of no task, and of no transfer (RFC 7143 section 11.2.1.8).
-const NO_TAG: u32 = 0xffff_ffff;
+use iscsi_wire::NO_TAG;
+use iscsi_wire::opcode::{ASYNCHRONOUS_MESSAGE, DATA_IN, NOP_IN, READY_TO_TRANSFER, TEXT_RESPONSE};
 
 /// The first transfer tag that is kept for pings.
 const FIRST_PING: u32 = 0x8000_0000;
@@ -145,7 +144,7 @@ fn takes(pdu: &OwnPdu) -> bool
 {
     match pdu {
         OwnPdu::OfCommand { .. } => false,
-        OwnPdu::OfConnection { header, .. } => opcode(header) != 0x20,
+        OwnPdu::OfConnection { header, .. } => opcode(header) != NOP_IN,
     }
 }
 
@@ -156,12 +155,12 @@ fn is_fit(pdu: &OwnPdu) -> bool
 {
     match pdu {
         OwnPdu::OfCommand { header, .. } => {
-            opcode(header) == 0x31 || (opcode(header) == 0x25 && header[1] % 2 == 0)
+            opcode(header) == READY_TO_TRANSFER || (opcode(header) == DATA_IN && header[1] % 2 == 0)
         }
         OwnPdu::OfConnection { header, .. } => {
-            opcode(header) == 0x24
-                || opcode(header) == 0x32
-                || (opcode(header) == 0x20
+            opcode(header) == TEXT_RESPONSE
+                || opcode(header) == ASYNCHRONOUS_MESSAGE
+                || (opcode(header) == NOP_IN
                     && word(header, 16) == NO_TAG
                     && is_free_tag(word(header, 20)))
         }

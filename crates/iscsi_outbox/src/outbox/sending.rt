@@ -12,6 +12,8 @@ use crate::outbox::Outbox;
 use crate::outbox::settling::is_of_unit;
 use iscsi_outbox_state::{Aim, Content, SentReply, Undue, Waiting};
 use iscsi_rules::Effect;
+use iscsi_wire::function::{ABORT_TASK, ABORT_TASK_SET, CLEAR_TASK_SET, LOGICAL_UNIT_RESET};
+use iscsi_wire::opcode::TASK_MANAGEMENT;
 use iscsi_wire::{Reply, Request, unit_of};
 
 impl Outbox {
@@ -143,18 +145,20 @@ impl Outbox {
     fn aim_of_function(&self, request: &Request, response: u8) -> Option<Aim>
         ensures { result ≡ aim_of_function request.now response self.now }
     {
-        if request.opcode() != 0x02 {
+        if request.opcode() != TASK_MANAGEMENT {
             return None;
         }
         match request.function() {
-            1 if response <= 1 => match self.unit_named(request) {
+            ABORT_TASK if response <= 1 => match self.unit_named(request) {
                 Some(_) => Some(Aim::Tag(request.rtt())),
                 None => None,
             },
-            2 | 4 | 5 if response == 0 => match self.unit_named(request) {
-                Some(unit) => Some(Aim::Unit(unit)),
-                None => None,
-            },
+            ABORT_TASK_SET | CLEAR_TASK_SET | LOGICAL_UNIT_RESET if response == 0 => {
+                match self.unit_named(request) {
+                    Some(unit) => Some(Aim::Unit(unit)),
+                    None => None,
+                }
+            }
             _ => None,
         }
     }
@@ -225,5 +229,6 @@ fn is_of_logout(aim: Aim) -> bool
 fn is_reset(request: &Request) -> bool
     ensures { result ≡ is_reset request.now }
 {
-    request.opcode() == 0x02 && (request.function() == 4 || request.function() == 5)
+    request.opcode() == TASK_MANAGEMENT
+        && (request.function() == CLEAR_TASK_SET || request.function() == LOGICAL_UNIT_RESET)
 }

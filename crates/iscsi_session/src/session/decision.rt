@@ -21,10 +21,7 @@ use crate::session::waiting::MOST;
 use iscsi_commands::Live;
 use iscsi_rules::{Answer, Deed};
 use iscsi_window::Place;
-use iscsi_wire::{Request, distance};
-
-/// The tag that names no task (RFC 7143 section 11.2.1.8).
-const NO_TAG: u32 = 0xffff_ffff;
+use iscsi_wire::{NO_TAG, Request, distance};
 
 /// The greatest ATTR that names a task attribute (RFC 7143 section 11.3.1).
 const GREATEST_ATTR: u8 = 3;
