@@ -16,23 +16,23 @@ use Rattle.iscsi_rules.specs.declared.event.Event.{Event}
 use Rattle.iscsi_rules.specs.declared.event.Event.TheVariants.{Done}
 use Rattle.iscsi_rules.specs.rules.Settings.{Setting, is_known}
 use Rattle.iscsi_rules.specs.rules.Trace.{Arrival, Command, Mark, Admits, Trace, first_of, is_received, live, live_in, was_free, is_among, received, after_items, number_received, is_closed}
-use Rattle.iscsi_rules.specs.rules.Execution.{exp_of, max_of, unfinished, ignored, completion, sense_of_status, rejected}
+use Rattle.iscsi_rules.specs.rules.Execution.{exp_of, max_of, unfinished, completion, sense_of_status, rejected}
 use Rattle.iscsi_rules.specs.rules.Agenda.{with_turns, numbered, arrival_of, command_of, items_of, belongs, kind_of, arrival_as, arrival_open, arrival}
 use Rattle.iscsi_rules.specs.rules.Items.{agenda, item_of, function_item, functions_at, turn_at, immediate_item}
 use Rattle.iscsi_rules.specs.rules.Run.{newly_enabled, effects_of, trace_of, effects_of_item, stat_sn_of}
 use Rattle.iscsi_session.specs.declared.fault.SessionFault.{SessionFault}
 use Rattle.iscsi_session.specs.promises.Refusals.{refusal_of}
-use Rattle.iscsi_session.specs.private.Standing.{Core, place_of, kept, is_regular, member_of, Agrees, Settled, StandsFor, arrival_waiting}
+use Rattle.iscsi_session.specs.private.Standing.{Core, place_of, kept, is_regular, is_regular_request, member_of, Agrees, Settled, StandsFor, arrival_waiting}
 use Rattle.iscsi_session.specs.private.Steps.{find_ticket, comes_on, refusal_by, set_at, with_offered, enabled_of, enabled_in, covers_ticket, left_answered, completed, Step, Runs, Handles, HasNoMore, count_reply, is_among_open, Takes, replied, request_answered}
 use Rattle.iscsi_rules.proofs.general.BoolLemmas.{and_both, not_flip}
 use Rattle.iscsi_rules.proofs.general.ListLemmas.{list_any-map, is_known-cids, filter-swap, list_all-filter, find-passes, filtered_among, is_none}
-use Rattle.iscsi_session.proofs.WindowParts.{WindowAgrees-quiet, with_held, Next, next_request, Passed, passed_at, WindowAgrees-passed}
+use Rattle.iscsi_session.proofs.WindowParts.{WindowAgrees-quiet, Next, next_request, Passed, passed_at, WindowAgrees-passed}
 use Rattle.iscsi_rules.proofs.promises.MomentLemmas.{enables}
 use Rattle.iscsi_session.proofs.AgreeLemmas.{find_kept, lasting, Regular, regular_parts, regular_live, settled_expected, settled_max, Stepped, Stepped-ignored, step_ignored, Agrees-admitted, known_of, Agrees-untouched, RepliesAgree-sent}
 use Rattle.iscsi_rules.proofs.traces.NewlyLemmas.{newly-untouched, Untouched}
 use Rattle.iscsi_rules.proofs.general.NumberLemmas.{wire-lift}
 use Rattle.iscsi_rules.proofs.items.CommandItems.{first_passing, none_passing, ticket_alone, untouched-admits, completion_item, first_passes, quiet-completion}
-use Rattle.iscsi_session.proofs.ExecutionLemmas.{covered_in, gone_tickets, Leaving, leaving-agrees, leaving-effects}
+use Rattle.iscsi_session.proofs.ExecutionLemmas.{covered_in, gone_tickets, Leaving, leaving-agrees, leaving-effects, Follows, turned_core, turned_is, numbered_held}
 use Rattle.iscsi_tasks.specs.declared.task.Task.{Task}
 use Rattle.iscsi_wire.specs.declared.reply.Reply.{Reply}
 use Rattle.iscsi_wire.specs.declared.reply.Reply.TheVariants.{Scsi, Reject}
@@ -47,8 +47,6 @@ use Rattle.iscsi_rules.proofs.general.Missing.{expected_past}
 use Rattle.iscsi_rules.proofs.items.ReceivedItems.{turn_receives_none, function_receives_none, functions_receive_none, immediate_receives_one}
 use Rattle.iscsi_rules.proofs.traces.FlowItems.{agenda-halves, effects_of-append, same_exp, turns, turns-more}
 use Rattle.iscsi_session.proofs.WaitLemmas.{next_function, no_function}
-use Rattle.iscsi_session.proofs.ExecutionLemmas.{Follows}
-use Rattle.iscsi_session.proofs.ExecutionLemmas.{turned_core, turned_is, numbered_held}
 use Rattle.iscsi_session.proofs.FunctionLemmas.{turned-item, waited-item, immediate-item}
 use Rattle.iscsi_session.proofs.DeedLemmas.{stays_expected, executed_stays, function_stays, immediate_same}
 use Rattle.iscsi_rules.specs.declared.effect.Effect.TheVariants.{Send}
@@ -125,23 +123,22 @@ outside_test : (o : Setting) (s : Core) (t : Trace) (n : ℕ) → Settled o s t
     → (nat_lt n (exp_of o t) || nat_lt (max_of o t) n) ≡ not (nat_le (number_expected s.window) n && nat_lt n (number_expected s.window + room_of s.window))
 outside_test o s t n h = grind (arith, nat_tests, settled_max, settled_expected, outside_by)
 
--- what is taken: the request is held at its place, which was empty, and its turn may have come
-record Taken (o : Setting) (s : Core) (t : Trace) (a : Arrival) (core : Core) : Type 0 where
-  core_is : core ≡ record s { window = with_held s.window a }
-  items_are : numbered o t a ≡ with_turns o t (Admits a ∷ [])
-  new : is_received t a.number ≡ false
-  low : number_expected s.window ≤ a.number
-  high : a.number < number_expected s.window + room_of s.window
+-- the agenda as a whole
+abbrev pub whole_of : Setting → Core → Trace → List (List Mark)
+whole_of o s t = agenda o (number_expected s.window) (exp_of o t - number_expected s.window) t
 
--- what the window says of a number, by the trace
-record Answered (o : Setting) (s : Core) (t : Trace) (a : Arrival) (answer : Offer) (core : Core) : Type 0 where
-  outside : answer ≡ OutsideWindow → (core ≡ s) × (numbered o t a ≡ ignored Outside)
-  known : answer ≡ Known → (core ≡ s) × (numbered o t a ≡ ignored Duplicate)
-  taken : answer ≡ Held → Taken o s t a core
+-- what the window says of a number, and what comes of it
+pub record Answered (o : Setting) (s : Core) (t : Trace) (a : Arrival) (answer : Offer) (core : Core) : Type 0 where
+  pub outside : answer ≡ OutsideWindow → Stepped o (step_ignored core Outside) t (numbered o t a)
+  pub known : answer ≡ Known → Stepped o (step_ignored core Duplicate) t (numbered o t a)
+  -- the request is held at its place, and its turn may have come
+  pub taken : answer ≡ Held → Agrees o core ((Admits a ∷ []) ∷ t)
+      × ((numbered o t a ≡ (Admits a ∷ []) ∷ whole_of o core ((Admits a ∷ []) ∷ t))
+      × ((rest : List (List Mark)) → effects_of o t ((Admits a ∷ []) ∷ rest) ≡ effects_of o ((Admits a ∷ []) ∷ t) rest))
 
-answered : (o : Setting) (s : Core) (t : Trace) (a : Arrival) → Settled o s t → a.number ≡ lift (number_expected s.window) (cmd_sn a.request) → a.event ≡ s.taken - 1
+answered : (o : Setting) (s : Core) (t : Trace) (a : Arrival) → Settled o s t → a.number ≡ lift (number_expected s.window) (cmd_sn a.request) → a.event ≡ s.taken - 1 → is_regular_request o a.request ≡ true
     → Answered o s t a (offer_to s.window a.request) (with_offered s a.request)
-answered o s t a h number event = by_tests (nat_le (number_expected s.window) a.number && nat_lt a.number (number_expected s.window + room_of s.window)) (is_received t a.number) refl refl
+answered o s t a h number event regular = by_tests (nat_le (number_expected s.window) a.number && nat_lt a.number (number_expected s.window + room_of s.window)) (is_received t a.number) refl refl
   where
     within : (nat_le (number_expected s.window) a.number && nat_lt a.number (number_expected s.window + room_of s.window)) ≡ true → (number_expected s.window ≤ a.number) × (a.number < number_expected s.window + room_of s.window)
     within is = grind (arith, nat_tests)
@@ -154,65 +151,51 @@ answered o s t a h number event = by_tests (nat_le (number_expected s.window) a.
     by_tests : (b v : Bool) → (nat_le (number_expected s.window) a.number && nat_lt a.number (number_expected s.window + room_of s.window)) ≡ b → is_received t a.number ≡ v
         → Answered o s t a (offer_to s.window a.request) (with_offered s a.request)
     by_tests false v is there = rw (← number, is) (record {
-      outside = λ said. (refl, rw (outside_test o s t a.number h, is));
+      outside = λ said. rw (outside_test o s t a.number h, is) (Stepped-ignored o s t Outside h);
       known = λ said. absurd cc;
       taken = λ said. absurd cc;
     })
     by_tests true true is there = let at = within is in rw (← number, is, read at.0 at.1, there) (record {
       outside = λ said. absurd cc;
-      known = λ said. (refl, rw (outside_test o s t a.number h, is, there));
+      known = λ said. rw (outside_test o s t a.number h, is, there) (Stepped-ignored o s t Duplicate h);
       taken = λ said. absurd cc;
     })
-    by_tests true false is gone = let at = within is in rw (← number, is, read at.0 at.1, gone, ← event) (record {
-      outside = λ said. absurd cc;
-      known = λ said. absurd cc;
-      taken = λ said. record { core_is = refl; items_are = rw (outside_test o s t a.number h, is, gone); new = gone; low = at.0; high = at.1 };
-    })
-
-pub record Offered (o : Setting) (s : Core) (event : ℕ) (t : Trace) (r : Request) : Type 0 where
-  pub outside : offer_to s.window r ≡ OutsideWindow → Stepped o (step_ignored (with_offered s r) Outside) t (numbered o t (arrival_of o event t r))
-  pub known : offer_to s.window r ≡ Known → Stepped o (step_ignored (with_offered s r) Duplicate) t (numbered o t (arrival_of o event t r))
-  pub taken : offer_to s.window r ≡ Held → Agrees o (with_offered s r) ((Admits (arrival_of o event t r) ∷ []) ∷ t)
-      × ((numbered o t (arrival_of o event t r) ≡ (Admits (arrival_of o event t r) ∷ []) ∷ agenda o (number_expected (with_offered s r).window) (exp_of o ((Admits (arrival_of o event t r) ∷ []) ∷ t) - number_expected (with_offered s r).window) ((Admits (arrival_of o event t r) ∷ []) ∷ t))
-      × ((rest : List (List Mark)) → effects_of o t ((Admits (arrival_of o event t r) ∷ []) ∷ rest) ≡ effects_of o ((Admits (arrival_of o event t r) ∷ []) ∷ t) rest))
-
--- a numbered request that comes on one of the connections
-pub offered : (o : Setting) (s : Core) (event : ℕ) (t : Trace) (r : Request) → Settled o s t → is_immediate r ≡ false → is_known (connection_of r) o.conns ≡ true → s.taken ≡ event + 1 → Offered o s event t r
-offered o s event t r h not_immediate known taken =
-    let a : Arrival = arrival_of o event t r in
-    let t₁ : Trace = (Admits a ∷ []) ∷ t in
-    let same_exp : exp_of o t ≡ number_expected s.window = settled_expected o s t h in
-    let x = answered o s t a h (ap (λ e. lift e (cmd_sn r)) same_exp) (omega (arith, taken)) in
-    let regular = and_both _ _ (ap not not_immediate) known in
-    record {
-      outside = λ said. let f = x.outside said in rw (f.0, f.1) (Stepped-ignored o s t Outside h);
-      known = λ said. let f = x.known said in rw (f.0, f.1) (Stepped-ignored o s t Duplicate h);
-      taken = λ said.
-          let f = x.taken said in
-          let start : exp_of o t ≡ number_expected (with_offered s r).window = same_exp ∙ ap (λ (c : Core). number_expected c.window) (sym f.core_is) in (
-            rw f.core_is (Agrees-admitted o s t a h.agrees f.low f.high f.new regular (sym (wire-lift (exp_of o t) (cmd_sn r)))),
+    by_tests true false is gone =
+        let at = within is in
+        let t₁ : Trace = (Admits a ∷ []) ∷ t in
+        let items_are : numbered o t a ≡ with_turns o t (Admits a ∷ []) = rw (outside_test o s t a.number h, is, gone) in
+        rw (← number, is, read at.0 at.1, gone, ← event) (record {
+          outside = λ said. absurd cc;
+          known = λ said. absurd cc;
+          taken = λ said. (
+            Agrees-admitted o s t a h.agrees at.0 at.1 gone regular (rw (number, wire-lift)),
             (
-              f.items_are ∙ ap (λ e. (Admits a ∷ []) ∷ agenda o e (exp_of o t₁ - e) t₁) start,
+              items_are ∙ ap (λ e. (Admits a ∷ []) ∷ agenda o e (exp_of o t₁ - e) t₁) (settled_expected o s t h),
               λ rest. ap (λ cs. enables cs ++ effects_of o t₁ rest) (newly-untouched o t (Admits a ∷ []) (untouched-admits a)),
             ),
           );
-    }
+        })
+
+-- a numbered request that comes on one of the connections
+abbrev pub Offered : Setting → Core → ℕ → Trace → Request → Type 0
+Offered o s event t r = Answered o s t (arrival_of o event t r) (offer_to s.window r) (with_offered s r)
+
+pub offered_known : (o : Setting) (s : Core) (event : ℕ) (t : Trace) (r : Request) → Settled o s t → is_immediate r ≡ false → is_known (connection_of r) s.conns ≡ true → s.taken ≡ event + 1 → Offered o s event t r
+offered_known o s event t r h not_immediate known taken =
+    answered o s t (arrival_of o event t r) h (ap (λ e. lift e (cmd_sn r)) (settled_expected o s t h)) (omega (arith, taken)) (and_both _ _ (ap not not_immediate) (known_of o s t _ h.agrees known))
 
 -- ---- an event
 
 pub Settled-counted : (o : Setting) (s : Core) (t : Trace) → Settled o s t → Settled o (record s { taken = s.taken + 1 }) t
 Settled-counted o s t h = assumption
 
-pub comes_on-same : (o : Setting) (s : Core) (t : Trace) (e : Event) → Agrees o s t → comes_on s.conns e ≡ comes_on o.conns e
-comes_on-same o s t e a = grind (arith, nat_tests, is_known-cids)
-
 -- ---- refusals
 
-belongs-comes_on : (o : Setting) (e : Event) → belongs o e ≡ comes_on o.conns e
-belongs-comes_on o e = grind (arith, nat_tests)
+belongs_is : (o : Setting) (s : Core) (t : Trace) (e : Event) → Agrees o s t → comes_on s.conns e ≡ belongs o e
+belongs_is o s t e a = grind (arith, nat_tests, is_known-cids)
 
 pub refusal_is : (o : Setting) (s : Core) (h : List Event) (e : Event) → StandsFor o s h → refusal_by s e ≡ refusal_of o h e
-refusal_is o s h e stands = cc (comes_on-same o s (trace_of o h) e stands.settled.agrees, belongs-comes_on o e)
+refusal_is o s h e stands = cc (belongs_is o s (trace_of o h) e stands.settled.agrees)
 
 -- what the session found is what the definitions say
 pub refusal_as : (o : Setting) (s : Core) (h : List Event) (e : Event) (x : Option SessionFault) → StandsFor o s h → refusal_by s e ≡ x → refusal_of o h e ≡ x
@@ -263,6 +246,13 @@ Leads-item has capacity o t₀ out₀ whole s s' out out' rest rest' d item x ta
     Leads-on has o t₀ out₀ whole s s' out out' rest rest' d (item ∷ []) (subst (λ v. Agrees o v (item ∷ d.trace)) (sym takes.core) done.0) (ap (λ ns. received d.trace ++ ns) none ∙ append-nil (received d.trace)) splits
     (λ text es was. subst (λ more. has out' text (es ++ more)) (done.1 ∙ sym (append-nil (effects_of_item o d.trace item))) (takes.effects text es was))
 
+-- nothing is left of them
+Leads-done : {S : Type 0} (has : S → List ℕ → List Effect → Type 0) (o : Setting) (t₀ : Trace) (out₀ : S) (whole : List (List Mark)) (s : Core) (out : S) (rest : Trace → List (List Mark)) (d : Leads has o t₀ out₀ whole s out rest) → rest d.trace ≡ [] → Runs has o t₀ whole s out₀ out
+Leads-done has o t₀ out₀ whole s out rest d nothing = record {
+  agrees = subst (Agrees o s) (ap (λ items. after_items items d.trace) (sym nothing) ∙ d.after) d.agrees;
+  effects = λ text es was. subst (λ more. has out text (es ++ more)) (sym (append-nil d.gone) ∙ ap (λ items. d.gone ++ effects_of o d.trace items) (sym nothing) ∙ d.effects) (d.appended text es was);
+}
+
 -- where the agenda stands, before the functions of the next number and after them
 abbrev pub left_before : Setting → Trace → Core → Trace → List (List Mark)
 left_before o t₀ s t = agenda o (number_expected s.window) (exp_of o t₀ - number_expected s.window) t
@@ -275,9 +265,6 @@ Due has o t₀ out₀ whole s out = Leads has o t₀ out₀ whole s out (left_be
 
 abbrev pub DueTurn : {S : Type 0} → (S → List ℕ → List Effect → Type 0) → Setting → Trace → S → List (List Mark) → Core → S → Type 0
 DueTurn has o t₀ out₀ whole s out = Leads has o t₀ out₀ whole s out (left_after o t₀ s)
-
-abbrev pub whole_of : Setting → Core → Trace → List (List Mark)
-whole_of o s t = agenda o (number_expected s.window) (exp_of o t - number_expected s.window) t
 
 -- nothing is done yet
 begun : {S : Type 0} (has : S → List ℕ → List Effect → Type 0) (o : Setting) (s : Core) (t : Trace) (out : S) (rest : Trace → List (List Mark)) → Agrees o s t → Leads has o t out (rest t) s out rest
@@ -315,11 +302,7 @@ functions-on has capacity o t₀ out₀ whole s s' out out' (Some w) is some d t
 pub functions-done : {S : Type 0} (has : S → List ℕ → List Effect → Type 0) (o : Setting) (t₀ : Trace) (out₀ : S) (whole : List (List Mark)) (s : Core) (out : S) → next_waiting s ≡ None → Leads has o t₀ out₀ whole s out (left_functions o s) → Runs has o t₀ whole s out₀ out
 functions-done has o t₀ out₀ whole s out none d =
     let at : number_of_first o.first + s.window.turned ≡ number_expected s.window = omega (arith, d.agrees.window.first) in
-    let nothing : left_functions o s d.trace ≡ [] = subst (λ k. functions_at o k d.trace ≡ []) at (no_function o d.trace s.waiting s.window.turned d.agrees.waiting.list none) in
-    record {
-      agrees = subst (Agrees o s) (ap (λ items. after_items items d.trace) (sym nothing) ∙ d.after) d.agrees;
-      effects = λ text es was. subst (λ more. has out text (es ++ more)) (sym (append-nil d.gone) ∙ ap (λ items. d.gone ++ effects_of o d.trace items) (sym nothing) ∙ d.effects) (d.appended text es was);
-    }
+    Leads-done has o t₀ out₀ whole s out (left_functions o s) d (subst (λ k. functions_at o k d.trace ≡ []) at (no_function o d.trace s.waiting s.window.turned d.agrees.waiting.list none))
 
 -- once they are taken
 pub Due-functions : {S : Type 0} (has : S → List ℕ → List Effect → Type 0) (o : Setting) (t₀ : Trace) (out₀ : S) (whole : List (List Mark)) (s s' : Core) (out out' : S) → Due has o t₀ out₀ whole s out → number_expected s'.window ≡ number_expected s.window
@@ -337,9 +320,11 @@ none_wait has o t s out none a = functions-done has o t out (left_functions o s 
 -- ---- a turn
 
 -- its request executes, or there is none
-turned-number : {S : Type 0} (has : S → List ℕ → List Effect → Type 0) (capacity : S → ℕ) (o : Setting) (t₀ : Trace) (out₀ : S) (whole : List (List Mark)) (s s' : Core) (out out' : S) (q : Option HeldRequest) → DueTurn has o t₀ out₀ whole s out → at_place s.window 0 ≡ Some q
-    → Takes has capacity (turn_of (turned_core s) q) s' out out' → Due has o t₀ out₀ whole s' out'
-turned-number has capacity o t₀ out₀ whole s s' out out' (Some r) d place takes =
+pub turned-one : {S : Type 0} (has : S → List ℕ → List Effect → Type 0) (capacity : S → ℕ) (o : Setting) (t₀ : Trace) (out₀ : S) (whole : List (List Mark)) (s s' : Core) (out out' : S) (p : Option (Option HeldRequest)) → at_place s.window 0 ≡ p → is_some p ≡ true → DueTurn has o t₀ out₀ whole s out
+    → Takes has capacity (turn_taken s p) s' out out' → Due has o t₀ out₀ whole s' out'
+turned-one has capacity o t₀ out₀ whole s s' out out' None place some d takes = absurd cc
+turned-one has capacity o t₀ out₀ whole s s' out out' (Some (Some r)) place some d executes =
+    let takes = subst (λ (x : Step). Takes has capacity x s' out out') (turned_is s (Some r) place) executes in
     let t : Trace = d.trace in
     let e : ℕ = number_expected s.window in
     let f : ℕ = exp_of o t₀ in
@@ -352,7 +337,8 @@ turned-number has capacity o t₀ out₀ whole s s' out out' (Some r) d place ta
     let next : number_expected s'.window ≡ e + 1 = ap (λ (v : Core). number_expected v.window) takes.core ∙ stays_expected 1 (turned_core s) y.core (executed_stays (turned_core s) r.request r.event) ∙ (let z : number_expected (turned_core s).window ≡ e + 1 = omega arith in z) in
     Leads-item has capacity o t₀ out₀ whole s s' out out' (left_after o t₀ s) (left_before o t₀ s') d item y takes (turned-item o s t r d.agrees place x) (turn_receives_none o t a (numbered_held o s t r d.agrees x))
     (turns-more o e f t past ∙ ap (λ now. now ++ agenda o (e + 1) (f - (e + 1)) (after_items now t)) turn_is ∙ ap (λ k. item ∷ agenda o k (f - k) (item ∷ t)) (sym next))
-turned-number has capacity o t₀ out₀ whole s s' out out' None d place takes =
+turned-one has capacity o t₀ out₀ whole s s' out out' (Some None) place some d passes =
+    let takes = subst (λ (x : Step). Takes has capacity x s' out out') (turned_is s None place) passes in
     let t : Trace = d.trace in
     let e : ℕ = number_expected s.window in
     let f : ℕ = exp_of o t₀ in
@@ -365,44 +351,6 @@ turned-number has capacity o t₀ out₀ whole s s' out out' None d place takes 
     Leads-on has o t₀ out₀ whole s s' out out' (left_after o t₀ s) (left_before o t₀ s') d [] now refl
     (turns-more o e f t past ∙ ap (λ now. now ++ agenda o (e + 1) (f - (e + 1)) (after_items now t)) turn_is ∙ ap (λ k. agenda o k (f - k) t) (sym next)) takes.effects
 
-pub turned-one : {S : Type 0} (has : S → List ℕ → List Effect → Type 0) (capacity : S → ℕ) (o : Setting) (t₀ : Trace) (out₀ : S) (whole : List (List Mark)) (s s' : Core) (out out' : S) (p : Option (Option HeldRequest)) → at_place s.window 0 ≡ p → is_some p ≡ true → DueTurn has o t₀ out₀ whole s out
-    → Takes has capacity (turn_taken s p) s' out out' → Due has o t₀ out₀ whole s' out'
-turned-one has capacity o t₀ out₀ whole s s' out out' None here some d takes = absurd cc
-turned-one has capacity o t₀ out₀ whole s s' out out' (Some q) here some d takes =
-    turned-number has capacity o t₀ out₀ whole s s' out out' q d here (subst (λ (x : Step). Takes has capacity x s' out out') (turned_is s q here) takes)
-
--- where nothing is due any more, the agenda is done
-pub turned-all : {S : Type 0} (has : S → List ℕ → List Effect → Type 0) (o : Setting) (t₀ : Trace) (out₀ : S) (whole : List (List Mark)) (s : Core) (out : S) → DueTurn has o t₀ out₀ whole s out → at_place s.window 0 ≡ None → Handles has o t₀ whole HasNoMore s out₀ out
-turned-all has o t₀ out₀ whole s out d none =
-    let t : Trace = d.trace in
-    let e : ℕ = number_expected s.window in
-    let settled : Settled o s t = record { agrees = d.agrees; none_due = none } in
-    let done : exp_of o t₀ ≡ e = sym (same_exp o t t₀ d.same) ∙ settled_expected o s t settled in
-    let nothing : turns o e (exp_of o t₀ - e) t ≡ [] = ap (λ n. turns o e n t) (let z : exp_of o t₀ - e ≡ 0 = omega (arith, done) in z) in
-    let ends : t ≡ after_items whole t₀ = ap (λ items. after_items items t) (sym nothing) ∙ d.after in
-    record {
-      settled = subst (Settled o s) ends settled;
-      effects = λ text es was. subst (λ more. has out text (es ++ more)) (sym (append-nil d.gone) ∙ ap (λ items. d.gone ++ effects_of o t items) (sym nothing) ∙ d.effects) (d.appended text es was);
-      receives = ap received (sym ends) ∙ d.same;
-    }
-
--- what an agenda comes to, from a state on, where no function waits for its first number, which turns
-pub Handles-turned : {S : Type 0} (has : S → List ℕ → List Effect → Type 0) (capacity : S → ℕ) (o : Setting) (s s' f : Core) (t : Trace) (out out' out'' : S) (p : Option (Option HeldRequest)) → next_waiting s ≡ None → at_place s.window 0 ≡ p → is_some p ≡ true → Agrees o s t
-    → Takes has capacity (turn_taken s p) s' out out' → ((t : Trace) → Agrees o s' t → Handles has o t (whole_of o s' t) HasNoMore f out' out'') → Handles has o t (whole_of o s t) HasNoMore f out out''
-Handles-turned has capacity o s s' f t out out' out'' p none here some a takes rest =
-    let whole : List (List Mark) = whole_of o s t in
-    let due : DueTurn has o t out whole s out = Due-functions has o t out whole s s out out (Due-start has o s t out a) refl (λ o t a. none_wait has o t s out none a) in
-    let d : Due has o t out whole s' out' = turned-one has capacity o t out whole s s' out out' p here some due takes in
-    let left : whole_of o s' d.trace ≡ left_before o t s' d.trace = ap (λ e. agenda o (number_expected s'.window) (e - number_expected s'.window) d.trace) (same_exp o d.trace t d.same) in
-    let ends : after_items (whole_of o s' d.trace) d.trace ≡ after_items whole t = ap (λ items. after_items items d.trace) left ∙ d.after in
-    let c = rest d.trace d.agrees in
-    record {
-      settled = subst (Settled o f) ends c.settled;
-      effects = λ text es was. subst (has out'' text) (append_assoc es d.gone (effects_of o d.trace (whole_of o s' d.trace)) ∙ ap (λ more. es ++ more) (ap (λ items. d.gone ++ effects_of o d.trace items) left ∙ d.effects))
-          (c.effects text (es ++ d.gone) (d.appended text es was));
-      receives = ap received (sym ends) ∙ c.receives ∙ d.same;
-    }
-
 -- ==== the turns that are taken, and an arrival as a whole
 
 -- ---- turns
@@ -413,17 +361,18 @@ pub turns_done : {S : Type 0} (has : S → List ℕ → List Effect → Type 0) 
 turns_done has capacity o t₀ out₀ whole s new out out' last x d =
     let none : at_place s.window 0 ≡ None = is_none (at_place s.window 0) last in
     let same : s ≡ new = sym (x.core ∙ ap (λ p. (turn_taken s p).core) none) in
-    let c = turned-all has o t₀ out₀ whole s out d none in
+    let e : ℕ = number_expected s.window in
+    let settled : Settled o s d.trace = record { agrees = d.agrees; none_due = none } in
+    let done : exp_of o t₀ - e ≡ 0 = omega (arith, same_exp o d.trace t₀ d.same, settled_expected o s d.trace settled) in
+    let nothing : turns o e (exp_of o t₀ - e) d.trace ≡ [] = ap (λ n. turns o e n d.trace) done in
+    let c = Leads-done has o t₀ out₀ whole s out (left_after o t₀ s) d nothing in
     record {
-      settled = subst (λ (v : Core). Settled o v (after_items whole t₀)) same c.settled;
+      settled = subst (λ (v : Core). Settled o v (after_items whole t₀)) same (record { agrees = c.agrees; none_due = none });
       effects = λ text es was. subst (has out' text) (ap (λ p. (es ++ effects_of o t₀ whole) ++ (turn_taken s p).effects) none ∙ append-nil (es ++ effects_of o t₀ whole)) (x.effects text (es ++ effects_of o t₀ whole) (c.effects text es was));
-      receives = c.receives;
+      receives = ap received (sym d.after ∙ ap (λ items. after_items items d.trace) nothing) ∙ d.same;
     }
 
 -- ---- a numbered request
-
-pub offered_known : (o : Setting) (s : Core) (index : ℕ) (t : Trace) (r : Request) → Settled o s t → is_immediate r ≡ false → is_known (connection_of r) s.conns ≡ true → s.taken ≡ index + 1 → Offered o s index t r
-offered_known o s index t r h regular known now = offered o s index t r h regular (known_of o s t _ h.agrees known) now
 
 -- what an agenda comes to, from each history with which a session agrees
 abbrev pub RunsAgenda : {S : Type 0} → (S → List ℕ → List Effect → Type 0) → Core → Core → S → S → Type 0
@@ -433,10 +382,22 @@ RunsAgenda has s f out out' = (o : Setting) (t : Trace) → Agrees o s t → Han
 pub carried_at_once : {S : Type 0} (has : S → List ℕ → List Effect → Type 0) (capacity : S → ℕ) (s s' f : Core) (r : Request) (out out' out'' : S) → comes_next s r ≡ true → Takes has capacity (turn_taken (with_offered s r) (Some (Some (held_now s r)))) s' out out' → RunsAgenda has s' f out' out''
     → RunsAgenda has (with_offered s r) f out out''
 carried_at_once has capacity s s' f r out out' out'' next x rest = λ o t a.
+    let now : Core = with_offered s r in
+    let whole : List (List Mark) = whole_of o now t in
     let parts = comes_alone s r next in
-    let d : Delivered s.window (held_now s r) = delivered s.window (held_now s r) parts.1 in
-    let none : next_waiting (with_offered s r) ≡ None = ap (λ n. find (λ (w : Waiting). w.turn == n) s.waiting) d.grown_is.turned ∙ parts.0 in
-    Handles-turned has capacity o (with_offered s r) s' f t out out' out'' (Some (Some (held_now s r))) none d.first.there refl a x (rest o)
+    let come : Delivered s.window (held_now s r) = delivered s.window (held_now s r) parts.1 in
+    let none : next_waiting now ≡ None = ap (λ n. find (λ (w : Waiting). w.turn == n) s.waiting) come.grown_is.turned ∙ parts.0 in
+    let due : DueTurn has o t out whole now out = Due-functions has o t out whole now now out out (Due-start has o now t out a) refl (λ o t a. none_wait has o t now out none a) in
+    let d : Due has o t out whole s' out' = turned-one has capacity o t out whole now s' out out' (Some (Some (held_now s r))) come.first.there refl due x in
+    let left : whole_of o s' d.trace ≡ left_before o t s' d.trace = ap (λ e. agenda o (number_expected s'.window) (e - number_expected s'.window) d.trace) (same_exp o d.trace t d.same) in
+    let ends : after_items (whole_of o s' d.trace) d.trace ≡ after_items whole t = ap (λ items. after_items items d.trace) left ∙ d.after in
+    let c = rest o d.trace d.agrees in
+    record {
+      settled = subst (Settled o f) ends c.settled;
+      effects = λ text es was. subst (has out'' text) (append_assoc es d.gone (effects_of o d.trace (whole_of o s' d.trace)) ∙ ap (λ more. es ++ more) (ap (λ items. d.gone ++ effects_of o d.trace items) left ∙ d.effects))
+          (c.effects text (es ++ d.gone) (d.appended text es was));
+      receives = ap received (sym ends) ∙ c.receives ∙ d.same;
+    }
 
 -- a request that is held
 pub held_handled : {S : Type 0} (has : S → List ℕ → List Effect → Type 0) (o : Setting) (s s' f : Core) (index : ℕ) (t : Trace) (r : Request) (out out' : S) → Offered o s index t r → offer_to s.window r ≡ Held → s' ≡ with_offered s r → RunsAgenda has s' f out out'
@@ -508,9 +469,7 @@ pub opened_arrival : (o : Setting) (s : Core) (index : ℕ) (t : Trace) (r : Req
     → arrival o t (arrival_of o index t r) ≡ arrival_open o t (arrival_of o index t r)
 opened_arrival o s index t r h known there = grind (arith, nat_tests, not_flip, open_is)
 
-closed_is : (o : Setting) (s : Core) (index : ℕ) (t : Trace) (r : Request) → Agrees o s t → is_known (connection_of r) o.conns ≡ true → is_among_open (connection_of r) s.open_conns ≡ false → arrival o t (arrival_of o index t r) ≡ ignored Closed
-closed_is o s index t r h known gone = grind (arith, nat_tests, not_flip, open_is)
-
 pub closed_arrival : (o : Setting) (s : Core) (index : ℕ) (t : Trace) (r : Request) → Settled o s t → is_known (connection_of r) o.conns ≡ true → is_among_open (connection_of r) s.open_conns ≡ false
     → Stepped o (step_ignored s Closed) t (arrival o t (arrival_of o index t r))
-closed_arrival o s index t r h known gone = subst (λ items. Stepped o (step_ignored s Closed) t items) (sym (closed_is o s index t r h.agrees known gone)) (Stepped-ignored o s t Closed h)
+closed_arrival o s index t r h known gone =
+    let closed : is_closed (connection_of r) t ≡ true = grind (arith, nat_tests, not_flip, open_is o s t (connection_of r) h.agrees known) in rw closed (Stepped-ignored o s t Closed h)

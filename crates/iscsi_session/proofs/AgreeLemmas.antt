@@ -6,17 +6,17 @@ use Rattle.iscsi_tasks.specs.declared.member.Member.{Member}
 use Rattle.iscsi_tasks.specs.Sets.{is_free_among, looked_at, after_moment, is_new, next_in, given_in, Members, opened, entered_to, given_by}
 use Rattle.iscsi_rules.specs.declared.effect.Effect.TheVariants.{Enable, Ignore}
 use Rattle.iscsi_rules.specs.rules.Settings.{Setting, is_known}
-use Rattle.iscsi_rules.specs.rules.Trace.{Command, Mark, Trace, live, live_in, was_free, has, entered, leaves_ticket, is_among, first_of, are_apart, sent_on, Arrival, Admits, Ignores, after_items, waiting, is_received, received}
+use Rattle.iscsi_rules.specs.rules.Trace.{Command, Mark, Trace, live, live_in, was_free, has, entered, leaves_ticket, is_among, first_of, sent_on, Arrival, Admits, Ignores, after_items, waiting, is_received, received}
 use Rattle.iscsi_session.specs.private.Standing.{task_of, member_of, set_of, open_of, kept, is_regular, CommandsAgree, SetsAgree, stat_sn_on, RepliesAgree, Core, WaitingAgrees, WindowAgrees, is_regular_request, Agrees, Settled}
 use Rattle.iscsi_session.specs.private.Steps.{as_given, enable_effects, enable_effect, find_ticket, count_reply, Step, Handles, numbers_by}
 use Rattle.iscsi_rules.proofs.general.BoolLemmas.{and_parts, or_comm}
 use Rattle.iscsi_rules.proofs.general.ListLemmas.{list_all-filter, all_of_filter, filter-map, map-map, map_all, is_known-cids, count_by-push}
 use Rattle.iscsi_rules.proofs.promises.MomentLemmas.{enables}
-use Rattle.iscsi_rules.proofs.traces.NewlyLemmas.{all_here, filter-twice, is_here, new_in, new_in-more, was_free-stays, Untouched, live-untouched, never_free, live_in-untouched, newly-untouched}
+use Rattle.iscsi_rules.proofs.traces.NewlyLemmas.{all_here, filter-twice, is_here, new_in, new_in-more, was_free-stays, Untouched, never_free, live_in-untouched, newly-untouched}
 use Rattle.iscsi_rules.proofs.items.EnabledItems.{was_before, newly-one, EnabledSoFar-more, Exact, enabled_once, exact_now, same_enabled, shown-before, shown-item, EnabledSoFar-untouched}
 use Rattle.std.proofs.lemmas.Bool.Decides.{nat_tests}
 use Rattle.iscsi_rules.specs.rules.Logout.{is_open}
-use Rattle.iscsi_rules.proofs.traces.TraceLemmas.{filter-same, live-enters, weaker}
+use Rattle.iscsi_rules.proofs.traces.TraceLemmas.{filter-same, filter-true, live-enters, weaker}
 use Rattle.iscsi_rules.proofs.items.ClosingItems.{ClosesNone, closed-same}
 use Rattle.std.specs.List.{list_all, filter_map, list_any}
 use Rattle.std.proofs.lemmas.List.Elements.{filter-append}
@@ -24,7 +24,7 @@ use Rattle.std.proofs.lemmas.List.Folds.{list_any-append}
 use Rattle.iscsi_commands.specs.declared.live.Live.{Live}
 use Rattle.iscsi_rules.proofs.traces.ApartLemmas.{eq_sym, unamong-filter, apart-push, apart-filter}
 use Rattle.iscsi_session.proofs.ListLemmas.{list_all-push, cids-count_reply}
-use Rattle.iscsi_rules.proofs.items.CommandItems.{EntersOne, LeavesSome, entered-untouched, live-left, unfinished-untouched, untouched-admits}
+use Rattle.iscsi_rules.proofs.items.CommandItems.{EntersOne, LeavesSome, live-left, unfinished-untouched, untouched-admits}
 use Rattle.iscsi_tasks.specs.declared.task.Task.{Task}
 use Rattle.iscsi_rules.specs.rules.Run.{newly_enabled, stat_sn_of, effects_of, numbers_of}
 use Rattle.iscsi_wire.specs.Serial.{wire}
@@ -137,19 +137,6 @@ open_of-same o item t c =
 
 -- ==== the live commands that are kept agree with what has happened after one item more
 
-pub CommandsAgree-untouched : (o : Setting) (lives : List Live) (n : ℕ) (t : Trace) (item : List Mark) → Untouched item → CommandsAgree o lives n t → CommandsAgree o lives n (item ∷ t)
-CommandsAgree-untouched o lives n t item u a =
-    let same : live (item ∷ t) ≡ live t = live-untouched item t u in
-    let entries : entered (item ∷ t) ≡ entered t = entered-untouched item t u in
-    record {
-      commands = a.commands ∙ ap (map kept) (sym same);
-      regular = ap (list_all (is_regular o)) entries ∙ a.regular;
-      apart = ap are_apart same ∙ a.apart;
-      count_is = a.count_is ∙ ap length (sym entries);
-      fresh = λ k lt. ap (is_among k) entries ∙ a.fresh k (rw entries at lt);
-      unleft = λ k lt. cc (u.leaves_no k, a.unleft k (rw entries at lt));
-    }
-
 -- ---- a command enters
 
 module _ (o : Setting) (lives : List Live) (n : ℕ) (item : List Mark) (t : Trace) (c : Command) (a : CommandsAgree o lives n t) (e : EntersOne item t c) where
@@ -194,6 +181,11 @@ CommandsAgree-left o lives n t item out a l early =
       fresh = λ k lt. cc (a.fresh k (rw entries at lt));
       unleft = λ k lt. let late = rw entries at lt in cc (l.some k, early k late, a.unleft k late);
     }
+
+-- nor does any other
+pub CommandsAgree-untouched : (o : Setting) (lives : List Live) (n : ℕ) (t : Trace) (item : List Mark) → Untouched item → CommandsAgree o lives n t → CommandsAgree o lives n (item ∷ t)
+CommandsAgree-untouched o lives n t item u a =
+    subst (λ ls. CommandsAgree o ls n (item ∷ t)) (filter-true lives) (CommandsAgree-left o lives n t item (λ k. false) a (record { enters_none = u.enters_none; some = u.leaves_no }) (λ k late. refl))
 
 -- ---- the command with a ticket
 
@@ -266,14 +258,8 @@ RepliesAgree-sent o conns t item conn one known a = record {
 
 -- ---- a command enters
 
-exact-entered : (o : Setting) (lives : List Live) (n : ℕ) (item : List Mark) (t : Trace) (c : Command) → CommandsAgree o lives n t → EntersOne item t c → c.unit < o.units → was_free c t ≡ false → Exact o t → Exact o (item ∷ t)
-exact-entered o lives n item t c a e inside new x k =
-    let newly : newly_enabled o t item ≡ filter (λ d. was_free d (item ∷ t) && not (was_free d t)) (c ∷ []) =
-    newly-one o item t c.unit inside (live_in-elsewhere o lives n item t c a e) ∙ new_in-more item t c.unit (c ∷ []) (live_in-entered o lives n item t c a e) in
-    let free : Command → Bool = λ d. d.ticket == k && was_free d (item ∷ t) in
-    let old : list_any free (live t) ≡ (enabled_once o t k && not (has (leaves_ticket k) t)) = same_enabled item t k more now ∙ sym (x k) ∙ shown-before o t k in
-    rw (shown-item o t item k, newly, e.leaves_no k)
-    (by_ticket (c.ticket == k) (was_free c (item ∷ t)) (was_free c t) (enabled_once o t k) refl new ∙ sym (ap (list_any free) (live-entered o lives n item t c a e) ∙ list_any-append free (live t) (c ∷ []) ∙ rw old))
+pub EnabledSoFar-entered : (o : Setting) (lives : List Live) (n : ℕ) (item : List Mark) (t : Trace) (c : Command) → CommandsAgree o lives n t → EntersOne item t c → c.unit < o.units → was_free c t ≡ false → EnabledSoFar o t → EnabledSoFar o (item ∷ t)
+EnabledSoFar-entered o lives n item t c a e inside new x = EnabledSoFar-more o item t x exact
   where
     more : ℕ → List Command
     more unit = cond (unit == c.unit) (c ∷ []) []
@@ -281,14 +267,18 @@ exact-entered o lives n item t c a e inside new x k =
     now : (unit : ℕ) → live_in unit (item ∷ t) ≡ live_in unit t ++ more unit
     now unit = grind (arith, nat_tests, eqb-true, live_in-entered, live_in-elsewhere, append-nil)
 
-    by_ticket : (b free before was : Bool) → (c.ticket == k) ≡ b → before ≡ false
+    by_ticket : (k : ℕ) (b free before was : Bool) → (c.ticket == k) ≡ b → before ≡ false
         → ((was || is_among k (cond (free && not before) (c ∷ []) [])) && not (has (leaves_ticket k) t)) ≡ ((was && not (has (leaves_ticket k) t)) || (((c.ticket == k) && free) || false))
-    by_ticket b free before was is none = grind (arith, nat_tests, eqb-true)
+    by_ticket k b free before was is none = grind (arith, nat_tests, eqb-true)
 
--- ---- each moment
-
-pub EnabledSoFar-entered : (o : Setting) (lives : List Live) (n : ℕ) (item : List Mark) (t : Trace) (c : Command) → CommandsAgree o lives n t → EntersOne item t c → c.unit < o.units → was_free c t ≡ false → EnabledSoFar o t → EnabledSoFar o (item ∷ t)
-EnabledSoFar-entered o lives n item t c a e inside new x = EnabledSoFar-more o item t x (exact-entered o lives n item t c a e inside new (exact_now o t x))
+    exact : Exact o (item ∷ t)
+    exact k =
+        let newly : newly_enabled o t item ≡ filter (λ d. was_free d (item ∷ t) && not (was_free d t)) (c ∷ []) =
+        newly-one o item t c.unit inside (live_in-elsewhere o lives n item t c a e) ∙ new_in-more item t c.unit (c ∷ []) (live_in-entered o lives n item t c a e) in
+        let free : Command → Bool = λ d. d.ticket == k && was_free d (item ∷ t) in
+        let old : list_any free (live t) ≡ (enabled_once o t k && not (has (leaves_ticket k) t)) = same_enabled item t k more now ∙ sym (exact_now o t x k) ∙ shown-before o t k in
+        rw (shown-item o t item k, newly, e.leaves_no k)
+        (by_ticket k (c.ticket == k) (was_free c (item ∷ t)) (was_free c t) (enabled_once o t k) refl new ∙ sym (ap (list_any free) (live-entered o lives n item t c a e) ∙ list_any-append free (live t) (c ∷ []) ∙ rw old))
 
 -- ==== the whole session
 

@@ -141,10 +141,7 @@ turned_is s q h = ap (λ p. turn_of (record s { window = advanced_if s.window p 
 
 -- a request that is held is numbered
 pub numbered_held : (o : Setting) (s : Core) (t : Trace) (r : HeldRequest) (h : Agrees o s t) → (x : Next s.window t r) → is_immediate x.arrival.request ≡ false
-numbered_held o s t r h x =
-    let a : Arrival = x.arrival in
-    let regular = and_parts _ _ (h.window.requests (number_expected s.window) a (admitted_of_held t (number_expected s.window) a x.held_is)) in
-    not_true (is_immediate a.request) regular.0
+numbered_held o s t r h x = not_true _ (and_parts _ _ (h.window.requests (number_expected s.window) x.arrival (admitted_of_held t (number_expected s.window) x.arrival x.held_is))).0
 
 -- the request of the turn, as it begins to execute
 pub turn-begun : (o : Setting) (s : Core) (t : Trace) (r : HeldRequest) (h : Agrees o s t) → at_place s.window 0 ≡ Some (Some r) → (x : Next s.window t r) → Begun o (turned_core s) t (Delivers x.arrival) (Deliver x.arrival.request) x.arrival
@@ -170,9 +167,7 @@ turn-begun o s t r h place x =
 
 -- its number
 pub number_next : (o : Setting) (s : Core) (t : Trace) (r : HeldRequest) (h : Agrees o s t) → (x : Next s.window t r) → number_by (turned_core s) x.arrival.request ≡ x.arrival.number
-number_next o s t r h x =
-    let number = held-number t (number_expected s.window) x.arrival x.held_is in
-    rw (numbered_held o s t r h x) (omega (arith, number))
+number_next o s t r h x = rw (numbered_held o s t r h x) (omega (arith, held-number t (number_expected s.window) x.arrival x.held_is))
 
 pub event_next : (o : Setting) (s : Core) (t : Trace) (r : HeldRequest) (h : Agrees o s t) → (x : Next s.window t r) → event_by (turned_core s) x.arrival.request ≡ cond (is_immediate x.arrival.request) x.arrival.event 0
 event_next o s t r h x = rw (numbered_held o s t r h x)
@@ -288,11 +283,9 @@ module _ (o : Setting) (s : Core) (t : Trace) (item : List Mark) (unit : ℕ) (c
   list_is : old.list ≡ set_of o t unit
   list_is = b.lasts.sets.lists unit b.inside
 
-  early : (k : ℕ) → length (entered t) < k → out k ≡ false
-  early k late = rw (gone_tickets o t old unit list_is covers k) (unamong-filter _ k _ (unamong-filter _ k _ (unamong-filter _ k (entered t) (b.lasts.commands.fresh k late))))
-
   commands : CommandsAgree o rest s.entered (item ∷ t)
-  commands = CommandsAgree-left o s.live s.entered t item out b.lasts.commands b.leaves early
+  commands = CommandsAgree-left o s.live s.entered t item out b.lasts.commands b.leaves
+      (λ k late. rw (gone_tickets o t old unit list_is covers k) (unamong-filter _ k _ (unamong-filter _ k _ (unamong-filter _ k (entered t) (b.lasts.commands.fresh k late)))))
 
   -- the set of the unit without those that leave
   left : SetLeft o t item unit old (set_staying covers old)
@@ -325,22 +318,12 @@ module _ (o : Setting) (s : Core) (t : Trace) (item : List Mark) (unit : ℕ) (c
 
 -- a function takes them out
 pub leaving-item : (o : Setting) (s : Core) (t : Trace) (m : Mark) (e : Effect) (a : Arrival) → Begun o s t m e a → (unit : ℕ) → unit < o.units → (covers : Task → Bool) → Follows o t (leaving_item o t m a unit covers) (after_effect e (aborted s a.request unit covers))
-leaving-item o s t m e a b unit inside covers = (leaving-agrees o s t item unit covers conn reply leaving, rw (leaving-effects o s t item unit covers conn reply leaving, b.shows, leaving-shown o t gone a reply, append_assoc))
-  where
-    item : List Mark
-    item = leaving_item o t m a unit covers
-
-    conn : ℕ
-    conn = connection_of a.request
-
-    reply : Reply
-    reply = TaskReply (itt a.request) 0
-
-    gone : List Command
-    gone = covered_in o t unit covers
-
-    leaving : Leaving o s t item unit covers conn
-    leaving = record {
+leaving-item o s t m e a b unit inside covers =
+    let item : List Mark = leaving_item o t m a unit covers in
+    let conn : ℕ = connection_of a.request in
+    let reply : Reply = TaskReply (itt a.request) 0 in
+    let gone : List Command = covered_in o t unit covers in
+    let leaving : Leaving o s t item unit covers conn = record {
       lasts = b.lasts;
       window = b.window (map Leaves gone ++ reply_on a reply) (quiet-leaving gone a reply);
       replies = b.replies;
@@ -353,4 +336,5 @@ leaving-item o s t m e a b unit inside covers = (leaving-agrees o s t item unit 
         some = λ k. rw (b.leaves_no k, leaving-tickets gone a reply k) (sym (gone_tickets o t (set_at s unit) unit (b.lasts.sets.lists unit inside) covers k));
       };
       sends = rw b.sends_no (leaving-sends gone a reply);
-    }
+    } in
+    (leaving-agrees o s t item unit covers conn reply leaving, rw (leaving-effects o s t item unit covers conn reply leaving, b.shows, leaving-shown o t gone a reply, append_assoc))

@@ -1,5 +1,5 @@
 -- A request executes, whatever it does: at its turn, at its arrival, or once it has waited.
-use Rattle.std.proofs.Common.{◌≡◌, ℕ, ◌+◌, ◌==◌, ◌&&◌, Bool, true, false, [], ◌∷◌, Option, Some, None, option_map, refl, ap, sym, ◌∙◌, arith, ℤ, pos, ◌-ℤ◌, ◌-◌, ◌<◌, ◌≤◌, not, cond, nat_lt, nat_le, List, ◌++◌, length, map, set, filter, subst, length-set}
+use Rattle.std.proofs.Common.{◌≡◌, ℕ, ◌+◌, ◌==◌, ◌&&◌, Bool, true, false, [], ◌∷◌, Option, Some, None, option_map, refl, ap, sym, ◌∙◌, arith, ℤ, pos, ◌-ℤ◌, ◌-◌, ◌<◌, ◌≤◌, not, cond, nat_lt, List, ◌++◌, length, map, set, filter, subst, length-set}
 use Rattle.std.specs.List.{list_any, list_all, filter_map, flat_map}
 use Rattle.iscsi_wire.specs.declared.request.Request.{Request}
 use Rattle.iscsi_wire.specs.Serial.{wire, lift, number_of_first}
@@ -11,19 +11,17 @@ use Rattle.iscsi_rules.specs.rules.Settings.{Setting, is_known}
 use Rattle.iscsi_rules.specs.rules.Trace.{Arrival, Command, Mark, Trace, live, live_in, Executes, Delivers, Voids, Empties, Waits, Leaves, admits_at, contains, is_received, held, waiting, waiting_by, waiting_through, sent_on}
 use Rattle.iscsi_rules.specs.rules.Execution.{unit_named, exp_of, max_of, reply_of}
 use Rattle.iscsi_rules.specs.rules.Management.{live_with_tag, held_command, may_wait, waiting_on, answer, is_before, refusal}
-use Rattle.iscsi_rules.specs.rules.Deeds.{Facts, abort_deed, function_deed, deed_of, of_unit, facts_of, if_found, deed_marks}
+use Rattle.iscsi_rules.specs.rules.Deeds.{Facts, function_deed, deed_of, of_unit, facts_of, if_found, deed_marks}
 use Rattle.iscsi_session.specs.private.Standing.{Core, kept, CommandsAgree, SetsAgree, task_of, WindowAgrees, arrival_waiting, WaitingAgrees, Agrees, Settled}
 use Rattle.iscsi_session.specs.private.Deeds.{facts_by, refusal_by, live_by, deed_by, waits_by, arrival_by, Fits, position_by, carried, executed, turn_of, next_waiting, next_position, function_taken, immediate_taken}
 use Rattle.iscsi_rules.proofs.general.BoolLemmas.{and_true, and_parts}
 use Rattle.iscsi_rules.proofs.general.ListLemmas.{list_any-map, any_filter, any_same, count_by-map, list_all-filter, find-passes, find-found, filter-map}
 use Rattle.iscsi_rules.proofs.traces.NewlyLemmas.{Untouched, live_in-untouched, newly-untouched}
 use Rattle.iscsi_rules.proofs.items.DeedTable.{named_below, never_waits}
-use Rattle.iscsi_session.proofs.AgreeLemmas.{CommandsAgree-untouched}
-use Rattle.iscsi_session.proofs.AgreeLemmas.{SetsAgree-untouched}
-use Rattle.iscsi_session.proofs.FindLemmas.{tagged_in-is}
-use Rattle.iscsi_session.proofs.ExecutionLemmas.{Begun, full_is, crowded_is, untouched-begun, Follows, nothing_more, answered, enters_unit}
+use Rattle.iscsi_session.proofs.AgreeLemmas.{CommandsAgree-untouched, SetsAgree-untouched, RepliesAgree-sent, settled_expected, settled_max, Agrees-untouched, Agrees-waits}
+use Rattle.iscsi_session.proofs.FindLemmas.{tagged_in-is, Found, numbered_deed, Found-arrived, Found-turned}
+use Rattle.iscsi_session.proofs.ExecutionLemmas.{Begun, full_is, crowded_is, untouched-begun, Follows, nothing_more, answered, enters_unit, covered_in, leaving-item, turned_core, numbered_held, turn-begun, number_next, event_next}
 use Rattle.iscsi_session.proofs.LogoutItem.{open_same, session_ends, conn_closes}
-use Rattle.iscsi_session.proofs.FindLemmas.{Found, numbered_deed, Found-arrived, Found-turned}
 use Rattle.std.proofs.lemmas.Bool.Decides.{nat_tests}
 use Rattle.std.proofs.lemmas.Bool.{false≢true, eqb-true}
 use Rattle.std.proofs.lemmas.List.{append-nil, map-append}
@@ -39,16 +37,11 @@ use Rattle.iscsi_rules.specs.rules.Run.{effects_of_mark}
 use Rattle.iscsi_rules.proofs.traces.TraceLemmas.{filter-same}
 use Rattle.iscsi_rules.proofs.traces.DeliveryLemmas.{IsQuiet, received-quiet, held-quiet}
 use Rattle.iscsi_rules.proofs.traces.HeldLemmas.{held-number, admitted_of_held}
-use Rattle.iscsi_session.proofs.WindowParts.{Next, turned_window, WindowAgrees-quiet}
-use Rattle.iscsi_session.proofs.AgreeLemmas.{RepliesAgree-sent}
-use Rattle.iscsi_session.proofs.AgreeLemmas.{settled_expected, settled_max, Agrees-untouched, Agrees-waits}
+use Rattle.iscsi_session.proofs.WindowParts.{Next, turned_window, WindowAgrees-quiet, inside_bounds, WindowAgrees-voided, WindowAgrees-emptied, VoidedAt, voided_at, emptied_at}
 use Rattle.iscsi_rules.proofs.items.ClosingItems.{ClosesNone, closes-more}
 use Rattle.iscsi_rules.proofs.items.ReceivedItems.{no_abort_task, may_immediate}
 use Rattle.iscsi_rules.proofs.general.NumberLemmas.{position_eq, position_lt, wire-lift}
 use Rattle.iscsi_rules.proofs.items.EmptyingMarks.{quiet_executes}
-use Rattle.iscsi_session.proofs.ExecutionLemmas.{covered_in, leaving-item}
-use Rattle.iscsi_session.proofs.WindowParts.{inside_bounds, WindowAgrees-voided, WindowAgrees-emptied, VoidedAt, voided_at, emptied_at}
-use Rattle.iscsi_session.proofs.ExecutionLemmas.{turned_core, numbered_held, turn-begun, number_next, event_next}
 use Rattle.iscsi_wire.specs.declared.reply.Reply.TheVariants.{Task as TaskReply}
 use Rattle.iscsi_tasks.specs.declared.cover.Cover.TheVariants.{All as AllOfThem, Below}
 use Rattle.iscsi_rules.specs.declared.deed.Answer.{Answer}
@@ -58,8 +51,7 @@ use Rattle.iscsi_rules.specs.declared.deed.Deed.TheVariants.{Nothing, Wait, Repl
 use Rattle.iscsi_session.specs.private.Steps.{count_reply, and_then, after_effect, waiting_in, request_answered, number_by, event_by, covers_ticket}
 use Rattle.iscsi_rules.proofs.traces.ApartLemmas.{apart-filter}
 use Rattle.iscsi_rules.proofs.items.CommandItems.{ticket_alone}
-use Rattle.iscsi_session.proofs.DeedLemmas.{fits_deed, fits_function, is_of_number, missing_parts, is_whole, whole_function}
-use Rattle.iscsi_session.proofs.DeedLemmas.{immediate_is}
+use Rattle.iscsi_session.proofs.DeedLemmas.{fits_deed, fits_function, is_of_number, missing_parts, is_whole, whole_function, immediate_is}
 
 -- ==== a session finds what the definitions find, and so it does what they say
 
@@ -80,11 +72,8 @@ pub record Finds (f g : Facts) : Type 0 where
   pub held : f.held ≡ g.held
   pub is_missing : f.is_missing ≡ g.is_missing
 
-abort_alike : (f g : Facts) (unit : ℕ) → f.live ≡ g.live → Finds f g → abort_deed f unit ≡ abort_deed g unit
-abort_alike f g unit live x = grind (arith, nat_tests)
-
 pub function_alike : (f g : Facts) (r : Request) → Alike f g → ((function r == 1) ≡ true → Finds f g) → function_deed f r ≡ function_deed g r
-function_alike f g r a finds = grind (arith, nat_tests, abort_alike, finds)
+function_alike f g r a finds = grind (arith, nat_tests, finds)
 
 pub deed_alike : (f g : Facts) (r : Request) → Alike f g → ((function r == 1) ≡ true → Finds f g) → deed_of f r ≡ deed_of g r
 deed_alike f g r a finds = grind (arith, nat_tests, function_alike, finds)
@@ -420,28 +409,16 @@ module _ (o : Setting) (s : Core) (index : ℕ) (t : Trace) (r : Request) (h : S
 
   -- a function that isn't refused, and may wait
   becomes_by_number : may_wait r ≡ true → deed_by s r ≡ function_deed (facts_by s r) r → Becomes (waiting_item o t a) (waits_by s r)
-  becomes_by_number may executed = by_tests (nat_lt (e + room_of s.window) n) (nat_lt e n) (nat_le 4 (waiting_in s.waiting (connection_of r))) refl refl refl
-    where
-      e : ℕ
-      e = number_expected s.window
-
-      n : ℕ
-      n = lift e (cmd_sn r)
-
-      number : a.number ≡ n
-      number = rw (settled_expected o s t h)
-
-      far : nat_lt (max_of o t + 1) a.number ≡ nat_lt (e + room_of s.window) n
-      far = let most : max_of o t + 1 ≡ e + room_of s.window = omega (arith, settled_max o s t h, h.agrees.window.few) in rw (most, number)
-
-      near : nat_lt (exp_of o t) a.number ≡ nat_lt e n
-      near = rw (settled_expected o s t h)
-
-      many : waiting_on (connection_of r) t ≡ waiting_in s.waiting (connection_of r)
-      many = rw h.agrees.waiting.list (count_by-map (λ (b : Arrival). connection_of b.request == connection_of r) (arrival_waiting o.first) s.waiting)
-
-      by_tests : (b c d : Bool) → nat_lt (e + room_of s.window) n ≡ b → nat_lt e n ≡ c → nat_le 4 (waiting_in s.waiting (connection_of r)) ≡ d → Becomes (waiting_item o t a) (waits_by s r)
-      by_tests b c d f g k = grind (arith, nat_tests, far, becomes_done, near, becomes_now, many, becomes_waiting)
+  becomes_by_number may executed =
+      let e : ℕ = number_expected s.window in
+      let n : ℕ = lift e (cmd_sn r) in
+      let number : a.number ≡ n = rw (settled_expected o s t h) in
+      let most : max_of o t + 1 ≡ e + room_of s.window = omega (arith, settled_max o s t h, h.agrees.window.few) in
+      let far : nat_lt (max_of o t + 1) a.number ≡ nat_lt (e + room_of s.window) n = rw (most, number) in
+      let near : nat_lt (exp_of o t) a.number ≡ nat_lt e n = rw (settled_expected o s t h) in
+      let many : waiting_on (connection_of r) t ≡ waiting_in s.waiting (connection_of r) =
+      rw h.agrees.waiting.list (count_by-map (λ (b : Arrival). connection_of b.request == connection_of r) (arrival_waiting o.first) s.waiting) in
+      grind (arith, nat_tests, far, becomes_done, near, becomes_now, many, becomes_waiting)
 
   pub immediate-item : Follows o t (immediate_item o t (arrival_of o index t r)) (immediate_taken s r (arrival_by s r))
   immediate-item = by_function (opcode r == 0x02 && may_wait r) refl

@@ -303,10 +303,7 @@ one_leaves k unit ms up = rw (one_covered k ms up) (elim (list_any (λ m. m.task
 ungiven-given : (ms : List Member) → count_by (λ m. not m.given) (map as_given ms) + count_by is_new ms ≡ count_by (λ m. not m.given) ms
 ungiven-given [] = refl
 ungiven-given (x ∷ ms) =
-    omega (arith, one x.enabled x.given, ungiven-given ms, sum_by-cons (λ (m : Member). cond (not m.given) 1 0) (as_given x) (map as_given ms), sum_by-cons (λ m. cond (is_new m) 1 0) x ms, sum_by-cons (λ (m : Member). cond (not m.given) 1 0) x ms)
-  where
-    one : (e g : Bool) → ◌≡◌ {A = ℕ} (cond (not (g || e)) 1 0 + cond (e && not g) 1 0) (cond (not g) 1 0)
-    one e g = grind arith
+    grind (arith, ungiven-given ms, sum_by-cons (λ (m : Member). cond (not m.given) 1 0) (as_given x) (map as_given ms), sum_by-cons (λ m. cond (is_new m) 1 0) x ms, sum_by-cons (λ (m : Member). cond (not m.given) 1 0) x ms)
 
 pub owed-given : (sets : List Members) (unit : ℕ) → unit < length sets → ungiven_in (set sets unit (all_given (get_or sets unit (opened 0)))) + count_by is_new (get_or sets unit (opened 0)).list ≡ ungiven_in sets
 owed-given sets unit inside = omega (arith, ungiven_in-set sets unit (all_given (get_or sets unit (opened 0))) inside, ungiven-given (get_or sets unit (opened 0)).list)

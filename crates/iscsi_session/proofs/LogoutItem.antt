@@ -5,7 +5,7 @@ use Rattle.std.proofs.lemmas.Bool.{cases_eq}
 use Rattle.std.proofs.lemmas.List.{get_or-set_same, get_or-set_other, length-map}
 use Rattle.iscsi_tasks.specs.declared.task.Task.{Task}
 use Rattle.iscsi_tasks.specs.Sets.{opened}
-use Rattle.iscsi_session.specs.private.Standing.{Core, Agrees, WindowAgrees, CommandsAgree, SetsAgree, arrival_waiting, open_of, task_of}
+use Rattle.iscsi_session.specs.private.Standing.{Core, Agrees, WindowAgrees, CommandsAgree, arrival_waiting, open_of, task_of}
 use Rattle.iscsi_session.specs.private.Steps.{set_staying, covered_tickets, set_at, is_numbered, is_gone, leave_each, commands_left, all_commands_left, is_among_open, still_open, after_effect, units_of, all_given, enable_effects, covers_of, waiting_then, session_closes, closing_effects, logged_out}
 use Rattle.iscsi_rules.proofs.traces.TraceLemmas.{filter-same, filter-true}
 use Rattle.iscsi_rules.proofs.traces.NewlyLemmas.{filter-twice, Untouched, live-untouched, filter_all, filter-none}
@@ -28,12 +28,11 @@ use Rattle.iscsi_rules.proofs.promises.MomentLemmas.{enables}
 use Rattle.iscsi_session.proofs.AgreeLemmas.{RepliesAgree-sent, CommandsAgree-left, units_live}
 use Rattle.iscsi_rules.proofs.general.BoolLemmas.{or_false, and_false, alike, alike_same}
 use Rattle.iscsi_rules.proofs.traces.ApartLemmas.{eq_sym, unamong-filter}
-use Rattle.iscsi_rules.proofs.traces.DeliveryLemmas.{IsQuiet}
+use Rattle.iscsi_rules.proofs.items.EmptyingMarks.{quiet_none}
 use Rattle.iscsi_rules.proofs.items.CommandItems.{LeavesSome, live_in-left, among_passing, any_in_units, enters_only, leaves_only}
 use Rattle.iscsi_rules.proofs.items.EnabledItems.{EnabledSoFar-left}
 use Rattle.iscsi_rules.proofs.items.ClosingItems.{closed-same, closing_marks, quiet-closing, untouched-closing, untouched-emptied, emptied_any, emptied_sends, emptied_shown, emptied_waits, is_nil, last_is, left_any, left_sends, left_shown, left_waits, nil_is}
-use Rattle.iscsi_session.proofs.ExecutionLemmas.{Begun, Follows}
-use Rattle.iscsi_session.proofs.ExecutionLemmas.{WindowAgrees-fewer, numbered_live, gone_tickets, leaving_shown, SetLeft, set_left}
+use Rattle.iscsi_session.proofs.ExecutionLemmas.{Begun, Follows, WindowAgrees-fewer, numbered_live, gone_tickets, leaving_shown, SetLeft, set_left}
 use Rattle.iscsi_session.proofs.LoggedOutLemmas.{Keeps, left_keeps}
 use Rattle.iscsi_session.proofs.EmptyingLemmas.{taken_requests, emptied_from-is, WindowAgrees-logged_out}
 use Rattle.std.proofs.lemmas.Bool.Decides.{nat_tests}
@@ -204,9 +203,6 @@ module _ (o : Setting) (s : Core) (t : Trace) (m : Mark) (e : Effect) (a : Arriv
         some = λ n. rw (b.leaves_no n, grouped, leaves_only cs (map Empties hs ++ rest) n, emptied_any (leaves_ticket n) hs rest (λ h. refl), quiet_rest.leaves_no n, or_false) (cs_out n);
       }
 
-  early : (n : ℕ) → length (entered t) < n → out n ≡ false
-  early n late = unamong-filter asked n (live t) (unamong-filter _ n (entered t) (b.lasts.commands.fresh n late))
-
   covered_are : (unit : ℕ) → filter (λ c. covers (task_of o c)) (live_in unit t) ≡ filter asked (live_in unit t)
   covered_are unit = filter-same _ _ (live_in unit t) (covers_asked o scope)
 
@@ -218,16 +214,15 @@ module _ (o : Setting) (s : Core) (t : Trace) (m : Mark) (e : Effect) (a : Arriv
       ∙ any_in_units (goes n) o.units (live t) regular)
 
   commands : CommandsAgree o left.live s.entered (item ∷ t)
-  commands = simp (live_staying covers s 0 (length s.sets), gone_is) (CommandsAgree-left o s.live s.entered t item out b.lasts.commands leaves early)
+  commands =
+      simp (live_staying covers s 0 (length s.sets), gone_is) (CommandsAgree-left o s.live s.entered t item out b.lasts.commands leaves
+      (λ n late. unamong-filter asked n (live t) (unamong-filter _ n (entered t) (b.lasts.commands.fresh n late))))
 
   numbered : left.window.unfinished ≡ unfinished (item ∷ t)
   numbered = rw (unfinished_left covers s (units_of s) (b.lasts.unfinished_is ∙ sym (numbered_live o s.live s.entered t b.lasts.commands))) (numbered_live o left.live s.entered (item ∷ t) commands)
 
   -- the effects of leaving
-  abbrev leave_of : Command → Effect
-  leave_of c = Leave c.ticket c.unit
-
-  leaving : (all_commands_left s (units_of s) covers).effects ≡ map leave_of cs
+  leaving : (all_commands_left s (units_of s) covers).effects ≡ map (λ (c : Command). Leave c.ticket c.unit) cs
   leaving =
       rw (effects_leaving covers s 0 (length s.sets), b.lasts.sets.units, units_are, filter-flat_map, map-flat_map) (flat_map_in_range _ _ 0 o.units
       (λ unit low high. rw (leaving_shown o t (set_at s unit) unit (b.lasts.sets.lists unit (omega arith)) covers, covered_are unit)))
@@ -251,36 +246,21 @@ module _ (o : Setting) (s : Core) (t : Trace) (m : Mark) (e : Effect) (a : Arriv
   set_is : (unit : ℕ) → unit < o.units → set_at left unit ≡ set_staying covers (set_at s unit)
   set_is unit inside = sets_left covers s 0 (length s.sets) unit (omega arith) (omega arith) (omega (arith, b.lasts.sets.units))
 
-  sets : SetsAgree o (map all_given left.sets) (item ∷ t)
-  sets = record {
-    units = length-map left.sets all_given ∙ units_same;
-    lists = λ unit inside. rw (get_or-map all_given left.sets unit (opened 0), set_is unit inside) (set_after unit inside).given;
-  }
-
   enabling : flat_map (λ unit. enable_effects unit (set_at left unit).list) (units_of left) ≡ enables (newly_enabled o t item)
   enabling = rw (units_same, map-flat_map) (flat_map_in_range _ _ 0 o.units (λ unit low high. rw (set_is unit (omega arith)) (set_after unit (omega arith)).effects))
 
   -- ---- the window
 
-  quiet_none : IsQuiet []
-  quiet_none = grind arith
-
   before : WindowAgrees o s.window t₁
   before = b.window [] quiet_none
 
-  left_agrees : WindowAgrees o left.window t₁
-  left_agrees = rw k.same (WindowAgrees-fewer o s.window t₁ left.window.unfinished k.unfinished before)
-
   window : WindowAgrees o (logged_out s a.request scope).core.window (item ∷ t)
-  window = WindowAgrees-logged_out o left.window t m scope cs rest left_agrees (quiet-closing o t₁ a scope)
+  window = WindowAgrees-logged_out o left.window t m scope cs rest (rw k.same (WindowAgrees-fewer o s.window t₁ left.window.unfinished k.unfinished before)) (quiet-closing o t₁ a scope)
 
   -- ---- the connections
 
   abbrev cids : List ℕ
   cids = map (λ (c : ℕ × ℕ). c.0) o.conns
-
-  sends : filter_map sent_on item ≡ conn ∷ []
-  sends = rw (b.sends_no, grouped, left_sends, emptied_sends) (closing_sends o t₁ a scope)
 
   -- none stays open but for the one that closes
   last_open : (closing : ℕ) → is_nil (still_open (Some closing) s.open_conns) ≡ is_last_open o t₁ closing
@@ -311,9 +291,6 @@ module _ (o : Setting) (s : Core) (t : Trace) (m : Mark) (e : Effect) (a : Arriv
 
   -- ---- what waits still
 
-  abbrev stays : Waiting → Bool
-  stays w = not (is_asked scope (connection_of w.request))
-
   waits : waiting_through marks (waiting_by m (waiting t)) ≡ map (arrival_waiting o.first) (logged_out s a.request scope).core.waiting
   waits = rw (b.waits.list, append_assoc, left_waits, emptied_waits, k.same) (rest_waits scope)
     where
@@ -322,7 +299,7 @@ module _ (o : Setting) (s : Core) (t : Trace) (m : Mark) (e : Effect) (a : Arriv
       rest_waits x = grind (arith, nat_tests, none_stay, last_open, filter-map)
 
   still_all : (test : Waiting → Bool) → list_all test s.waiting ≡ true → list_all test (logged_out s a.request scope).core.waiting ≡ true
-  still_all test h = rw k.same (grind (arith, list_all-filter stays test s.waiting h))
+  still_all test h = rw k.same (grind (arith, list_all-filter (λ w. not (is_asked scope (connection_of w.request))) test s.waiting h))
 
   -- ---- the whole
 
@@ -330,9 +307,12 @@ module _ (o : Setting) (s : Core) (t : Trace) (m : Mark) (e : Effect) (a : Arriv
   agrees = record {
     events = rw k.same b.lasts.events;
     window = window;
-    replies = rw k.same (RepliesAgree-sent o s.conns t item conn sends b.known b.replies);
+    replies = rw k.same (RepliesAgree-sent o s.conns t item conn (rw (b.sends_no, grouped, left_sends, emptied_sends) (closing_sends o t₁ a scope)) b.known b.replies);
     commands = rw k.same commands;
-    sets = sets;
+    sets = record {
+      units = length-map left.sets all_given ∙ units_same;
+      lists = λ unit inside. rw (get_or-map all_given left.sets unit (opened 0), set_is unit inside) (set_after unit inside).given;
+    };
     depth = rw k.same b.lasts.depth;
     unfinished = numbered;
     enabled = EnabledSoFar-left o item t out leaves (units_live o left.live s.entered (item ∷ t) commands) b.lasts.enabled;
