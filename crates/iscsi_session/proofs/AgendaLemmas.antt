@@ -89,9 +89,6 @@ Stepped-completed o s t c ticket status h found =
     }
 
 -- what a session finds by the ticket
-enabled_in_set : (o : Setting) (s : Core) (t : Trace) (ticket : ℕ) (c : Command) → Agrees o s t → c.unit < o.units → is_enabled_in ticket (set_at s c.unit).list ≡ list_any (λ d. d.ticket == ticket && was_free d t) (live_in c.unit t)
-enabled_in_set o s t ticket c a inside = ap (is_enabled_in ticket) (a.sets.lists c.unit inside) ∙ list_any-map (λ (m : Member). m.task.ticket == ticket && m.enabled) (member_of o t) (live_in c.unit t)
-
 pub Stepped-completion : (o : Setting) (s : Core) (t : Trace) (event ticket status : ℕ) → Settled o s t
     → Stepped o (completed s (enabled_in s.sets s.live ticket) status) t (items_of o event t (Done ticket status))
 Stepped-completion o s t event ticket status h = by_ticket (first_of (filter (λ d. d.ticket == ticket) (live t))) refl
@@ -107,7 +104,9 @@ Stepped-completion o s t event ticket status h = by_ticket (first_of (filter (λ
         by_test b is =
             let r : Regular o c = regular_parts o c (first_passes (λ d. d.ticket == ticket) (is_regular o) (live t) c (regular_live o s.live s.entered t h.agrees.commands) found) in
             let one = first_passing (λ d. was_free d t) ticket (live t) c h.agrees.commands.apart found in
-            rw (kept_is, found, enabled_in_set o s t ticket c h.agrees r.unit, one.1, one.0, is) (by_free b)
+            let enabled_here : is_enabled_in ticket (set_at s c.unit).list ≡ list_any (λ d. d.ticket == ticket && was_free d t) (live_in c.unit t) =
+            ap (is_enabled_in ticket) (h.agrees.sets.lists c.unit r.unit) ∙ list_any-map (λ (m : Member). m.task.ticket == ticket && m.enabled) (member_of o t) (live_in c.unit t) in
+            rw (kept_is, found, enabled_here, one.1, one.0, is) (by_free b)
           where
             by_free : (b : Bool) → Stepped o (completed s (cond b (Some (kept c)) None) status) t (completion status (cond b (Some c) None))
             by_free true = Stepped-completed o s t c ticket status h found
@@ -116,12 +115,9 @@ Stepped-completion o s t event ticket status h = by_ticket (first_of (filter (λ
 -- ---- an arrival
 
 -- the number is outside the window of the definitions just where the window says so
-outside_by : (e long unfinished n : ℕ) → 0 < e → unfinished ≤ long → (nat_lt n e || nat_lt (e + long - 1 - unfinished) n) ≡ not (nat_le e n && nat_lt n (e + (long - unfinished)))
-outside_by e long unfinished n some few = grind (arith, nat_tests)
-
 outside_test : (o : Setting) (s : Core) (t : Trace) (n : ℕ) → Settled o s t
     → (nat_lt n (exp_of o t) || nat_lt (max_of o t) n) ≡ not (nat_le (number_expected s.window) n && nat_lt n (number_expected s.window + room_of s.window))
-outside_test o s t n h = grind (arith, nat_tests, settled_max, settled_expected, outside_by)
+outside_test o s t n h = grind (arith, nat_tests, settled_max o s t h, settled_expected o s t h, h.agrees.window.few)
 
 -- the agenda as a whole
 abbrev pub whole_of : Setting → Core → Trace → List (List Mark)
@@ -229,15 +225,9 @@ Leads-on has o t₀ out₀ whole s s' out out' rest rest' d items agrees same sp
   same = same ∙ d.same;
   gone = d.gone ++ effects_of o d.trace items;
   appended = λ text es was. subst (has out' text) (append_assoc es d.gone (effects_of o d.trace items)) (given text (es ++ d.gone) (d.appended text es was));
-  effects = left;
-  after = later;
+  effects = grind (arith, nat_tests, append_assoc, effects_of-append, d.effects);
+  after = grind (arith, nat_tests, after_items-append, d.after);
 }
-  where
-    left : (d.gone ++ effects_of o d.trace items) ++ effects_of o (after_items items d.trace) (rest' (after_items items d.trace)) ≡ effects_of o t₀ whole
-    left = grind (arith, nat_tests, append_assoc, effects_of-append, d.effects)
-
-    later : after_items (rest' (after_items items d.trace)) (after_items items d.trace) ≡ after_items whole t₀
-    later = grind (arith, nat_tests, after_items-append, d.after)
 
 -- one item more
 Leads-item : {S : Type 0} (has : S → List ℕ → List Effect → Type 0) (capacity : S → ℕ) (o : Setting) (t₀ : Trace) (out₀ : S) (whole : List (List Mark)) (s s' : Core) (out out' : S) (rest rest' : Trace → List (List Mark)) (d : Leads has o t₀ out₀ whole s out rest) (item : List Mark) (x : Step)

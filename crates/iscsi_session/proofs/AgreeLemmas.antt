@@ -93,16 +93,9 @@ set_of-same o item t unit now = ap (map (member_of o (item ∷ t))) now ∙ set_
 
 -- ---- a set that a command enters: only that one can be new
 
-never : (b : Bool) → (b && not b) ≡ false
-never b = grind arith
-
-given-past : (o : Setting) (t : Trace) (cs : List Command) (ms : List Member) → given_in (map (member_of o t) cs ++ ms) ≡ map (member_of o t) cs ++ given_in ms
-given-past o t [] ms = refl
-given-past o t (c ∷ cs) ms = cc (never (was_free c t), given-past o t cs ms)
-
-next-past : (o : Setting) (t : Trace) (cs : List Command) (ms : List Member) → next_in (map (member_of o t) cs ++ ms) ≡ next_in ms
-next-past o t [] ms = refl
-next-past o t (c ∷ cs) ms = cc (never (was_free c t), next-past o t cs ms)
+past : (o : Setting) (t : Trace) (cs : List Command) (ms : List Member) → (given_in (map (member_of o t) cs ++ ms) ≡ map (member_of o t) cs ++ given_in ms) × (next_in (map (member_of o t) cs ++ ms) ≡ next_in ms)
+past o t [] ms = (refl, refl)
+past o t (c ∷ cs) ms = let rest = past o t cs ms in (grind (arith, rest.0), grind (arith, rest.1))
 
 pub record EnteredSet (o : Setting) (t : Trace) (item : List Mark) (c : Command) (list : List Member) : Type 0 where
   pub given : given_in (after_moment list) ≡ set_of o (item ∷ t) c.unit
@@ -119,8 +112,8 @@ set-entered o t item c now new =
     let moment : after_moment (set_of o t c.unit ++ record { task = task_of o c; enabled = false; given = false } ∷ []) ≡ set_of o t c.unit ++ newcomer ∷ [] =
     cc (map-append (member_of o t) before (c ∷ []), noted o t item c.unit, map-append (noted_member o t item) before (c ∷ [])) in
     record {
-      given = cc (given-past o t before (newcomer ∷ []), given_one free, set_of-stays o item t c.unit (c ∷ []) now, map-append (member_of o (item ∷ t)) before (c ∷ []));
-      effects = cc (next-past o t before (newcomer ∷ []), effect_one free, new_in-more item t c.unit (c ∷ []) now);
+      given = cc ((past o t before (newcomer ∷ [])).0, given_one free, set_of-stays o item t c.unit (c ∷ []) now, map-append (member_of o (item ∷ t)) before (c ∷ []));
+      effects = cc ((past o t before (newcomer ∷ [])).1, effect_one free, new_in-more item t c.unit (c ∷ []) now);
     }
   where
     given_one : (b : Bool) → given_in (record { task = task_of o c; enabled = b; given = false } ∷ []) ≡ record { task = task_of o c; enabled = b; given = b } ∷ []

@@ -187,13 +187,9 @@ numbered_live o lives n t a = rw a.commands (count_by-map is_numbered kept (live
 -- ---- the set of a unit, after the covered ones left
 
 -- a set that nothing leaves, once every enabled command is given
-given_already : (o : Setting) (t : Trace) (cs : List Command) → map as_given (map (member_of o t) cs) ≡ map (member_of o t) cs
-given_already o t [] = refl
-given_already o t (c ∷ cs) = grind (arith, given_already o t cs)
-
-none_given : (o : Setting) (t : Trace) (unit : ℕ) (cs : List Command) → enable_effects unit (map (member_of o t) cs) ≡ []
-none_given o t unit [] = refl
-none_given o t unit (c ∷ cs) = grind (arith, none_given o t unit cs)
+as_it_was : (o : Setting) (t : Trace) (unit : ℕ) (cs : List Command) → (map as_given (map (member_of o t) cs) ≡ map (member_of o t) cs) × (enable_effects unit (map (member_of o t) cs) ≡ [])
+as_it_was o t unit [] = (refl, refl)
+as_it_was o t unit (c ∷ cs) = let rest = as_it_was o t unit cs in (grind (arith, rest.0), grind (arith, rest.1))
 
 -- what it is then, and what its unit is told
 pub record SetLeft (o : Setting) (t : Trace) (item : List Mark) (unit : ℕ) (old set : Members) : Type 0 where
@@ -212,8 +208,8 @@ set_left o t item unit old covers list_is stay = by_test (has_covered covers old
     by_test false none =
         let same : live_in unit (item ∷ t) ≡ live_in unit t = rw stay (none_out _ (live_in unit t) (rw (list_is, list_any-map) at none)) in
         rw none (record {
-          given = rw (list_is, set_of-same o item t unit same) (given_already o t (live_in unit t));
-          effects = rw (list_is, new_in-none item t unit same) (none_given o t unit (live_in unit t));
+          given = rw (list_is, set_of-same o item t unit same) (as_it_was o t unit (live_in unit t)).0;
+          effects = rw (list_is, new_in-none item t unit same) (as_it_was o t unit (live_in unit t)).1;
         })
 
 -- ---- commands of a unit leave

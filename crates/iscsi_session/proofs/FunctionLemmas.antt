@@ -113,13 +113,10 @@ module _ (o : Setting) (s : Core) (t : Trace) (m : Mark) (e : Effect) (a : Arriv
     is_used = sym (asked (λ c. itt c.arrival.request == itt a.request) (λ l. l.itt == itt a.request) (λ c. refl));
     is_crowded = sym (crowded_is s t₁ a.request commands.commands);
     is_full = rw b.lasts.sets.units (of_unit-same (unit_named o.units a.request) false _ _ (λ unit is. sym (full_is o s t₁ unit sets b.lasts.depth (named_below o.units a.request unit is))));
-    has_commands = rw b.lasts.sets.units (of_unit-same (unit_named o.units a.request) false _ _ (λ unit is. has unit));
+    has_commands = rw b.lasts.sets.units (of_unit-same (unit_named o.units a.request) false _ _ (λ unit is. rw (any_filter, asked (λ c. c.unit == unit && true) (λ l. l.unit == unit) (λ c. sym (and_true (c.unit == unit))))));
     live = rw b.lasts.sets.units (of_unit-same (unit_named o.units a.request) None _ _ (λ unit is. ticket_kept (live_with_tag t₁ (rtt a.request) unit) ∙ ap (option_map (λ (l : Live). l.ticket)) (sym (tagged_in-is s t₁ (rtt a.request) unit commands.commands))));
     is_open = sym (open_same o s t m e a b (cid a.request));
   }
-    where
-      has : (unit : ℕ) → list_any (λ c. true) (live_in unit t₁) ≡ list_any (λ l. l.unit == unit) s.live
-      has unit = rw (any_filter, asked (λ c. c.unit == unit && true) (λ l. l.unit == unit) (λ c. sym (and_true (c.unit == unit))))
 
   finds : Found o s t₁ a → Finds (facts_of o t₁ a) (facts_by s a.request)
   finds x = record {

@@ -153,13 +153,10 @@ module _ (sets : List Members) (lives : List Live) (unit : ℕ) (covers : Task �
   pub rises : rising (tickets here.list) ≡ true
   rises = rw (m unit inside) (rising_in unit lives up)
 
-  goes_in : (t : ℕ) → not (is_in unit lives t) ≡ true → not (is_gone covers here t) ≡ true
-  goes_in t absent = grind (arith, none_covered covers t here.list, m unit inside)
-
   pub Match-staying : Match (set sets unit (set_staying covers here)) (staying covers here lives)
   Match-staying = match_set sets lives (staying covers here lives) unit (set_staying covers here) inside m
       (rw (left_tickets covers here rises, m unit inside, live_tickets (is_gone covers here)))
-      (λ u apart. rw (live_tickets (is_gone covers here)) (filter_every _ _ (weaker _ _ (tickets_in u lives) goes_in (apart_units unit u lives apart up))))
+      (λ u apart. rw (live_tickets (is_gone covers here)) (filter_every _ _ (weaker _ _ (tickets_in u lives) (λ t absent. grind (arith, none_covered covers t here.list, m unit inside)) (apart_units unit u lives apart up))))
 
 -- ---- what is owed
 

@@ -218,9 +218,6 @@ module _ (o : Setting) (s : Core) (t : Trace) (m : Mark) (e : Effect) (a : Arriv
       simp (live_staying covers s 0 (length s.sets), gone_is) (CommandsAgree-left o s.live s.entered t item out b.lasts.commands leaves
       (λ n late. unamong-filter asked n (live t) (unamong-filter _ n (entered t) (b.lasts.commands.fresh n late))))
 
-  numbered : left.window.unfinished ≡ unfinished (item ∷ t)
-  numbered = rw (unfinished_left covers s (units_of s) (b.lasts.unfinished_is ∙ sym (numbered_live o s.live s.entered t b.lasts.commands))) (numbered_live o left.live s.entered (item ∷ t) commands)
-
   -- the effects of leaving
   leaving : (all_commands_left s (units_of s) covers).effects ≡ map (λ (c : Command). Leave c.ticket c.unit) cs
   leaving =
@@ -314,7 +311,7 @@ module _ (o : Setting) (s : Core) (t : Trace) (m : Mark) (e : Effect) (a : Arriv
       lists = λ unit inside. rw (get_or-map all_given left.sets unit (opened 0), set_is unit inside) (set_after unit inside).given;
     };
     depth = rw k.same b.lasts.depth;
-    unfinished = numbered;
+    unfinished = rw (unfinished_left covers s (units_of s) (b.lasts.unfinished_is ∙ sym (numbered_live o s.live s.entered t b.lasts.commands))) (numbered_live o left.live s.entered (item ∷ t) commands);
     enabled = EnabledSoFar-left o item t out leaves (units_live o left.live s.entered (item ∷ t) commands) b.lasts.enabled;
     level = rw k.same b.lasts.level;
     waiting = record { list = waits; may = still_all (λ w. may_wait w.request) b.waits.may; known = still_all (λ w. is_known (connection_of w.request) o.conns) b.waits.known };
