@@ -16,7 +16,7 @@ use Rattle.iscsi_rules.specs.declared.event.Event.{Event}
 use Rattle.iscsi_rules.specs.declared.event.Event.TheVariants.{Done}
 use Rattle.iscsi_rules.specs.rules.Settings.{Setting, is_known}
 use Rattle.iscsi_rules.specs.rules.Trace.{Arrival, Command, Mark, Admits, Trace, first_of, is_received, live, live_in, was_free, is_among, received, after_items, number_received, is_closed}
-use Rattle.iscsi_rules.specs.rules.Execution.{exp_of, max_of, unfinished, completion, sense_of_status, rejected}
+use Rattle.iscsi_rules.specs.rules.Execution.{exp_of, max_of, completion, sense_of_status, rejected}
 use Rattle.iscsi_rules.specs.rules.Agenda.{with_turns, numbered, arrival_of, command_of, items_of, belongs, kind_of, arrival_as, arrival_open, arrival}
 use Rattle.iscsi_rules.specs.rules.Items.{agenda, item_of, function_item, functions_at, turn_at, immediate_item}
 use Rattle.iscsi_rules.specs.rules.Run.{newly_enabled, effects_of, trace_of, effects_of_item, stat_sn_of}
@@ -269,9 +269,6 @@ Due-start has o s₀ t₀ out₀ a = begun has o s₀ t₀ out₀ (left_before o
 abbrev pub left_functions : Setting → Core → Trace → List (List Mark)
 left_functions o s t = functions_at o (number_expected s.window) t
 
-functions_at_receive_none : (o : Setting) (s : Core) (t : Trace) (n : ℕ) → Agrees o s t → received (after_items (functions_at o n t) t) ≡ received t
-functions_at_receive_none o s t n a = grind (arith, nat_tests, functions_receive_none, list_all-filter, list_all-map)
-
 -- the next one executes
 pub functions-on : {S : Type 0} (has : S → List ℕ → List Effect → Type 0) (capacity : S → ℕ) (o : Setting) (t₀ : Trace) (out₀ : S) (whole : List (List Mark)) (s s' : Core) (out out' : S) (x : Option Waiting) → next_waiting s ≡ x → is_some x ≡ true → Leads has o t₀ out₀ whole s out (left_functions o s)
     → Takes has capacity (function_taken s x) s' out out' → Leads has o t₀ out₀ whole s' out' (left_functions o s')
@@ -300,7 +297,8 @@ pub Due-functions : {S : Type 0} (has : S → List ℕ → List Effect → Type 
 Due-functions has o t₀ out₀ whole s s' out out' d same runs =
     let n : ℕ = number_expected s.window in
     let r = runs o d.trace d.agrees in
-    Leads-on has o t₀ out₀ whole s s' out out' (left_before o t₀ s) (left_after o t₀ s') d (functions_at o n d.trace) r.agrees (functions_at_receive_none o s d.trace n d.agrees)
+    let none : received (after_items (functions_at o n d.trace) d.trace) ≡ received d.trace = grind (arith, nat_tests, functions_receive_none, list_all-filter, list_all-map, d.agrees.waiting) in
+    Leads-on has o t₀ out₀ whole s s' out out' (left_before o t₀ s) (left_after o t₀ s') d (functions_at o n d.trace) r.agrees none
     (agenda-halves o n (exp_of o t₀ - n) d.trace ∙ ap (λ k. functions_at o n d.trace ++ turns o k (exp_of o t₀ - k) (after_items (functions_at o n d.trace) d.trace)) (sym same)) r.effects
 
 -- where none waits

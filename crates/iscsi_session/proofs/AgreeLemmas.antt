@@ -3,7 +3,7 @@ use Rattle.std.proofs.Common.{◌≡◌, ℕ, ◌==◌, ◌&&◌, ◌||◌, not,
 use Rattle.std.proofs.lemmas.Bool.{eqb-true, ne_eqb, false≢true, ltb-true}
 use Rattle.std.proofs.lemmas.List.{append-nil, map-append, length_push, get_or-set_same, get_or-set_other}
 use Rattle.iscsi_tasks.specs.declared.member.Member.{Member}
-use Rattle.iscsi_tasks.specs.Sets.{is_free_among, looked_at, after_moment, is_new, next_in, given_in, Members, opened, entered_to, given_by}
+use Rattle.iscsi_tasks.specs.Sets.{is_free_among, looked_at, after_moment, next_in, given_in, Members, opened, entered_to, given_by}
 use Rattle.iscsi_rules.specs.declared.effect.Effect.TheVariants.{Enable, Ignore}
 use Rattle.iscsi_rules.specs.rules.Settings.{Setting, is_known}
 use Rattle.iscsi_rules.specs.rules.Trace.{Command, Mark, Trace, live, live_in, was_free, has, entered, leaves_ticket, is_among, first_of, sent_on, Arrival, Admits, Ignores, after_items, waiting, is_received, received}
@@ -26,7 +26,7 @@ use Rattle.iscsi_rules.proofs.traces.ApartLemmas.{eq_sym, unamong-filter, apart-
 use Rattle.iscsi_session.proofs.ListLemmas.{list_all-push, cids-count_reply}
 use Rattle.iscsi_rules.proofs.items.CommandItems.{EntersOne, LeavesSome, live-left, unfinished-untouched, untouched-admits}
 use Rattle.iscsi_tasks.specs.declared.task.Task.{Task}
-use Rattle.iscsi_rules.specs.rules.Run.{newly_enabled, stat_sn_of, effects_of, numbers_of}
+use Rattle.iscsi_rules.specs.rules.Run.{newly_enabled, effects_of, numbers_of}
 use Rattle.iscsi_wire.specs.Serial.{wire}
 use Rattle.iscsi_rules.proofs.general.NumberLemmas.{wire-next}
 use Rattle.iscsi_rules.specs.promises.Enabling.{EnabledSoFar}
@@ -73,13 +73,9 @@ pub noted_effects : (o : Setting) (t : Trace) (item : List Mark) (unit : ℕ) �
 noted_effects o t item unit =
     let cs : List Command = live_in unit (item ∷ t) in
     let new : Command → Bool = λ c. was_free c (item ∷ t) && not (was_free c t) in
-    ap (enable_effects unit) (noted o t item unit)
-    ∙ ap (map (λ (m : Member). Enable m.task.ticket unit)) (filter-map is_new (noted_member o t item) cs)
-    ∙ map-map (λ (m : Member). Enable m.task.ticket unit) (noted_member o t item) (filter new cs)
-    ∙ map_all (λ (c : Command). Enable c.ticket unit) (λ (c : Command). Enable c.ticket c.unit) (λ c. c.unit == unit) (filter new cs)
-    (list_all-filter new (λ c. c.unit == unit) cs (all_of_filter (λ (c : Command). c.unit == unit) (live (item ∷ t))))
-    (λ c here. cc (eqb-true c.unit unit here))
-    ∙ ap enables (sym (filter-twice (λ c. not (was_free c t)) (λ c. was_free c (item ∷ t)) cs))
+    rw (noted o t item unit, filter-map, map-map)
+    (map_all (λ (c : Command). Enable c.ticket unit) (λ (c : Command). Enable c.ticket c.unit) (λ c. c.unit == unit) (filter new cs) (list_all-filter new (λ c. c.unit == unit) cs (all_of_filter (λ (c : Command). c.unit == unit) (live (item ∷ t))))
+    (λ c here. cc (eqb-true c.unit unit here)) ∙ ap enables (sym (filter-twice (λ c. not (was_free c t)) (λ c. was_free c (item ∷ t)) cs)))
 
 -- ---- a unit that nothing leaves
 
@@ -96,31 +92,6 @@ set_of-same o item t unit now = ap (map (member_of o (item ∷ t))) now ∙ set_
 past : (o : Setting) (t : Trace) (cs : List Command) (ms : List Member) → (given_in (map (member_of o t) cs ++ ms) ≡ map (member_of o t) cs ++ given_in ms) × (next_in (map (member_of o t) cs ++ ms) ≡ next_in ms)
 past o t [] ms = (refl, refl)
 past o t (c ∷ cs) ms = let rest = past o t cs ms in (grind (arith, rest.0), grind (arith, rest.1))
-
-pub record EnteredSet (o : Setting) (t : Trace) (item : List Mark) (c : Command) (list : List Member) : Type 0 where
-  pub given : given_in (after_moment list) ≡ set_of o (item ∷ t) c.unit
-  pub effects : enable_effect c.unit (next_in (after_moment list)) ≡ enables (new_in t item c.unit)
-
-pub set-entered : (o : Setting) (t : Trace) (item : List Mark) (c : Command) → live_in c.unit (item ∷ t) ≡ live_in c.unit t ++ c ∷ [] → was_free c t ≡ false
-    → EnteredSet o t item c (set_of o t c.unit ++ record { task = task_of o c; enabled = false; given = false } ∷ [])
-set-entered o t item c now new =
-    let before : List Command = live_in c.unit t in
-    let free : Bool = was_free c (item ∷ t) in
-    let newcomer : Member = record { task = task_of o c; enabled = free; given = false } in
-    let old : map (noted_member o t item) before ≡ set_of o t c.unit =
-    map_all (noted_member o t item) (member_of o t) (is_here c.unit before) before (all_here c.unit t) (λ d here. cc (was_free-stays item t c.unit (c ∷ []) d now here)) in
-    let moment : after_moment (set_of o t c.unit ++ record { task = task_of o c; enabled = false; given = false } ∷ []) ≡ set_of o t c.unit ++ newcomer ∷ [] =
-    cc (map-append (member_of o t) before (c ∷ []), noted o t item c.unit, map-append (noted_member o t item) before (c ∷ [])) in
-    record {
-      given = cc ((past o t before (newcomer ∷ [])).0, given_one free, set_of-stays o item t c.unit (c ∷ []) now, map-append (member_of o (item ∷ t)) before (c ∷ []));
-      effects = cc ((past o t before (newcomer ∷ [])).1, effect_one free, new_in-more item t c.unit (c ∷ []) now);
-    }
-  where
-    given_one : (b : Bool) → given_in (record { task = task_of o c; enabled = b; given = false } ∷ []) ≡ record { task = task_of o c; enabled = b; given = b } ∷ []
-    given_one b = grind arith
-
-    effect_one : (b : Bool) → enable_effect c.unit (next_in (record { task = task_of o c; enabled = b; given = false } ∷ [])) ≡ enables (cond (b && not false) (c ∷ []) [])
-    effect_one b = grind arith
 
 -- ==== an item that closes nothing leaves the connections open that were
 
@@ -209,15 +180,27 @@ pub SetsAgree-entered : (o : Setting) (lives : List Live) (n : ℕ) (sets : List
     → SetEntry o sets t item c task
 SetsAgree-entered o lives n sets t item c task commands a e inside is =
     let old : Members = get_or sets c.unit (opened 0) in
+    let before : List Command = live_in c.unit t in
+    let free : Bool = was_free c (item ∷ t) in
+    let newcomer : Task → Bool → Member = λ x b. record { task = x; enabled = b; given = false } in
     let now : live_in c.unit (item ∷ t) ≡ live_in c.unit t ++ c ∷ [] = live_in-entered o lives n item t c commands e in
-    let new = never_free c t (commands.fresh c.ticket (omega (arith, e.ticket))) in
-    let newcomer : Task → Member = λ x. record { task = x; enabled = false; given = false } in
-    let entry = set-entered o t item c now new in
-    let list_is : old.list ++ newcomer task ∷ [] ≡ set_of o t c.unit ++ newcomer (task_of o c) ∷ [] = cc (a.lists c.unit inside) in
+    let new : was_free c t ≡ false = never_free c t (commands.fresh c.ticket (omega (arith, e.ticket))) in
     let elsewhere = live_in-elsewhere o lives n item t c commands e in
+    let list_is : old.list ++ newcomer task false ∷ [] ≡ set_of o t c.unit ++ newcomer (task_of o c) false ∷ [] = cc (a.lists c.unit inside) in
+    let same : map (noted_member o t item) before ≡ set_of o t c.unit =
+    map_all (noted_member o t item) (member_of o t) (is_here c.unit before) before (all_here c.unit t) (λ d here. cc (was_free-stays item t c.unit (c ∷ []) d now here)) in
+    let moment : after_moment (set_of o t c.unit ++ newcomer (task_of o c) false ∷ []) ≡ set_of o t c.unit ++ newcomer (task_of o c) free ∷ [] =
+    cc (map-append (member_of o t) before (c ∷ []), noted o t item c.unit, map-append (noted_member o t item) before (c ∷ [])) in
+    let passed = past o t before (newcomer (task_of o c) free ∷ []) in
+    let given_one : given_in (newcomer (task_of o c) free ∷ []) ≡ record { task = task_of o c; enabled = free; given = free } ∷ [] = grind arith in
+    let effect_one : enable_effect c.unit (next_in (newcomer (task_of o c) free ∷ [])) ≡ enables (cond (free && not false) (c ∷ []) []) = grind arith in
+    let given : given_in (after_moment (set_of o t c.unit ++ newcomer (task_of o c) false ∷ [])) ≡ set_of o (item ∷ t) c.unit =
+    cc (passed.0, given_one, set_of-stays o item t c.unit (c ∷ []) now, map-append (member_of o (item ∷ t)) before (c ∷ [])) in
+    let effects : enable_effect c.unit (next_in (after_moment (set_of o t c.unit ++ newcomer (task_of o c) false ∷ []))) ≡ enables (new_in t item c.unit) =
+    cc (passed.1, effect_one, new_in-more item t c.unit (c ∷ []) now) in
     record {
-      agrees = set-changed o sets t item c.unit (given_by (entered_to old task)) a inside (cc (list_is, entry.given)) elsewhere;
-      effects = cc (list_is, entry.effects, newly-one o item t c.unit inside elsewhere);
+      agrees = set-changed o sets t item c.unit (given_by (entered_to old task)) a inside (cc (list_is, given)) elsewhere;
+      effects = cc (list_is, effects, newly-one o item t c.unit inside elsewhere);
     }
 
 -- ==== connections that agree with what has happened agree after one item more
@@ -230,12 +213,6 @@ stat_sn_on-other : (cid other : ℕ) (conns : List (ℕ × ℕ)) → (other == c
 stat_sn_on-other cid other [] apart = refl
 stat_sn_on-other cid other (c ∷ conns) apart = grind (arith, nat_tests, stat_sn_on-other cid other conns apart)
 
--- the next StatSN of a connection, after a reply on one
-replied : (o : Setting) (conns : List (ℕ × ℕ)) (t : Trace) (item : List Mark) (conn cid : ℕ) → RepliesAgree o conns t → is_known conn o.conns ≡ true → is_known cid o.conns ≡ true → filter_map sent_on item ≡ conn ∷ []
-    → stat_sn_on cid (count_reply conn conns) ≡ stat_sn_of o (item ∷ t) cid
-replied o conns t item conn cid a known_conn known sends =
-    grind (arith, nat_tests, count_by-push, eqb-true, stat_sn_on-same, is_known-cids, wire-next, stat_sn_on-other)
-
 -- an item that sends nothing
 pub RepliesAgree-quiet : (o : Setting) (conns : List (ℕ × ℕ)) (t : Trace) (item : List Mark) → filter_map sent_on item ≡ [] → RepliesAgree o conns t → RepliesAgree o conns (item ∷ t)
 RepliesAgree-quiet o conns t item none a = grind (arith, nat_tests, append-nil)
@@ -244,7 +221,7 @@ RepliesAgree-quiet o conns t item none a = grind (arith, nat_tests, append-nil)
 pub RepliesAgree-sent : (o : Setting) (conns : List (ℕ × ℕ)) (t : Trace) (item : List Mark) (conn : ℕ) → filter_map sent_on item ≡ conn ∷ [] → is_known conn o.conns ≡ true → RepliesAgree o conns t → RepliesAgree o (count_reply conn conns) (item ∷ t)
 RepliesAgree-sent o conns t item conn one known a = record {
   cids = cids-count_reply conn conns ∙ a.cids;
-  stat_sns = λ cid known_cid. replied o conns t item conn cid a known known_cid one;
+  stat_sns = λ cid known_cid. grind (arith, nat_tests, count_by-push, eqb-true, stat_sn_on-same, is_known-cids, wire-next, stat_sn_on-other);
 }
 
 -- ==== the commands that the effects show as enabled are those that the rule enables, after one item more

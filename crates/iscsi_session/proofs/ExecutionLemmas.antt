@@ -1,6 +1,6 @@
 -- A request executes: it is answered, a command enters, or nothing more happens.
-use Rattle.std.proofs.Common.{◌≡◌, ℕ, ◌+◌, ◌<◌, not, cond, Bool, true, false, List, [], ◌∷◌, length, map, count_by, get_or, None, refl, ap, sym, ◌∙◌, arith, Option, Some, ◌-◌, ◌≤◌, ◌==◌, ◌&&◌, ◌++◌, filter, set, append_assoc}
-use Rattle.std.proofs.lemmas.Bool.{cond_both, lt-ltb, eqb-true}
+use Rattle.std.proofs.Common.{⊎_elim, ◌≡◌, ℕ, ◌+◌, ◌<◌, not, cond, Bool, true, false, List, [], ◌∷◌, length, map, count_by, get_or, None, refl, ap, sym, ◌∙◌, arith, Option, Some, ◌-◌, ◌≤◌, ◌==◌, ◌&&◌, ◌++◌, filter, set, append_assoc}
+use Rattle.std.proofs.lemmas.Bool.{cases_Bool, cond_both, lt-ltb, eqb-true}
 use Rattle.std.proofs.lemmas.List.{append-nil, length-map, get_or-set_same, set-set}
 use Rattle.iscsi_wire.specs.declared.request.Request.{Request}
 use Rattle.iscsi_wire.specs.declared.reply.Reply.{Reply}
@@ -165,13 +165,6 @@ turn-begun o s t r h place x =
       shows = refl;
     }
 
--- its number
-pub number_next : (o : Setting) (s : Core) (t : Trace) (r : HeldRequest) (h : Agrees o s t) → (x : Next s.window t r) → number_by (turned_core s) x.arrival.request ≡ x.arrival.number
-number_next o s t r h x = rw (numbered_held o s t r h x) (omega (arith, held-number t (number_expected s.window) x.arrival x.held_is))
-
-pub event_next : (o : Setting) (s : Core) (t : Trace) (r : HeldRequest) (h : Agrees o s t) → (x : Next s.window t r) → event_by (turned_core s) x.arrival.request ≡ cond (is_immediate x.arrival.request) x.arrival.event 0
-event_next o s t r h x = rw (numbered_held o s t r h x)
-
 -- ==== commands of a unit leave together, and the function that took them out is answered
 
 -- ---- the window
@@ -198,19 +191,15 @@ pub record SetLeft (o : Setting) (t : Trace) (item : List Mark) (unit : ℕ) (ol
 
 pub set_left : (o : Setting) (t : Trace) (item : List Mark) (unit : ℕ) (old : Members) (covers : Task → Bool) → old.list ≡ set_of o t unit → live_in unit (item ∷ t) ≡ filter (λ c. not (covers (task_of o c))) (live_in unit t)
     → SetLeft o t item unit old (set_staying covers old)
-set_left o t item unit old covers list_is stay = by_test (has_covered covers old) refl
-  where
-    stays : filter (λ m. not (covers m.task)) old.list ≡ map (member_of o t) (live_in unit (item ∷ t))
-    stays = rw (list_is, filter-map, stay)
-
-    by_test : (b : Bool) → has_covered covers old ≡ b → SetLeft o t item unit old (set_staying covers old)
-    by_test true some = rw some (record { given = rw stays (noted_given o t item unit); effects = rw stays (noted_effects o t item unit) })
-    by_test false none =
-        let same : live_in unit (item ∷ t) ≡ live_in unit t = rw stay (none_out _ (live_in unit t) (rw (list_is, list_any-map) at none)) in
-        rw none (record {
-          given = rw (list_is, set_of-same o item t unit same) (as_it_was o t unit (live_in unit t)).0;
-          effects = rw (list_is, new_in-none item t unit same) (as_it_was o t unit (live_in unit t)).1;
-        })
+set_left o t item unit old covers list_is stay =
+    let stays : filter (λ m. not (covers m.task)) old.list ≡ map (member_of o t) (live_in unit (item ∷ t)) = rw (list_is, filter-map, stay) in
+    ⊎_elim
+    (λ (some : has_covered covers old ≡ true). rw some (record { given = rw stays (noted_given o t item unit); effects = rw stays (noted_effects o t item unit) }))
+    (λ (none : has_covered covers old ≡ false).
+    let same : live_in unit (item ∷ t) ≡ live_in unit t = rw stay (none_out _ (live_in unit t) (rw (list_is, list_any-map) at none)) in
+    let was = as_it_was o t unit (live_in unit t) in
+    rw none (record { given = rw (list_is, set_of-same o item t unit same) was.0; effects = rw (list_is, new_in-none item t unit same) was.1 }))
+    (cases_Bool (has_covered covers old))
 
 -- ---- commands of a unit leave
 
@@ -247,9 +236,7 @@ module _ (o : Setting) (t : Trace) (old : Members) (unit : ℕ) (list_is : old.l
   pub leaving_shown : leave_each unit (covered_tickets covers old.list) ≡ map (λ (c : Command). Leave c.ticket c.unit) (covered_in o t unit covers)
   leaving_shown =
       let here : List Command = live_in unit t in
-      let q : Command → Bool = λ c. covers (task_of o c) in
-      simp (list_is, filter-map, map-map) (map_all _ _ (is_here unit here) (filter q here) (list_all-filter q (is_here unit here) here (all_here unit t))
-      (λ c h. rw (eqb-true c.unit unit (and_parts (c.unit == unit) (is_among c.ticket here) h).0)))
+      simp (list_is, filter-map, map-map) (map_all _ _ (is_here unit here) (covered_in o t unit covers) (list_all-filter _ (is_here unit here) here (all_here unit t)) (λ c h. rw (eqb-true c.unit unit (and_parts _ _ h).0)))
 
 -- covered commands of a unit leave by an item, and a reply goes out. All else is as it was
 pub record Leaving (o : Setting) (s : Core) (t : Trace) (item : List Mark) (unit : ℕ) (covers : Task → Bool) (conn : ℕ) : Type 0 where

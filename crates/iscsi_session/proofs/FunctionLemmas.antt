@@ -1,5 +1,5 @@
 -- A request executes, whatever it does: at its turn, at its arrival, or once it has waited.
-use Rattle.std.proofs.Common.{◌≡◌, ℕ, ◌+◌, ◌==◌, ◌&&◌, Bool, true, false, [], ◌∷◌, Option, Some, None, option_map, refl, ap, sym, ◌∙◌, arith, ℤ, pos, ◌-ℤ◌, ◌-◌, ◌<◌, ◌≤◌, not, cond, nat_lt, List, ◌++◌, length, map, set, filter, subst, length-set}
+use Rattle.std.proofs.Common.{⊎_elim, ◌≡◌, ℕ, ◌+◌, ◌==◌, ◌&&◌, Bool, true, false, [], ◌∷◌, Option, Some, None, option_map, refl, ap, sym, ◌∙◌, arith, ℤ, pos, ◌-ℤ◌, ◌-◌, ◌<◌, ◌≤◌, not, cond, nat_lt, List, ◌++◌, map, filter, subst}
 use Rattle.std.specs.List.{list_any, list_all, filter_map, flat_map}
 use Rattle.iscsi_wire.specs.declared.request.Request.{Request}
 use Rattle.iscsi_wire.specs.Serial.{wire, lift, number_of_first}
@@ -20,10 +20,10 @@ use Rattle.iscsi_rules.proofs.traces.NewlyLemmas.{Untouched, live_in-untouched, 
 use Rattle.iscsi_rules.proofs.items.DeedTable.{named_below, never_waits}
 use Rattle.iscsi_session.proofs.AgreeLemmas.{CommandsAgree-untouched, SetsAgree-untouched, RepliesAgree-sent, settled_expected, settled_max, Agrees-untouched, Agrees-waits}
 use Rattle.iscsi_session.proofs.FindLemmas.{tagged_in-is, Found, numbered_deed, Found-arrived, Found-turned}
-use Rattle.iscsi_session.proofs.ExecutionLemmas.{Begun, full_is, crowded_is, untouched-begun, Follows, nothing_more, answered, enters_unit, covered_in, leaving-item, turned_core, numbered_held, turn-begun, number_next, event_next}
+use Rattle.iscsi_session.proofs.ExecutionLemmas.{Begun, full_is, crowded_is, untouched-begun, Follows, nothing_more, answered, enters_unit, covered_in, leaving-item, turned_core, numbered_held, turn-begun}
 use Rattle.iscsi_session.proofs.LogoutItem.{open_same, session_ends, conn_closes}
 use Rattle.std.proofs.lemmas.Bool.Decides.{nat_tests}
-use Rattle.std.proofs.lemmas.Bool.{false≢true, eqb-true}
+use Rattle.std.proofs.lemmas.Bool.{cases_Bool, false≢true, eqb-true}
 use Rattle.std.proofs.lemmas.List.{append-nil, map-append}
 use Rattle.std.proofs.lemmas.List.Folds.{list_all-append}
 use Rattle.std.proofs.lemmas.List.Elements.{filter_map-append}
@@ -83,12 +83,6 @@ deed_alike f g r a finds = grind (arith, nat_tests, function_alike, finds)
 of_unit-same : {A : Type 0} (x : Option ℕ) (none : A) (p q : ℕ → A) → ((unit : ℕ) → x ≡ Some unit → p unit ≡ q unit) → of_unit x none p ≡ of_unit x none q
 of_unit-same x none p q same = grind (arith, nat_tests)
 
-ticket_kept : (x : Option Command) → option_map (λ (c : Command). c.ticket) x ≡ option_map (λ (l : Live). l.ticket) (option_map kept x)
-ticket_kept x = grind (arith, nat_tests)
-
-number_shown-is : (e : ℕ) (x : Option Arrival) (y : Option ℕ) → option_map (λ (h : Arrival). h.number) x ≡ option_map (λ k. e + k) y → option_map (λ (h : Arrival). wire h.number) x ≡ option_map (λ k. wire (e + k)) y
-number_shown-is e x y same = grind (arith, nat_tests)
-
 module _ (o : Setting) (s : Core) (t : Trace) (m : Mark) (e : Effect) (a : Arrival) (b : Begun o s t m e a) where
   abbrev t₁ : Trace
   t₁ = (m ∷ []) ∷ t
@@ -114,13 +108,13 @@ module _ (o : Setting) (s : Core) (t : Trace) (m : Mark) (e : Effect) (a : Arriv
     is_crowded = sym (crowded_is s t₁ a.request commands.commands);
     is_full = rw b.lasts.sets.units (of_unit-same (unit_named o.units a.request) false _ _ (λ unit is. sym (full_is o s t₁ unit sets b.lasts.depth (named_below o.units a.request unit is))));
     has_commands = rw b.lasts.sets.units (of_unit-same (unit_named o.units a.request) false _ _ (λ unit is. rw (any_filter, asked (λ c. c.unit == unit && true) (λ l. l.unit == unit) (λ c. sym (and_true (c.unit == unit))))));
-    live = rw b.lasts.sets.units (of_unit-same (unit_named o.units a.request) None _ _ (λ unit is. ticket_kept (live_with_tag t₁ (rtt a.request) unit) ∙ ap (option_map (λ (l : Live). l.ticket)) (sym (tagged_in-is s t₁ (rtt a.request) unit commands.commands))));
+    live = rw b.lasts.sets.units (of_unit-same (unit_named o.units a.request) None _ _ (λ unit is. grind (arith, nat_tests, tagged_in-is s t₁ (rtt a.request) unit commands.commands)));
     is_open = sym (open_same o s t m e a b (cid a.request));
   }
 
   finds : Found o s t₁ a → Finds (facts_of o t₁ a) (facts_by s a.request)
   finds x = record {
-    held = rw b.lasts.sets.units (of_unit-same (unit_named o.units a.request) None _ _ (λ unit is. number_shown-is (number_expected s.window) (held_command o t₁ (rtt a.request) unit a.number) (find_held s.window (rtt a.request) unit (cmd_sn a.request)) (x.held_same unit (named_below o.units a.request unit is))));
+    held = rw b.lasts.sets.units (of_unit-same (unit_named o.units a.request) None _ _ (λ unit is. grind (arith, nat_tests, x.held_same unit (named_below o.units a.request unit is))));
     is_missing = x.missing_same;
   }
 
@@ -132,11 +126,6 @@ module _ (o : Setting) (s : Core) (t : Trace) (m : Mark) (e : Effect) (a : Arriv
   function_is found = function_alike _ _ a.request alike (λ one. finds (found one))
 
 -- ==== a request executes, whatever it does
-
--- ---- a command is before a function, by positions
-
-covers_before : (o : Setting) (a : Arrival) (c : Command) → is_covered (Below (pos a.number -ℤ pos (number_of_first o.first)) a.event) (task_of o c) ≡ is_before a c
-covers_before o a c = grind (arith, position_lt, position_eq)
 
 -- ---- a number is voided, or a held request is taken out
 
@@ -163,9 +152,6 @@ module _ (o : Setting) (s : Core) (t : Trace) (m : Mark) (e : Effect) (a : Arriv
   abbrev n : ℕ
   n = lift (number_expected s.window) (ref_cmd_sn a.request)
 
-  quiet_answer : IsQuiet (answer a 0)
-  quiet_answer = search
-
   -- the number of a place is taken out of the window or put into it, and the function is answered
   windowed : (k : ℕ) (x : Mark) → Windowed o s t m → WindowAgrees o (with_place s.window k (Some None)) ((m ∷ x ∷ answer a 0) ∷ t) → IsMute a x
       → Follows o t (m ∷ x ∷ answer a 0) (after_effect e (and_then (record { core = record s { window = with_place s.window k (Some None) }; effects = effects_of_mark o t x }) (λ s'. request_answered s' a.request (Respond 0))))
@@ -173,7 +159,6 @@ module _ (o : Setting) (s : Core) (t : Trace) (m : Mark) (e : Effect) (a : Arriv
       let conn : ℕ = connection_of a.request in
       let ms : List Mark = x ∷ answer a 0 in
       let item : List Mark = m ∷ ms in
-      let long : length (set s.window.places k (Some None)) ≡ length s.window.places = length-set s.window.places k (Some None) in
       let u : Untouched item = untouched-begun o s t m e a b ms mute.untouched in
       let admits : (n : ℕ) → filter_map (admits_at n) item ≡ [] = λ n. filter_map-append (admits_at n) (m ∷ []) ms ∙ rw (before.quiet.admits n) (mute.admits n) in (
         Agrees-untouched o s t item (with_place s.window k (Some None)) (count_reply conn s.conns) s.waiting u (closes-more m ms b.closes_no mute.closes) b.lasts refl window (RepliesAgree-sent o s.conns t item conn (rw b.sends_no mute.sends) b.known b.replies)
@@ -187,25 +172,18 @@ module _ (o : Setting) (s : Core) (t : Trace) (m : Mark) (e : Effect) (a : Arriv
   Does position event d = Follows o t (m ∷ deed_marks o t' a d) (after_effect e (carried s a.request position event d))
 
   void_number : (position : ℤ) (event : ℕ) → Fits s a.request Void → Found o s t' a → Windowed o s t m → Does position event Void
-  void_number position event fits x before = subst (λ ms. Follows o t (m ∷ ms) (after_effect e (carried s a.request position event Void))) (sym marks) (by_known (is_received t n) refl)
-    where
-      marks : deed_marks o t' a Void ≡ cond (is_received t' n) [] (Voids n ∷ []) ++ answer a 0
-      marks = ap (λ k. cond (is_received t' (lift k (ref_cmd_sn a.request))) [] (Voids (lift k (ref_cmd_sn a.request)) ∷ []) ++ answer a 0) (x.expected_is (missing_parts s a.request fits).0)
-
-      bounds : (number_expected s.window ≤ n) × (n < number_expected s.window + room_of s.window)
-      bounds = inside_bounds s.window (ref_cmd_sn a.request) (missing_parts s a.request fits).1
-
-      same : is_received t' n ≡ is_received t n
-      same = ap (λ ns. contains ns n) (received-quiet (m ∷ []) t before.quiet)
-
-      v : VoidedAt s.window t (ref_cmd_sn a.request) n
-      v = voided_at o s.window t (ref_cmd_sn a.request) n before.window bounds.0 bounds.1 refl
-
-      by_known : (b : Bool) → is_received t n ≡ b
-          → Follows o t (m ∷ (cond (is_received t' n) [] (Voids n ∷ []) ++ answer a 0)) (after_effect e (carried s a.request position event Void))
-      by_known true there = rw (v.known there, v.received_is, same, there) (answered o s t m e a b (TaskReply (itt a.request) 0))
-      by_known false gone = rw (v.new gone, v.received_is, same, gone, ← wire-lift (number_expected s.window) (ref_cmd_sn a.request))
-          (windowed (n - number_expected s.window) (Voids n) before (WindowAgrees-voided o s.window t m n (answer a 0) before.window before.quiet quiet_answer bounds.0 bounds.1 gone) (search))
+  void_number position event fits x before =
+      let parts = missing_parts s a.request fits in
+      let bounds : (number_expected s.window ≤ n) × (n < number_expected s.window + room_of s.window) = inside_bounds s.window (ref_cmd_sn a.request) parts.1 in
+      let marks : deed_marks o t' a Void ≡ cond (is_received t' n) [] (Voids n ∷ []) ++ answer a 0 =
+      ap (λ k. cond (is_received t' (lift k (ref_cmd_sn a.request))) [] (Voids (lift k (ref_cmd_sn a.request)) ∷ []) ++ answer a 0) (x.expected_is parts.0) in
+      let same : is_received t' n ≡ is_received t n = ap (λ ns. contains ns n) (received-quiet (m ∷ []) t before.quiet) in
+      let v : VoidedAt s.window t (ref_cmd_sn a.request) n = voided_at o s.window t (ref_cmd_sn a.request) n before.window bounds.0 bounds.1 refl in
+      subst (λ ms. Follows o t (m ∷ ms) (after_effect e (carried s a.request position event Void))) (sym marks) (⊎_elim
+      (λ (there : is_received t n ≡ true). rw (v.known there, v.received_is, same, there) (answered o s t m e a b (TaskReply (itt a.request) 0)))
+      (λ (gone : is_received t n ≡ false). rw (v.new gone, v.received_is, same, gone, ← wire-lift (number_expected s.window) (ref_cmd_sn a.request))
+      (windowed (n - number_expected s.window) (Voids n) before (WindowAgrees-voided o s.window t m n (answer a 0) before.window before.quiet (search) bounds.0 bounds.1 gone) (search)))
+      (cases_Bool (is_received t n)))
 
   empty_number : (position : ℤ) (event unit sn : ℕ) → Fits s a.request (Empty unit sn) → Found o s t' a → Windowed o s t m → Does position event (Empty unit sn)
   empty_number position event unit sn fits x before = by_found (held_command o t' (rtt a.request) unit a.number) (find_held s.window (rtt a.request) unit (cmd_sn a.request)) refl refl (x.held_same unit (omega (arith, fits.0, b.lasts.sets.units)))
@@ -221,24 +199,21 @@ module _ (o : Setting) (s : Core) (t : Trace) (m : Mark) (e : Effect) (a : Arriv
           let inside = x.held_inside unit h is in
           let held_is : held t h.number ≡ Some h = sym (held-quiet (m ∷ []) t h.number before.quiet) ∙ inside.0 in
           rw (← shown, ← number, emptied_at o s.window t h.number h before.window inside.3 held_is inside.1 inside.2)
-          (windowed (h.number - number_expected s.window) (Empties h) before (WindowAgrees-emptied o s.window t m h.number h (answer a 0) before.window before.quiet quiet_answer held_is inside.1 inside.2) (search))
+          (windowed (h.number - number_expected s.window) (Empties h) before (WindowAgrees-emptied o s.window t m h.number h (answer a 0) before.window before.quiet (search) held_is inside.1 inside.2) (search))
 
   -- the command of a unit with the tag leaves
   abort_one : (position : ℤ) (event unit ticket : ℕ) → Fits s a.request (Abort unit ticket) → Does position event (Abort unit ticket)
   abort_one position event unit ticket fits = by_live (live_with_tag t' (rtt a.request) unit) refl
     where
-      here : CommandsAgree o s.live s.entered t'
-      here = commands o s t m e a b
-
       lives : live_by s a.request unit ≡ option_map (λ (l : Live). l.ticket) (option_map kept (live_with_tag t' (rtt a.request) unit))
-      lives = ap (option_map (λ (l : Live). l.ticket)) (tagged_in-is s t' (rtt a.request) unit here.commands)
+      lives = ap (option_map (λ (l : Live). l.ticket)) (tagged_in-is s t' (rtt a.request) unit (commands o s t m e a b).commands)
 
       by_live : (x : Option Command) → live_with_tag t' (rtt a.request) unit ≡ x
           → Follows o t (m ∷ (if_found Leaves x ++ answer a 0)) (after_effect e (carried s a.request position event (Abort unit ticket)))
       by_live None is = absurd (let none : None ≡ Some ticket = sym (lives ∙ ap (λ y. option_map (λ (l : Live). l.ticket) (option_map kept y)) is) ∙ fits.1 in cc)
       by_live (Some c) is =
           let ticket_is : c.ticket ≡ ticket = let z : Some c.ticket ≡ Some ticket = sym (lives ∙ ap (λ y. option_map (λ (l : Live). l.ticket) (option_map kept y)) is) ∙ fits.1 in cc in
-          let one = (ticket_alone (λ d. itt d.arrival.request == rtt a.request) (live_in unit t') c (apart-filter (λ d. d.unit == unit) (live t') here.apart) is).0 in
+          let one = (ticket_alone (λ d. itt d.arrival.request == rtt a.request) (live_in unit t') c (apart-filter (λ d. d.unit == unit) (live t') (commands o s t m e a b).apart) is).0 in
           let gone : covered_in o t unit (covers_ticket ticket) ≡ c ∷ [] = rw (← ticket_is, ← same_live o s t m e a b unit) one in
           rw gone at (leaving-item o s t m e a b unit (omega (arith, fits.0, b.lasts.sets.units)) (covers_ticket ticket))
 
@@ -260,7 +235,7 @@ module _ (o : Setting) (s : Core) (t : Trace) (m : Mark) (e : Effect) (a : Arriv
   does position event position_is event_is (AbortEarlier unit) fits k =
       let inside : unit < o.units = omega (arith, fits, b.lasts.sets.units) in
       let before : filter (is_before a) (live_in unit t') ≡ covered_in o t unit (is_covered (Below position event)) =
-      rw (position_is, event_is, same_live o s t m e a b unit) (filter-same (is_before a) (λ c. is_covered (Below (pos a.number -ℤ pos (number_of_first o.first)) a.event) (task_of o c)) (live_in unit t) (λ c. sym (covers_before o a c))) in
+      rw (position_is, event_is, same_live o s t m e a b unit) (filter-same (is_before a) (λ c. is_covered (Below (pos a.number -ℤ pos (number_of_first o.first)) a.event) (task_of o c)) (live_in unit t) (λ c. grind (arith, position_lt, position_eq))) in
       rw before (leaving-item o s t m e a b unit inside (is_covered (Below position event)))
   does position event position_is event_is (AbortAll unit) fits k =
       rw (same_live o s t m e a b unit) (leaving-item o s t m e a b unit (omega (arith, fits, b.lasts.sets.units)) (is_covered AllOfThem))
@@ -272,15 +247,12 @@ meets : (o : Setting) (s : Core) (t : Trace) (m : Mark) (e : Effect) (a : Arriva
     → (is_of_number d ≡ true → Windowed o s t m) → Meets o s t m e a b d
 meets o s t m e a b number_is event_is x d w = grind (arith, nat_tests)
 
-position_of : (o : Setting) (s : Core) (a : Arrival) → s.window.first ≡ o.first → number_by s a.request ≡ a.number → position_by s a.request ≡ pos a.number -ℤ pos (number_of_first o.first)
-position_of o s a first number = rw (number, first)
-
 -- a request of any kind executes
 executes : (o : Setting) (s : Core) (t : Trace) (m : Mark) (e : Effect) (a : Arrival) (event : ℕ) → Begun o s t m e a → number_by s a.request ≡ a.number → event_by s a.request ≡ cond (is_immediate a.request) a.event 0 → event ≡ a.event → Found o s ((m ∷ []) ∷ t) a
     → (is_of_number (deed_by s a.request) ≡ true → Windowed o s t m) → Follows o t (execution o t m a) (after_effect e (executed s a.request event))
 executes o s t m e a event b number_is event_is now x w =
     let d : Deed = deed_by s a.request in
-    let done = does o s t m e a b (position_by s a.request) event (position_of o s a b.first number_is) now d (fits_deed s a.request) (meets o s t m e a b number_is event_is x d w) in
+    let done = does o s t m e a b (position_by s a.request) event (rw (number_is, b.first)) now d (fits_deed s a.request) (meets o s t m e a b number_is event_is x d w) in
     let is : execution o t m a ≡ m ∷ deed_marks o ((m ∷ []) ∷ t) a d = ap (λ d. m ∷ deed_marks o ((m ∷ []) ∷ t) a d) (deed_is o s t m e a b (λ one. x)) in
     subst (λ item. Follows o t item (after_effect e (executed s a.request event))) (sym is) done
 
@@ -291,13 +263,14 @@ pub turned-item : (o : Setting) (s : Core) (t : Trace) (r : HeldRequest) → Agr
 turned-item o s t r h place x =
     let a : Arrival = x.arrival in
     let b = turn-begun o s t r h place x in
-    let same : number_by (turned_core s) a.request ≡ a.number = number_next o s t r h x in
     let number : a.number ≡ number_expected s.window = held-number t (number_expected s.window) a x.held_is in
+    let numbered : is_immediate a.request ≡ false = numbered_held o s t r h x in
+    let same : number_by (turned_core s) a.request ≡ a.number = rw numbered (omega (arith, number)) in
     let shows = h.window.numbers (number_expected s.window) a (admitted_of_held t (number_expected s.window) a x.held_is) ∙ ap wire (sym number) in
     let next : a.number + 1 ≡ number_expected (turned_window s.window) = omega (arith, number) in
-    let never = numbered_deed (turned_core s) a.request a.number (deed_by (turned_core s) a.request) (numbered_held o s t r h x) next shows (fits_deed (turned_core s) a.request) in
+    let never = numbered_deed (turned_core s) a.request a.number (deed_by (turned_core s) a.request) numbered next shows (fits_deed (turned_core s) a.request) in
     subst (λ (q : HeldRequest). Follows o t (item_of o t a) (turn_of (turned_core s) (Some q))) x.request_is
-    (executes o (turned_core s) t (Delivers a) (Deliver a.request) a a.event b same (event_next o s t r h x) refl (Found-turned o s t r h place x) (λ said. absurd (false≢true (sym never ∙ said))))
+    (executes o (turned_core s) t (Delivers a) (Deliver a.request) a a.event b same (rw numbered) refl (Found-turned o s t r h place x) (λ said. absurd (false≢true (sym never ∙ said))))
 
 -- ---- an immediate request begins to execute
 
@@ -378,7 +351,7 @@ module _ (o : Setting) (s : Core) (index : ℕ) (t : Trace) (r : Request) (h : S
   becomes_done d fits other =
       let now = h.agrees in
       let number : number_by s r ≡ a.number = rw (immediate, settled_expected o s t h) in
-      rw (immediate_is s r d other) (does o s t (Executes a) (Immediate r) a begun (position_by s r) (s.taken - 1) (position_of o s a now.window.first number) last d fits
+      rw (immediate_is s r d other) (does o s t (Executes a) (Immediate r) a begun (position_by s r) (s.taken - 1) (rw (number, now.window.first)) last d fits
       (meets o s t (Executes a) (Immediate r) a begun number (rw (immediate, last)) found d (λ said. record { window = now.window; quiet = quiet_executes a [] (search) })))
 
   -- it executes
@@ -423,14 +396,10 @@ module _ (o : Setting) (s : Core) (index : ℕ) (t : Trace) (r : Request) (h : S
       same : refusal o.level (unit_named o.units r) r ≡ refusal_by s r
       same = ap (λ level. refusal level (unit_named o.units r) r) (sym h.agrees.level) ∙ ap (λ units. refusal s.level (unit_named units r) r) (sym h.agrees.sets.units)
 
-      Chosen : Option Answer → Option Answer → Type 0
-      Chosen x y = Becomes (elim (option_map (reply_of r) x) [ Some reply ↦ execution o t (Executes a) a | None ↦ waiting_item o t a ]) (elim y [ Some z ↦ Reply z | None ↦ waits_by s r ])
-
-      by_refusal : (opcode r == 0x02) ≡ true → may_wait r ≡ true → (y : Option Answer) → refusal_by s r ≡ y → Chosen y y
-      by_refusal is may y refused = grind (arith, nat_tests, becomes_now, becomes_by_number)
+      by_refusal : (opcode r == 0x02) ≡ true → may_wait r ≡ true → (x y : Option Answer) → refusal_by s r ≡ y → x ≡ y
+          → Becomes (elim (option_map (reply_of r) x) [ Some reply ↦ execution o t (Executes a) a | None ↦ waiting_item o t a ]) (elim y [ Some z ↦ Reply z | None ↦ waits_by s r ])
+      by_refusal is may x y refused equal = grind (arith, nat_tests, becomes_now, becomes_by_number)
 
       by_function : (v : Bool) → (opcode r == 0x02 && may_wait r) ≡ v → Becomes (immediate_item o t a) (arrival_by s r)
       by_function false is = rw is becomes_now
-      by_function true is =
-          let parts = and_parts (opcode r == 0x02) (may_wait r) is in
-          rw is (subst (λ x. Chosen x (refusal_by s r)) (sym same) (by_refusal parts.0 parts.1 (refusal_by s r) refl))
+      by_function true is = let parts = and_parts (opcode r == 0x02) (may_wait r) is in rw is (by_refusal parts.0 parts.1 _ (refusal_by s r) refl same)

@@ -1,7 +1,7 @@
 -- The live commands that a session keeps, beside its task sets.
-use Rattle.std.proofs.Common.{◌≡◌, ℕ, ◌+◌, ◌<◌, ◌==◌, ◌&&◌, cond, Bool, true, false, nat_lt, nat_le, List, [], ◌∷◌, ◌++◌, length, map, filter, get_or, set, Option, Some, None, refl, arith, length-set, eq-eqb, zero, suc, ◌≤◌, ◌||◌, not, ⊎_elim, count_by, All, take, is_some, ap, sym, ◌∙◌, drop}
+use Rattle.std.proofs.Common.{◌≡◌, ℕ, ◌+◌, ◌<◌, ◌==◌, ◌&&◌, cond, Bool, true, false, nat_lt, nat_le, List, [], ◌∷◌, ◌++◌, length, map, filter, get_or, set, Option, Some, None, refl, arith, length-set, eq-eqb, zero, suc, ◌≤◌, ◌||◌, not, count_by, All, take, is_some, ap, sym, ◌∙◌, drop}
 use Rattle.std.specs.List.{list_all, list_any, AllPairs}
-use Rattle.std.proofs.lemmas.Bool.{cond_both, leb-true, cases_Bool, cases_eq, eqb-true, false≢true, ltb-true, ne_eqb}
+use Rattle.std.proofs.lemmas.Bool.{cond_both, leb-true, cases_eq, eqb-true, false≢true, ltb-true, ne_eqb}
 use Rattle.std.proofs.lemmas.Bool.Decides.{nat_tests}
 use Rattle.std.proofs.lemmas.List.{append-nil, map-append, get_or-set_same, get_or-set_other, length-map, get_or_default, get_or-take, length-take-le, at_drop_more}
 use Rattle.std.proofs.lemmas.List.Elements.{filter-append}
@@ -88,16 +88,13 @@ pub enabled_found : (sets : List Members) (k : ℕ) (x : Option Live) (l : Live)
 enabled_found sets k x l h = grind (arith, nat_tests)
 
 -- and is in the set of its unit
+among_enabled : (k : ℕ) (ms : List Member) → is_enabled_in k ms ≡ true → list_any (λ m. m.task.ticket == k) ms ≡ true
+among_enabled k [] is = is
+among_enabled k (m ∷ ms) is = grind (arith, among_enabled k ms)
+
 pub enabled_covered : (sets : List Members) (k : ℕ) (x : Option Live) (l : Live) → enabled_of sets k x ≡ Some l → has_covered (covers_ticket k) (get_or sets l.unit (opened 0)) ≡ true
 enabled_covered sets k None l h = absurd cc
-enabled_covered sets k (Some y) l h = by_test (is_enabled_in k (get_or sets y.unit (opened 0)).list) refl h
-  where
-    among : (ms : List Member) → is_enabled_in k ms ≡ true → list_any (λ m. m.task.ticket == k) ms ≡ true
-    among [] is = is
-    among (m ∷ ms) is = grind (arith, among ms)
-
-    by_test : (b : Bool) → is_enabled_in k (get_or sets y.unit (opened 0)).list ≡ b → cond b (Some y) None ≡ Some l → has_covered (covers_ticket k) (get_or sets l.unit (opened 0)) ≡ true
-    by_test b is here = grind (arith, nat_tests, among)
+enabled_covered sets k (Some y) l h = grind (arith, nat_tests, among_enabled k (get_or sets y.unit (opened 0)).list)
 
 -- ==== covered commands of a unit leave: what is left of its set and of the live commands
 
@@ -241,10 +238,10 @@ module _ (now : Members) (covers : Task → Bool) where
 
   -- each is among the live ones
   pub covered_live : (unit : ℕ) (lives : List Live) → tickets_of now ≡ tickets_in unit lives → All (λ t. IsSome (find_ticket t lives)) (covered_tickets covers now.list)
-  covered_live unit lives match k d l = some_live (get_or (covered_tickets covers now.list) k d) unit lives (AllPass-from_list_all (is_in unit lives) (covered_tickets covers now.list) all k d l)
-    where
-      all : list_all (is_in unit lives) (covered_tickets covers now.list) ≡ true
-      all = rw (covered_are, list_all-map) (list_all-filter _ _ now.list (sym (list_all-map (is_in unit lives) (λ (m : Member). m.task.ticket) now.list) ∙ rw match (all_in (tickets_in unit lives))))
+  covered_live unit lives match k d l =
+      let all : list_all (is_in unit lives) (covered_tickets covers now.list) ≡ true =
+      rw (covered_are, list_all-map) (list_all-filter _ _ now.list (sym (list_all-map (is_in unit lives) (λ (m : Member). m.task.ticket) now.list) ∙ rw match (all_in (tickets_in unit lives)))) in
+      some_live (get_or (covered_tickets covers now.list) k d) unit lives (AllPass-from_list_all (is_in unit lives) (covered_tickets covers now.list) all k d l)
 
   -- and their tickets go up
   pub covered_up : rising (tickets now.list) ≡ true → AllPairs (λ (a b : ℕ). a < b) (covered_tickets covers now.list)
@@ -267,14 +264,8 @@ finished_none w a = ap (with_unfinished w) {y = w.unfinished} (omega arith)
 pub one_leaving : (k : ℕ) (now : Members) → (set_staying (covers_ticket k) now ≡ left_by now (with_ticket k (tasks_in now))) × (is_some (with_ticket k (tasks_in now)) ≡ has_covered (covers_ticket k) now)
 one_leaving k now = grind (arith, nat_tests, none_found, some_covered, eqb-true, find-found)
 
-one_found : (k unit : ℕ) (now : Members) (lives : List Live) → tickets_of now ≡ tickets_in unit lives → has_covered (covers_ticket k) now ≡ true → IsSome (find_ticket k lives)
-one_found k unit now lives match has = some_live k unit lives (rw (← match, list_any-map) has)
-
 pub one_missing : (k unit : ℕ) (now : Members) (lives : List Live) → tickets_of now ≡ tickets_in unit lives → find_ticket k lives ≡ None → has_covered (covers_ticket k) now ≡ false
-one_missing k unit now lives match none = ⊎_elim
-    (λ there. let found = one_found k unit now lives match there in absurd (false≢true (rw none at found)))
-    (λ no. no)
-    (cases_Bool (has_covered (covers_ticket k) now))
+one_missing k unit now lives match none = grind (arith, nat_tests, some_live k unit lives, list_any-map (λ t. t == k) (λ (m : Member). m.task.ticket) now.list)
 
 pub one_live : (k : ℕ) (now : Members) (lives : List Live) → cond (has_covered (covers_ticket k) now) (without_ticket k lives) lives ≡ staying (covers_ticket k) now lives
 one_live k now lives = simp one_gone (by_test (has_covered (covers_ticket k) now))

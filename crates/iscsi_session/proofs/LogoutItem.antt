@@ -1,7 +1,6 @@
 -- A Logout Request executes.
-use Rattle.std.proofs.Common.{◌≡◌, ℕ, zero, suc, ◌+◌, ◌<◌, ◌≤◌, not, ⊎_elim, Bool, List, [], ◌∷◌, ◌++◌, length, filter, count_by, refl, ap, sym, ◌∙◌, arith, length-set, ◌==◌, ◌&&◌, ◌||◌, cond, true, false, map, nat_lt, Option, Some, None, append_assoc}
+use Rattle.std.proofs.Common.{◌≡◌, ℕ, zero, suc, ◌+◌, ◌<◌, ◌≤◌, not, Bool, List, [], ◌∷◌, ◌++◌, length, filter, count_by, refl, ap, sym, ◌∙◌, arith, length-set, ◌==◌, ◌&&◌, ◌||◌, cond, true, false, map, nat_lt, Option, Some, None, append_assoc}
 use Rattle.std.specs.List.{list_any, flat_map, range_with_len, list_all, filter_map}
-use Rattle.std.proofs.lemmas.Bool.{cases_eq}
 use Rattle.std.proofs.lemmas.List.{get_or-set_same, get_or-set_other, length-map}
 use Rattle.iscsi_tasks.specs.declared.task.Task.{Task}
 use Rattle.iscsi_tasks.specs.Sets.{opened}
@@ -20,7 +19,6 @@ use Rattle.iscsi_rules.specs.declared.effect.Effect.TheVariants.{Leave, Send, Cl
 use Rattle.iscsi_session.specs.declared.session.waiting.Waiting.{Waiting}
 use Rattle.iscsi_rules.specs.rules.Settings.{Setting, is_known}
 use Rattle.iscsi_rules.specs.rules.Trace.{Arrival, Command, Mark, Leaves, Empties, ClosesConn, ClosesSession, Trace, waiting, waiting_by, waiting_through, sent_on, closes_conn, closes_session, has, is_ended, enters, entered, leaves_ticket, live, live_in, is_among}
-use Rattle.iscsi_rules.specs.rules.Execution.{unfinished}
 use Rattle.iscsi_rules.specs.rules.Logout.{live_of_units, is_open, is_last_open, taken_out, parting, end_session, close_conn}
 use Rattle.iscsi_rules.specs.rules.Management.{may_wait}
 use Rattle.iscsi_rules.specs.rules.Run.{effects_of_mark, effects_of_item, newly_enabled, stat_sn_of}
@@ -56,11 +54,7 @@ module _ (covers : Task → Bool) where
   sets_left s from zero unit few low high = absurd (omega arith)
   sets_left s from (suc n) unit few low high =
       let s' : Core = (commands_left s from covers).core in
-      let long : length s'.sets ≡ length s.sets = length-set s.sets from (set_staying covers (set_at s from)) in
-      ⊎_elim
-      (λ (here : unit ≡ from). rw (here, sets_before s' (from + 1) n from (omega arith)) (get_or-set_same s.sets from (set_staying covers (set_at s from)) (opened 0) (omega arith)))
-      (λ (apart : unit ≡ from → ⊥). rw (sets_left s' (from + 1) n unit (omega (arith, long)) (omega arith) (omega arith), other_set s from unit apart))
-      (cases_eq unit from)
+      grind (arith, nat_tests, sets_left s' (from + 1) n unit, sets_before s' (from + 1) n from, other_set s from unit, length-set s.sets from (set_staying covers (set_at s from)), get_or-set_same s.sets from (set_staying covers (set_at s from)) (opened 0))
 
   -- ---- the live commands
 
@@ -191,16 +185,14 @@ module _ (o : Setting) (s : Core) (t : Trace) (m : Mark) (e : Effect) (a : Arriv
   units_are : live_of_units o t₁ ≡ live_of_units o t
   units_are = rw (live-untouched (m ∷ []) t (record { enters_none = rw b.enters_no; leaves_no = λ n. rw (b.leaves_no n) }))
 
-  cs_out : (n : ℕ) → is_among n cs ≡ out n
-  cs_out n = rw (units_are, out_is n, any_filter (λ (c : Command). c.ticket == n) asked (live_of_units o t), any_flat_map) (any_in_units (goes n) o.units (live t) regular)
-
   leaves : LeavesSome item out
   leaves =
       let quiet : Untouched (map Empties hs) = untouched-emptied hs in
       let quiet_rest : Untouched rest = untouched-closing o t₁ a scope in
       record {
         enters_none = rw (b.enters_no, filter_map-append enters (map Leaves cs ++ map Empties hs) rest, enters_only cs (map Empties hs), quiet.enters_none, quiet_rest.enters_none);
-        some = λ n. rw (b.leaves_no n, grouped, leaves_only cs (map Empties hs ++ rest) n, emptied_any (leaves_ticket n) hs rest (λ h. refl), quiet_rest.leaves_no n, or_false) (cs_out n);
+        some = λ n. rw (b.leaves_no n, grouped, leaves_only cs (map Empties hs ++ rest) n, emptied_any (leaves_ticket n) hs rest (λ h. refl), quiet_rest.leaves_no n, or_false, units_are, out_is n, any_filter (λ (c : Command). c.ticket == n) asked (live_of_units o t), any_flat_map)
+            (any_in_units (goes n) o.units (live t) regular);
       }
 
   covered_are : (unit : ℕ) → filter (λ c. covers (task_of o c)) (live_in unit t) ≡ filter asked (live_in unit t)
