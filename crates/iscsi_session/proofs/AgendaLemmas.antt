@@ -1,6 +1,7 @@
 -- The agenda: what is left of it, function by function and number by number.
 use Rattle.std.proofs.Common.{eq-eqb, inl, ◌≡◌, ℕ, ◌+◌, ◌-◌, ◌<◌, ◌≤◌, ◌==◌, ◌&&◌, ◌||◌, not, cond, Bool, true, false, List, [], ◌∷◌, ◌++◌, filter, Option, Some, None, option_map, refl, ap, sym, ◌∙◌, arith, nat_lt, nat_le, is_some, subst, append_assoc, inr, ⊎_elim, find}
 use Rattle.std.specs.List.{list_any, filter_map, list_all}
+use Rattle.std.proofs.lemmas.Bool.{cases_Bool}
 use Rattle.std.proofs.lemmas.Bool.Decides.{nat_tests}
 use Rattle.std.proofs.lemmas.List.{append-nil}
 use Rattle.iscsi_wire.specs.declared.request.Request.{Request}
@@ -98,19 +99,15 @@ Stepped-completion o s t event ticket status h = by_ticket (first_of (filter (λ
 
     by_ticket : (x : Option Command) → first_of (filter (λ d. d.ticket == ticket) (live t)) ≡ x → Stepped o (completed s (enabled_in s.sets s.live ticket) status) t (completion status (command_of t ticket))
     by_ticket None none = rw (kept_is, none, none_passing (λ d. was_free d t) ticket (live t) none) (Stepped-ignored o s t Stale h)
-    by_ticket (Some c) found = by_test (was_free c t) refl
-      where
-        by_test : (b : Bool) → was_free c t ≡ b → Stepped o (completed s (enabled_in s.sets s.live ticket) status) t (completion status (command_of t ticket))
-        by_test b is =
-            let r : Regular o c = regular_parts o c (first_passes (λ d. d.ticket == ticket) (is_regular o) (live t) c (regular_live o s.live s.entered t h.agrees.commands) found) in
-            let one = first_passing (λ d. was_free d t) ticket (live t) c h.agrees.commands.apart found in
-            let enabled_here : is_enabled_in ticket (set_at s c.unit).list ≡ list_any (λ d. d.ticket == ticket && was_free d t) (live_in c.unit t) =
-            ap (is_enabled_in ticket) (h.agrees.sets.lists c.unit r.unit) ∙ list_any-map (λ (m : Member). m.task.ticket == ticket && m.enabled) (member_of o t) (live_in c.unit t) in
-            rw (kept_is, found, enabled_here, one.1, one.0, is) (by_free b)
-          where
-            by_free : (b : Bool) → Stepped o (completed s (cond b (Some (kept c)) None) status) t (completion status (cond b (Some c) None))
-            by_free true = Stepped-completed o s t c ticket status h found
-            by_free false = Stepped-ignored o s t Stale h
+    by_ticket (Some c) found =
+        let r : Regular o c = regular_parts o c (first_passes (λ d. d.ticket == ticket) (is_regular o) (live t) c (regular_live o s.live s.entered t h.agrees.commands) found) in
+        let one = first_passing (λ d. was_free d t) ticket (live t) c h.agrees.commands.apart found in
+        let enabled_here : is_enabled_in ticket (set_at s c.unit).list ≡ list_any (λ d. d.ticket == ticket && was_free d t) (live_in c.unit t) =
+        ap (is_enabled_in ticket) (h.agrees.sets.lists c.unit r.unit) ∙ list_any-map (λ (m : Member). m.task.ticket == ticket && m.enabled) (member_of o t) (live_in c.unit t) in
+        ⊎_elim
+        (λ (free : was_free c t ≡ true). rw (kept_is, found, enabled_here, one.1, one.0, free) (Stepped-completed o s t c ticket status h found))
+        (λ (barred : was_free c t ≡ false). rw (kept_is, found, enabled_here, one.1, one.0, barred) (Stepped-ignored o s t Stale h))
+        (cases_Bool (was_free c t))
 
 -- ---- an arrival
 
@@ -436,8 +433,7 @@ at_once has capacity o s s' f index t r out out' out'' h kind immediate known ta
     let item : List Mark = immediate_item o t a in
     let t₁ : Trace = item ∷ t in
     let first = immediate-item o s index t r h immediate known taken waited in
-    let same : number_expected s'.window ≡ number_expected s.window = ap (λ (v : Core). number_expected v.window) x.core ∙ (immediate_same s r).expected in
-    let start : exp_of o t ≡ number_expected s'.window = settled_expected o s t h ∙ sym same in
+    let start : exp_of o t ≡ number_expected s'.window = settled_expected o s t h ∙ sym (ap (λ (v : Core). number_expected v.window) x.core ∙ (immediate_same s r).expected) in
     let rest : List (List Mark) = whole_of o s' t₁ in
     let items_are : arrival_open o t a ≡ item ∷ rest = ap (arrival_as o t a) kind ∙ ap (λ b. cond b (with_turns o t item) (numbered o t a)) immediate ∙ ap (λ e. item ∷ agenda o e (exp_of o t₁ - e) t₁) start in
     let done = runs o t₁ (subst (λ (v : Core). Agrees o v t₁) (sym x.core) first.0) in

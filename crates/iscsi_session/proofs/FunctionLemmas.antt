@@ -83,6 +83,21 @@ deed_alike f g r a finds = grind (arith, nat_tests, function_alike, finds)
 of_unit-same : {A : Type 0} (x : Option ℕ) (none : A) (p q : ℕ → A) → ((unit : ℕ) → x ≡ Some unit → p unit ≡ q unit) → of_unit x none p ≡ of_unit x none q
 of_unit-same x none p q same = grind (arith, nat_tests)
 
+-- ---- what begins to execute
+
+-- a mark that leaves all but the window, beside the function's answer
+record IsMute (a : Arrival) (x : Mark) : Type 0 where
+  untouched : Untouched (x ∷ answer a 0)
+  closes : ClosesNone (x ∷ answer a 0)
+  sends : filter_map sent_on (x ∷ answer a 0) ≡ connection_of a.request ∷ []
+  admits : (n : ℕ) → filter_map (admits_at n) (x ∷ answer a 0) ≡ []
+  waits : (ws : List Arrival) → waiting_through (x ∷ answer a 0) ws ≡ ws
+
+-- where a function voids or empties a number, its window agrees before it
+record Windowed (o : Setting) (s : Core) (t : Trace) (m : Mark) : Type 0 where
+  window : WindowAgrees o s.window t
+  quiet : IsQuiet (m ∷ [])
+
 module _ (o : Setting) (s : Core) (t : Trace) (m : Mark) (e : Effect) (a : Arrival) (b : Begun o s t m e a) where
   abbrev t₁ : Trace
   t₁ = (m ∷ []) ∷ t
@@ -125,29 +140,10 @@ module _ (o : Setting) (s : Core) (t : Trace) (m : Mark) (e : Effect) (a : Arriv
   pub function_is : ((function a.request == 1) ≡ true → Found o s t₁ a) → function_deed (facts_of o t₁ a) a.request ≡ function_deed (facts_by s a.request) a.request
   function_is found = function_alike _ _ a.request alike (λ one. finds (found one))
 
--- ==== a request executes, whatever it does
+  -- ---- a number is voided, or a held request is taken out
 
--- ---- a number is voided, or a held request is taken out
-
--- a mark that leaves all but the window, beside the function's answer
-record IsMute (a : Arrival) (x : Mark) : Type 0 where
-  untouched : Untouched (x ∷ answer a 0)
-  closes : ClosesNone (x ∷ answer a 0)
-  sends : filter_map sent_on (x ∷ answer a 0) ≡ connection_of a.request ∷ []
-  admits : (n : ℕ) → filter_map (admits_at n) (x ∷ answer a 0) ≡ []
-  waits : (ws : List Arrival) → waiting_through (x ∷ answer a 0) ws ≡ ws
-
--- where a function voids or empties a number, its window agrees before it
-record Windowed (o : Setting) (s : Core) (t : Trace) (m : Mark) : Type 0 where
-  window : WindowAgrees o s.window t
-  quiet : IsQuiet (m ∷ [])
-
-same_live : (o : Setting) (s : Core) (t : Trace) (m : Mark) (e : Effect) (a : Arrival) → Begun o s t m e a → (unit : ℕ) → live_in unit ((m ∷ []) ∷ t) ≡ live_in unit t
-same_live o s t m e a b unit = live_in-untouched (m ∷ []) t (untouched-begun o s t m e a b [] (search)) unit
-
-module _ (o : Setting) (s : Core) (t : Trace) (m : Mark) (e : Effect) (a : Arrival) (b : Begun o s t m e a) where
-  abbrev t' : Trace
-  t' = (m ∷ []) ∷ t
+  same_live : (unit : ℕ) → live_in unit t₁ ≡ live_in unit t
+  same_live unit = live_in-untouched (m ∷ []) t untouched unit
 
   abbrev n : ℕ
   n = lift (number_expected s.window) (ref_cmd_sn a.request)
@@ -169,15 +165,15 @@ module _ (o : Setting) (s : Core) (t : Trace) (m : Mark) (e : Effect) (a : Arriv
   -- ---- what it does
 
   abbrev Does : ℤ → ℕ → Deed → Type 0
-  Does position event d = Follows o t (m ∷ deed_marks o t' a d) (after_effect e (carried s a.request position event d))
+  Does position event d = Follows o t (m ∷ deed_marks o t₁ a d) (after_effect e (carried s a.request position event d))
 
-  void_number : (position : ℤ) (event : ℕ) → Fits s a.request Void → Found o s t' a → Windowed o s t m → Does position event Void
+  void_number : (position : ℤ) (event : ℕ) → Fits s a.request Void → Found o s t₁ a → Windowed o s t m → Does position event Void
   void_number position event fits x before =
       let parts = missing_parts s a.request fits in
       let bounds : (number_expected s.window ≤ n) × (n < number_expected s.window + room_of s.window) = inside_bounds s.window (ref_cmd_sn a.request) parts.1 in
-      let marks : deed_marks o t' a Void ≡ cond (is_received t' n) [] (Voids n ∷ []) ++ answer a 0 =
-      ap (λ k. cond (is_received t' (lift k (ref_cmd_sn a.request))) [] (Voids (lift k (ref_cmd_sn a.request)) ∷ []) ++ answer a 0) (x.expected_is parts.0) in
-      let same : is_received t' n ≡ is_received t n = ap (λ ns. contains ns n) (received-quiet (m ∷ []) t before.quiet) in
+      let marks : deed_marks o t₁ a Void ≡ cond (is_received t₁ n) [] (Voids n ∷ []) ++ answer a 0 =
+      ap (λ k. cond (is_received t₁ (lift k (ref_cmd_sn a.request))) [] (Voids (lift k (ref_cmd_sn a.request)) ∷ []) ++ answer a 0) (x.expected_is parts.0) in
+      let same : is_received t₁ n ≡ is_received t n = ap (λ ns. contains ns n) (received-quiet (m ∷ []) t before.quiet) in
       let v : VoidedAt s.window t (ref_cmd_sn a.request) n = voided_at o s.window t (ref_cmd_sn a.request) n before.window bounds.0 bounds.1 refl in
       subst (λ ms. Follows o t (m ∷ ms) (after_effect e (carried s a.request position event Void))) (sym marks) (⊎_elim
       (λ (there : is_received t n ≡ true). rw (v.known there, v.received_is, same, there) (answered o s t m e a b (TaskReply (itt a.request) 0)))
@@ -185,10 +181,10 @@ module _ (o : Setting) (s : Core) (t : Trace) (m : Mark) (e : Effect) (a : Arriv
       (windowed (n - number_expected s.window) (Voids n) before (WindowAgrees-voided o s.window t m n (answer a 0) before.window before.quiet (search) bounds.0 bounds.1 gone) (search)))
       (cases_Bool (is_received t n)))
 
-  empty_number : (position : ℤ) (event unit sn : ℕ) → Fits s a.request (Empty unit sn) → Found o s t' a → Windowed o s t m → Does position event (Empty unit sn)
-  empty_number position event unit sn fits x before = by_found (held_command o t' (rtt a.request) unit a.number) (find_held s.window (rtt a.request) unit (cmd_sn a.request)) refl refl (x.held_same unit (omega (arith, fits.0, b.lasts.sets.units)))
+  empty_number : (position : ℤ) (event unit sn : ℕ) → Fits s a.request (Empty unit sn) → Found o s t₁ a → Windowed o s t m → Does position event (Empty unit sn)
+  empty_number position event unit sn fits x before = by_found (held_command o t₁ (rtt a.request) unit a.number) (find_held s.window (rtt a.request) unit (cmd_sn a.request)) refl refl (x.held_same unit (omega (arith, fits.0, b.lasts.sets.units)))
     where
-      by_found : (y : Option Arrival) (k : Option ℕ) → held_command o t' (rtt a.request) unit a.number ≡ y → find_held s.window (rtt a.request) unit (cmd_sn a.request) ≡ k
+      by_found : (y : Option Arrival) (k : Option ℕ) → held_command o t₁ (rtt a.request) unit a.number ≡ y → find_held s.window (rtt a.request) unit (cmd_sn a.request) ≡ k
           → option_map (λ (h : Arrival). h.number) y ≡ option_map (λ i. number_expected s.window + i) k
           → Follows o t (m ∷ (if_found Empties y ++ answer a 0)) (after_effect e (carried s a.request position event (Empty unit sn)))
       by_found y None is at same = absurd (let none : None ≡ Some sn = sym (ap (option_map (number_shown s.window)) at) ∙ fits.1 in cc)
@@ -203,25 +199,25 @@ module _ (o : Setting) (s : Core) (t : Trace) (m : Mark) (e : Effect) (a : Arriv
 
   -- the command of a unit with the tag leaves
   abort_one : (position : ℤ) (event unit ticket : ℕ) → Fits s a.request (Abort unit ticket) → Does position event (Abort unit ticket)
-  abort_one position event unit ticket fits = by_live (live_with_tag t' (rtt a.request) unit) refl
+  abort_one position event unit ticket fits = by_live (live_with_tag t₁ (rtt a.request) unit) refl
     where
-      lives : live_by s a.request unit ≡ option_map (λ (l : Live). l.ticket) (option_map kept (live_with_tag t' (rtt a.request) unit))
-      lives = ap (option_map (λ (l : Live). l.ticket)) (tagged_in-is s t' (rtt a.request) unit (commands o s t m e a b).commands)
+      lives : live_by s a.request unit ≡ option_map (λ (l : Live). l.ticket) (option_map kept (live_with_tag t₁ (rtt a.request) unit))
+      lives = ap (option_map (λ (l : Live). l.ticket)) (tagged_in-is s t₁ (rtt a.request) unit commands.commands)
 
-      by_live : (x : Option Command) → live_with_tag t' (rtt a.request) unit ≡ x
+      by_live : (x : Option Command) → live_with_tag t₁ (rtt a.request) unit ≡ x
           → Follows o t (m ∷ (if_found Leaves x ++ answer a 0)) (after_effect e (carried s a.request position event (Abort unit ticket)))
       by_live None is = absurd (let none : None ≡ Some ticket = sym (lives ∙ ap (λ y. option_map (λ (l : Live). l.ticket) (option_map kept y)) is) ∙ fits.1 in cc)
       by_live (Some c) is =
           let ticket_is : c.ticket ≡ ticket = let z : Some c.ticket ≡ Some ticket = sym (lives ∙ ap (λ y. option_map (λ (l : Live). l.ticket) (option_map kept y)) is) ∙ fits.1 in cc in
-          let one = (ticket_alone (λ d. itt d.arrival.request == rtt a.request) (live_in unit t') c (apart-filter (λ d. d.unit == unit) (live t') (commands o s t m e a b).apart) is).0 in
-          let gone : covered_in o t unit (covers_ticket ticket) ≡ c ∷ [] = rw (← ticket_is, ← same_live o s t m e a b unit) one in
+          let one = (ticket_alone (λ d. itt d.arrival.request == rtt a.request) (live_in unit t₁) c (apart-filter (λ d. d.unit == unit) (live t₁) commands.apart) is).0 in
+          let gone : covered_in o t unit (covers_ticket ticket) ≡ c ∷ [] = rw (← ticket_is, ← same_live unit) one in
           rw gone at (leaving-item o s t m e a b unit (omega (arith, fits.0, b.lasts.sets.units)) (covers_ticket ticket))
 
   -- what is known where a request does this
   abbrev Meets : Deed → Type 0
   Meets (Enter unit) = (number_by s a.request ≡ a.number) × (event_by s a.request ≡ cond (is_immediate a.request) a.event 0)
-  Meets Void = Found o s t' a × Windowed o s t m
-  Meets (Empty unit sn) = Found o s t' a × Windowed o s t m
+  Meets Void = Found o s t₁ a × Windowed o s t m
+  Meets (Empty unit sn) = Found o s t₁ a × Windowed o s t m
   Meets _ = Unit {0}
 
   does : (position : ℤ) (event : ℕ) → position ≡ pos a.number -ℤ pos (number_of_first o.first) → event ≡ a.event → (d : Deed) → Fits s a.request d → Meets d → Does position event d
@@ -234,13 +230,15 @@ module _ (o : Setting) (s : Core) (t : Trace) (m : Mark) (e : Effect) (a : Arriv
   does position event position_is event_is (Abort unit ticket) fits k = abort_one position event unit ticket fits
   does position event position_is event_is (AbortEarlier unit) fits k =
       let inside : unit < o.units = omega (arith, fits, b.lasts.sets.units) in
-      let before : filter (is_before a) (live_in unit t') ≡ covered_in o t unit (is_covered (Below position event)) =
-      rw (position_is, event_is, same_live o s t m e a b unit) (filter-same (is_before a) (λ c. is_covered (Below (pos a.number -ℤ pos (number_of_first o.first)) a.event) (task_of o c)) (live_in unit t) (λ c. grind (arith, position_lt, position_eq))) in
+      let before : filter (is_before a) (live_in unit t₁) ≡ covered_in o t unit (is_covered (Below position event)) =
+      rw (position_is, event_is, same_live unit) (filter-same (is_before a) (λ c. is_covered (Below (pos a.number -ℤ pos (number_of_first o.first)) a.event) (task_of o c)) (live_in unit t) (λ c. grind (arith, position_lt, position_eq))) in
       rw before (leaving-item o s t m e a b unit inside (is_covered (Below position event)))
   does position event position_is event_is (AbortAll unit) fits k =
-      rw (same_live o s t m e a b unit) (leaving-item o s t m e a b unit (omega (arith, fits, b.lasts.sets.units)) (is_covered AllOfThem))
+      rw (same_live unit) (leaving-item o s t m e a b unit (omega (arith, fits, b.lasts.sets.units)) (is_covered AllOfThem))
   does position event position_is event_is (CloseConn closing) fits k = conn_closes o s t m e a b closing
   does position event position_is event_is CloseSession fits k = session_ends o s t m e a b
+
+-- ==== a request executes, whatever it does
 
 -- what is known of a request that begins to execute meets what it does
 meets : (o : Setting) (s : Core) (t : Trace) (m : Mark) (e : Effect) (a : Arrival) (b : Begun o s t m e a) → number_by s a.request ≡ a.number → event_by s a.request ≡ cond (is_immediate a.request) a.event 0 → Found o s ((m ∷ []) ∷ t) a → (d : Deed)

@@ -207,14 +207,11 @@ module _ (ts : List ℕ) (k d : ℕ) (inside : k < length ts) where
   pub there_yet : (lives : List Live) → AllPairs (λ (a b : ℕ). a < b) ts → IsSome (find_ticket ticket lives) → IsSome (find_ticket ticket (without_tickets (take k ts) lives))
   there_yet lives up there = still_found lives there
     where
-      before : All (λ t. (t == ticket) ≡ false) (take k ts)
-      before i e l =
+      stays : list_any (λ t. t == ticket) (take k ts) ≡ false
+      stays = list_any_none _ (take k ts) (λ i e l.
           let within : i < k = omega (arith, length-take-le k ts (omega (arith, inside)), l) in
           let lower : get_or ts i e < get_or ts k e = up i k e within inside in
-          ne_eqb _ _ (λ same. absurd (omega (arith, lower, get_or_default ts k e d inside, get_or-take k ts i e within, same)))
-
-      stays : list_any (λ t. t == ticket) (take k ts) ≡ false
-      stays = list_any_none _ (take k ts) before
+          ne_eqb _ _ (λ same. absurd (omega (arith, lower, get_or_default ts k e d inside, get_or-take k ts i e within, same))))
 
       still_found : (ls : List Live) → IsSome (find_ticket ticket ls) → IsSome (find_ticket ticket (without_tickets (take k ts) ls))
       still_found [] there = there
