@@ -44,9 +44,6 @@ full_is o s t u a depth inside = cc (depth, a.lists u inside, length-map (live_i
 pub crowded_is : (s : Core) (t : Trace) (r : Request) → s.live ≡ map kept (live t) → is_crowded_by s r ≡ is_crowded t r
 crowded_is s t r lives = cc (count_by-map (is_immediate_on (connection_of r)) kept (live t))
 
-unfinished-started : (w : Arrived) (r : Request) → (started w r).unfinished ≡ w.unfinished + cond (not (is_immediate r)) 1 0
-unfinished-started w r = grind arith
-
 -- ---- an execution
 
 -- a request begins to execute. This is kept by then, and its item begins with this mark and this effect
@@ -80,11 +77,10 @@ module _ (o : Setting) (s : Core) (t : Trace) (m : Mark) (e : Effect) (a : Arriv
 
   -- nothing more happens
   pub nothing_more : Follows o t (m ∷ []) (after_effect e (unchanged s))
-  nothing_more =
-      let none : Untouched [] = record { enters_none = refl; leaves_no = λ k. refl } in (
-        begun-untouched [] s.conns quiet_none none (record { session = refl; conns = λ k. refl }) (RepliesAgree-quiet o s.conns t (m ∷ []) (cc b.sends_no) b.replies) refl,
-        cc (b.shows, newly-untouched o t (m ∷ []) (untouched-begun [] none)),
-      )
+  nothing_more = (
+    begun-untouched [] s.conns quiet_none (search) (record { session = refl; conns = λ k. refl }) (RepliesAgree-quiet o s.conns t (m ∷ []) (cc b.sends_no) b.replies) refl,
+    cc (b.shows, newly-untouched o t (m ∷ []) (untouched-begun [] (search))),
+  )
 
   -- a reply goes out
   pub answered : (reply : Reply) → Follows o t (m ∷ reply_on a reply) (after_effect e (replied s (connection_of a.request) reply))
@@ -111,6 +107,7 @@ module _ (o : Setting) (s : Core) (t : Trace) (m : Mark) (e : Effect) (a : Arriv
       let live_is : new_live s a.request unit ≡ kept c = cc count in
       let entry : SetEntry o s.sets t item c (new_task s a.request) = SetsAgree-entered o s.live s.entered s.sets t item c (new_task s a.request) b.lasts.commands b.lasts.sets en inside task_is in
       let regular : is_regular o c ≡ true = and_both _ _ (lt-ltb unit o.units inside) b.known in
+      let starts : (started s.window a.request).unfinished ≡ s.window.unfinished + cond (not (is_immediate a.request)) 1 0 = grind arith in
       let numbered : Command → Bool = λ d. not (is_immediate d.arrival.request) in
       let lives : unfinished (item ∷ t) ≡ unfinished t + cond (numbered c) 1 0 = ap (count_by numbered) (live-entered o s.live s.entered item t c b.lasts.commands en) ∙ count_by-push numbered (live t) c in (
         record {
@@ -120,7 +117,7 @@ module _ (o : Setting) (s : Core) (t : Trace) (m : Mark) (e : Effect) (a : Arriv
           commands = rw live_is (CommandsAgree-entered o s.live s.entered t item c b.lasts.commands en regular);
           sets = entry.agrees;
           depth = b.lasts.depth;
-          unfinished = unfinished-started s.window a.request ∙ ap (λ n. n + cond (not (is_immediate a.request)) 1 0) b.lasts.unfinished_is ∙ sym lives;
+          unfinished = starts ∙ ap (λ n. n + cond (not (is_immediate a.request)) 1 0) b.lasts.unfinished_is ∙ sym lives;
           enabled = EnabledSoFar-entered o s.live s.entered item t c b.lasts.commands en inside (never_free c t (b.lasts.commands.fresh c.ticket (omega (arith, en.ticket)))) b.lasts.enabled;
           level = b.lasts.level;
           waiting = record { list = b.waits.list; may = b.waits.may; known = b.waits.known };
