@@ -1,53 +1,33 @@
--- The counts of live immediate commands, and how many commands are live.
-use Rattle.std.proofs.Common.{◌≡◌, ℕ, zero, suc, ◌+◌, ◌*◌, ◌<◌, ◌≤◌, ◌==◌, ◌&&◌, not, cond, Bool, true, false, nat_lt, List, [], ◌∷◌, ◌++◌, length, filter, count_by, replicate, Some, refl, ap, sym, ◌∙◌, arith, eq-eqb}
+-- The counts of live immediate commands, how many commands are live, and one that is found by its ticket.
+use Rattle.std.proofs.Common.{◌≡◌, ℕ, zero, suc, ◌+◌, ◌-◌, ◌*◌, ◌<◌, ◌≤◌, ◌==◌, ◌&&◌, not, cond, Bool, true, false, nat_lt, List, [], ◌∷◌, ◌++◌, length, filter, count_by, replicate, Some, refl, ap, sym, ◌∙◌, arith, eq-eqb}
 use Rattle.std.specs.List.{list_all}
-use Rattle.std.proofs.lemmas.Bool.{false≢true, eqb-true}
+use Rattle.std.proofs.lemmas.Bool.{eqb-true, ltb-true}
 use Rattle.std.proofs.lemmas.Bool.Decides.{nat_tests}
 use Rattle.std.proofs.lemmas.List.{length-map, length-replicate, length_push}
 use Rattle.std.proofs.lemmas.List.Filters.{length-filter_both}
 use Rattle.std.proofs.lemmas.List.Sums.{length-filter}
 use Rattle.iscsi_commands.specs.declared.live.Live.{Live}
+use Rattle.iscsi_window.specs.Windows.{Arrived, with_unfinished}
 use Rattle.iscsi_rules.specs.rules.Settings.{is_known}
 use Rattle.iscsi_session.specs.private.Standing.{are_known, are_ascending}
-use Rattle.iscsi_session.specs.private.Steps.{find_ticket, without_ticket, count_reply, counted_on, is_immediate_on, immediate_in, AreCounted, is_numbered}
-use Rattle.iscsi_rules.proofs.general.BoolLemmas.{and_comm, and_parts}
-use Rattle.iscsi_rules.proofs.general.CountLemmas.{count-cons, count-filter, count-split}
-use Rattle.iscsi_rules.proofs.traces.NewlyLemmas.{both_all, filter_all}
-use Rattle.iscsi_rules.proofs.traces.TraceLemmas.{filter-true, weaker}
-use Rattle.iscsi_rules.proofs.general.ListLemmas.{all_of_filter, count_by-push, is_known-cids, fewer_counted, list_all-filter}
-use Rattle.iscsi_session.proofs.ListLemmas.{cids-count_reply, list_all-push}
+use Rattle.iscsi_session.specs.private.Steps.{find_ticket, without_ticket, count_reply, counted_on, is_immediate_on, immediate_in, AreCounted, is_numbered, finished, finished_by}
+use Rattle.iscsi_rules.proofs.general.BoolLemmas.{and_parts}
+use Rattle.iscsi_rules.proofs.general.CountLemmas.{count-cons, count-filter}
+use Rattle.iscsi_rules.proofs.traces.NewlyLemmas.{filter_all}
+use Rattle.iscsi_rules.proofs.traces.TraceLemmas.{filter-true}
+use Rattle.iscsi_rules.proofs.general.ListLemmas.{count_by-push, is_known-cids, list_all-filter, find-found, find-passes}
+use Rattle.iscsi_session.proofs.ListLemmas.{cids-count_reply, list_all-push, few_of}
 
 -- ---- how many are live
-
--- those of the first connection are a part of all
-first_part : (cid : ℕ) (lives : List Live) → count_by (λ l. l.immediate) lives ≡ immediate_in lives cid + count_by (λ l. l.immediate) (filter (λ l. not (l.conn == cid)) lives)
-first_part cid lives =
-    let same : count_by (λ (l : Live). (l.conn == cid) && l.immediate) lives ≡ immediate_in lives cid = simp and_comm in
-    omega (arith, count-split (λ (l : Live). l.immediate) (λ l. l.conn == cid) lives, count-filter (λ (l : Live). l.immediate) (λ l. not (l.conn == cid)) lives, same)
-
--- who isn't of the first connection is of the others
-known_later : (c : ℕ × ℕ) (conns : List (ℕ × ℕ)) (lives : List Live) → are_known lives (c ∷ conns) ≡ true → are_known (filter (λ l. not (l.conn == c.0)) lives) conns ≡ true
-known_later c conns lives h =
-    let away : Live → Bool = λ l. not (l.conn == c.0) in
-    weaker (λ l. away l && is_known l.conn (c ∷ conns)) (λ l. is_known l.conn conns) (filter away lives) (λ l. later l.conn)
-    (both_all away (λ l. is_known l.conn (c ∷ conns)) (filter away lives) (all_of_filter away lives) (list_all-filter away (λ l. is_known l.conn (c ∷ conns)) lives h))
-  where
-    later : (k : ℕ) → (not (k == c.0) && is_known k (c ∷ conns)) ≡ true → is_known k conns ≡ true
-    later k h = grind (arith, nat_tests)
-
-few_immediate : (conns : List (ℕ × ℕ)) (lives : List Live) → ((cid : ℕ) → immediate_in lives cid ≤ 8) → are_known lives conns ≡ true → count_by (λ l. l.immediate) lives ≤ 8 * length conns
-few_immediate [] [] few known = omega arith
-few_immediate [] (x ∷ lives) few known = absurd (false≢true known)
-few_immediate (c ∷ conns) lives few known =
-    let away : Live → Bool = λ l. not (l.conn == c.0) in
-    let fewer : (cid : ℕ) → immediate_in (filter away lives) cid ≤ 8 = λ cid. omega (arith, fewer_counted (is_immediate_on cid) away lives, few cid) in
-    omega (arith, first_part c.0 lives, few c.0, few_immediate conns (filter away lives) fewer (known_later c conns lives known))
 
 two_kinds : (lives : List Live) → count_by is_numbered lives + count_by (λ l. l.immediate) lives ≡ length lives
 two_kinds lives = omega (arith, length-filter_both (λ (l : Live). l.immediate) is_numbered (λ l. refl) lives, length-filter is_numbered lives, length-filter (λ (l : Live). l.immediate) lives)
 
 pub few_live : (n : ℕ) (conns : List (ℕ × ℕ)) (lives : List Live) → count_by is_numbered lives ≤ n → ((cid : ℕ) → immediate_in lives cid ≤ 8) → are_known lives conns ≡ true → length lives ≤ n + 8 * length conns
-few_live n conns lives numbered few known = omega (arith, two_kinds lives, numbered, few_immediate conns lives few known)
+few_live n conns lives numbered few known =
+    let now : List Live = filter (λ l. l.immediate) lives in
+    let all = few_of (λ (l : Live). l.conn) 8 conns now (λ cid. omega (arith, count-filter (λ (l : Live). l.conn == cid) (λ l. l.immediate) lives, few cid)) (list_all-filter (λ (l : Live). l.immediate) (λ l. is_known l.conn conns) lives known) in
+    omega (arith, two_kinds lives, numbered, all, length-filter (λ (l : Live). l.immediate) lives)
 
 -- no more than eight of a connection
 few_more : (lives : List Live) (l : Live) → ((cid : ℕ) → immediate_in lives cid ≤ 8) → (l.immediate ≡ true → immediate_in lives l.conn < 8) → (cid : ℕ) → immediate_in (lives ++ l ∷ []) cid ≤ 8
@@ -127,3 +107,20 @@ some_counted counts conns lives l h up found known immediate =
     let here = ap (λ b. b && (l.conn == l.conn)) immediate ∙ eq-eqb l.conn l.conn refl in
     let counts_one : ◌≡◌ {A = ℕ} (cond (is_immediate_on l.conn l) 1 0) 1 = ap {B = ℕ} (λ b. cond b 1 0) here in
     omega (arith, h.exact l.conn known, count-left (is_immediate_on l.conn) l.ticket lives l up found, counts_one)
+
+-- a numbered command gives its place back
+finished_is : (w : Arrived) (l : Live) (left all : ℕ) → left + cond (not l.immediate) 1 0 ≡ all → all ≤ w.unfinished → finished w l ≡ with_unfinished w (w.unfinished + left - all)
+finished_is w l left all counted few = grind arith
+
+pub finished_left : (w : Arrived) (lives : List Live) (l : Live) → are_ascending lives ≡ true → find_ticket l.ticket lives ≡ Some l → count_by is_numbered lives ≤ w.unfinished → finished w l ≡ finished_by w lives (without_ticket l.ticket lives)
+finished_left w lives l up found few = finished_is w l _ _ (count-left is_numbered l.ticket lives l up found) few
+
+pub ruleset left_steps = (find-passes, some_counted, AreCounted-left, finished_left)
+
+-- ---- a live command that is found by its ticket
+
+-- what is found by a ticket has it
+pub found_ticket : (ticket : ℕ) (lives : List Live) (l : Live) → find_ticket ticket lives ≡ Some l → l.ticket ≡ ticket
+found_ticket ticket lives l found = eqb-true l.ticket ticket (find-found (λ (x : Live). x.ticket == ticket) lives l found)
+
+pub ruleset found_steps = (found_ticket, find-passes, ltb-true)

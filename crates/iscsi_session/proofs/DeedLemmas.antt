@@ -1,12 +1,12 @@
 -- What a request does that executes, by what a session keeps: when it does that, and what stays as it was.
 use Rattle.std.proofs.Common.{◌≡◌, ℕ, ℤ, ◌+◌, ◌<◌, ◌≤◌, ◌==◌, ◌&&◌, not, cond, Bool, true, false, length, count_by, is_some, Option, Some, None, refl, ap, sym, ◌∙◌, arith, ◌-◌, subst, filter}
 use Rattle.std.proofs.lemmas.Bool.Decides.{nat_tests}
+use Rattle.std.proofs.lemmas.Int.{to_z-of_z}
 use Rattle.std.proofs.lemmas.Bool.{false≢true, cond_both}
 use Rattle.iscsi_window.specs.declared.held_request.HeldRequest.{HeldRequest}
 use Rattle.iscsi_wire.specs.declared.request.Request.{Request}
 use Rattle.iscsi_wire.specs.Fields.{connection_of, is_immediate, opcode, ref_cmd_sn}
-use Rattle.iscsi_window.specs.declared.answer.Place.{Place}
-use Rattle.iscsi_window.specs.Windows.{HasRoom, IsInside, place_in, held_at, received_at, emptied_if, Arrived, number_expected, at_place, advanced, advanced_if}
+use Rattle.iscsi_window.specs.Windows.{HasRoom, IsInside, place_in, Arrived, number_expected, at_place, advanced, advanced_if}
 use Rattle.iscsi_tasks.specs.declared.task.Task.{Task}
 use Rattle.iscsi_tasks.specs.declared.cover.Cover.TheVariants.{All as AllOfThem, Below}
 use Rattle.iscsi_tasks.specs.Sets.{is_covered}
@@ -17,7 +17,7 @@ use Rattle.iscsi_rules.specs.rules.Settings.{is_known}
 use Rattle.iscsi_rules.specs.rules.Execution.{unit_named}
 use Rattle.iscsi_rules.specs.rules.Management.{may_wait}
 use Rattle.iscsi_rules.specs.rules.Deeds.{Facts, of_unit, function_deed}
-use Rattle.iscsi_session.specs.private.Standing.{Core}
+use Rattle.iscsi_session.specs.private.Standing.{Core, is_held}
 use Rattle.iscsi_session.specs.private.Steps.{set_at, is_numbered, is_gone, covers_ticket, aborted, KeepsPace, completed}
 use Rattle.iscsi_session.specs.private.Deeds.{refusal_by, live_by, held_by, missing_by, facts_by, deed_by, waits_by, arrival_by, Fits, IsReady, most_emptied, carried, position_by, executed, turn_taken, next_position, function_taken, done_at_once, immediate_taken}
 use Rattle.iscsi_rules.proofs.general.BoolLemmas.{and_first, and_second}
@@ -115,18 +115,8 @@ carried_stays s r number event Nothing fits = omega arith
 carried_stays s r number event Wait fits = omega arith
 carried_stays s r number event (Reply x) fits = omega arith
 carried_stays s r number event (Enter unit) fits = grind arith
-carried_stays s r number event Void fits =
-    let g = voided_changes s.window (ref_cmd_sn r) (missing_parts s r fits).1 in
-    record { first = by_place (place_in s.window (ref_cmd_sn r)); turned = g.turned; unfinished = omega (arith, g.unfinished); taken = refl; held = omega (arith, g.held_is); waiting = omega arith }
-  where
-    by_place : (p : Place) → (received_at s.window p None).first ≡ s.window.first
-    by_place p = grind arith
-carried_stays s r number event (Empty unit sn) fits =
-    let g = emptied_changes s.window sn in
-    record { first = by_place (place_in s.window sn) (held_at s.window (place_in s.window sn)); turned = g.turned; unfinished = omega (arith, g.unfinished); taken = refl; held = omega (arith, g.held_is); waiting = omega arith }
-  where
-    by_place : (p : Place) (x : Option HeldRequest) → (emptied_if s.window p x).first ≡ s.window.first
-    by_place p x = grind arith
+carried_stays s r number event Void fits = omega (arith, voided_changes s.window (ref_cmd_sn r) (missing_parts s r fits).1)
+carried_stays s r number event (Empty unit sn) fits = omega (arith, emptied_changes s.window sn)
 carried_stays s r number event (Abort unit ticket) fits = aborted_stays s r unit (covers_ticket ticket)
 carried_stays s r number event (AbortEarlier unit) fits = aborted_stays s r unit (is_covered (Below number event))
 carried_stays s r number event (AbortAll unit) fits = aborted_stays s r unit (is_covered AllOfThem)
@@ -190,6 +180,13 @@ at_once_stays s r d fits immediate = let h = carried_stays s r (position_by s r)
 pub immediate_is : (s : Core) (r : Request) (d : Deed) → (d ≡ Wait → ⊥) → immediate_taken s r d ≡ done_at_once s r d
 immediate_is s r d other = grind (arith, nat_tests)
 
+-- it takes out no more than is held
+pub emptied_most : (s : Core) (d : Deed) → most_emptied s d ≤ count_by is_held s.window.places
+emptied_most s (CloseConn conn) = omega arith
+emptied_most s _ = omega arith
+
+pub ruleset arrival_steps = (false≢true, fits_arrival, ready, at_once_stays, immediate_is, emptied_most, nat_tests)
+
 -- the numbers and the events are the same after it
 pub record Same (s s' : Core) : Type 0 where
   pub expected : number_expected s'.window ≡ number_expected s.window
@@ -225,3 +222,7 @@ pub turned_taken : (s : Core) (p : Option (Option HeldRequest)) → (turn_taken 
 turned_taken s None = refl
 turned_taken s (Some None) = refl
 turned_taken s (Some (Some h)) = (executed_stays (record s { window = advanced s.window }) h.request h.event).taken
+
+-- ---- a number that code reads
+
+pub ruleset numbers_read = (to_z-of_z, nat_tests)

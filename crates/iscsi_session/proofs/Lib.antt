@@ -12,8 +12,6 @@ pub mod KeptLemmas
 pub mod TagLemmas
 pub mod GivingLemmas
 pub mod FindLemmas
-pub mod DroppingLemmas
-pub mod TellingLemmas
 pub mod LoggedOutLemmas
 pub mod EmptyingLemmas
 pub mod LogoutItem
@@ -21,7 +19,5 @@ pub mod FunctionLemmas
 pub mod AgendaLemmas
 pub mod DeedLemmas
 pub mod ManageLemmas
-pub mod OwedLemmas
 pub mod PromiseLemmas
-pub mod FoundLemmas
 mod SinkLemmas

@@ -1,5 +1,5 @@
 -- What a Logout leaves as it is.
-use Rattle.std.proofs.Common.{◌+◌, ◌≡◌, ℕ, ◌≤◌, not, cond, Bool, List, [], ◌∷◌, length, map, count_by, is_some, length-set, Option, refl, ◌∙◌, arith}
+use Rattle.std.proofs.Common.{◌+◌, ◌≡◌, ℕ, ◌≤◌, not, cond, Bool, List, [], ◌∷◌, length, map, count_by, is_some, length-set, Option, refl, arith}
 use Rattle.std.proofs.lemmas.List.Sums.{sum_by-cons}
 use Rattle.iscsi_window.specs.declared.held_request.HeldRequest.{HeldRequest}
 use Rattle.iscsi_wire.specs.declared.request.Request.{Request}
@@ -32,12 +32,7 @@ pub record Keeps (s s' : Core) : Type 0 where
 pub left_keeps : (s : Core) (units : List ℕ) (covers : Task → Bool) → Keeps s (all_commands_left s units covers).core
 left_keeps s [] covers = record { same = refl; unfinished = omega arith; units = refl }
 left_keeps s (unit ∷ units) covers =
-    let h = left_keeps (commands_left s unit covers).core units covers in
-    record {
-      same = h.same;
-      unfinished = omega (arith, fewer_counted is_numbered (λ l. not (is_gone covers (set_at s unit) l.ticket)) s.live, h.unfinished);
-      units = h.units ∙ length-set s.sets unit (set_staying covers (set_at s unit));
-    }
+    grind (arith, nat_tests, left_keeps (commands_left s unit covers).core units covers, fewer_counted is_numbered (λ l. not (is_gone covers (set_at s unit) l.ticket)) s.live, length-set s.sets unit (set_staying covers (set_at s unit)))
 
 -- ---- held requests are taken out
 

@@ -1,51 +1,37 @@
 -- The functions that wait, and how many effects are to come.
-use Rattle.std.proofs.Common.{◌≡◌, ℕ, ◌+◌, ◌*◌, ◌<◌, ◌≤◌, ◌==◌, not, cond, Bool, true, false, List, [], ◌∷◌, ◌++◌, length, filter, set, refl, ap, arith, count_by}
+use Rattle.std.proofs.Common.{◌≡◌, ℕ, ◌+◌, ◌*◌, ◌<◌, ◌≤◌, ◌==◌, not, cond, true, List, [], ◌∷◌, ◌++◌, length, filter, set, ap, arith, count_by, suc, nat_le, get_or, sym, ◌∙◌}
 use Rattle.std.specs.List.{list_all}
-use Rattle.std.proofs.lemmas.Bool.{false≢true, eqb-true}
 use Rattle.std.proofs.lemmas.Bool.Decides.{nat_tests}
-use Rattle.std.proofs.lemmas.List.{length_push}
+use Rattle.std.proofs.lemmas.List.{length_push, length-map}
 use Rattle.std.proofs.lemmas.List.Folds.{list_all-append}
-use Rattle.std.proofs.lemmas.List.Sums.{length-filter, count_by-le-length}
-use Rattle.std.proofs.lemmas.List.Filters.{length-filter_both}
+use Rattle.std.proofs.lemmas.List.Sums.{length-filter, count_by-le-length, sum_by-cons}
 use Rattle.iscsi_wire.specs.declared.request.Request.{Request}
 use Rattle.iscsi_wire.specs.Fields.{connection_of}
 use Rattle.iscsi_tasks.specs.declared.task.Task.{Task}
-use Rattle.iscsi_tasks.specs.Sets.{Members, entered_to, given_by}
+use Rattle.iscsi_tasks.specs.Sets.{Members, entered_to, given_by, opened}
 use Rattle.iscsi_session.specs.declared.session.waiting.Waiting.{Waiting}
 use Rattle.iscsi_rules.specs.rules.Settings.{is_known}
-use Rattle.iscsi_session.specs.private.Standing.{Core, is_held}
+use Rattle.iscsi_session.specs.private.Standing.{Core, is_held, Match, tickets_of, tickets_in}
 use Rattle.iscsi_session.specs.private.Invariant.{Inner, IsSessionSound}
-use Rattle.iscsi_session.specs.private.Steps.{waiting_in, command_entered, ungiven, owed}
-use Rattle.iscsi_rules.proofs.general.BoolLemmas.{and_parts}
-use Rattle.iscsi_rules.proofs.general.ListLemmas.{count_by-map, count_by-push, fewer_counted}
+use Rattle.iscsi_session.specs.private.Steps.{waiting_in, command_entered, ungiven, owed, ungiven_in}
+use Rattle.iscsi_rules.proofs.general.ListLemmas.{count_by-map, count_by-push}
 use Rattle.iscsi_rules.proofs.traces.SetLemmas.{ungiven_given}
 use Rattle.iscsi_session.proofs.CountLemmas.{few_live}
+use Rattle.iscsi_session.proofs.ListLemmas.{few_of}
 use Rattle.iscsi_session.proofs.KeptLemmas.{ungiven_in-set}
+use Rattle.iscsi_tasks.specs.declared.member.Member.{Member}
+use Rattle.iscsi_commands.specs.declared.live.Live.{Live}
+use Rattle.iscsi_rules.proofs.general.NumberLemmas.{one_unit}
 
 -- ---- how many functions wait
 
--- who isn't of the first connection is of the others
-others_known : (c : ℕ × ℕ) (conns : List (ℕ × ℕ)) (waits : List Waiting) → list_all (λ w. is_known (connection_of w.request) (c ∷ conns)) waits ≡ true
-    → list_all (λ w. is_known (connection_of w.request) conns) (filter (λ w. not (connection_of w.request == c.0)) waits) ≡ true
-others_known c conns [] h = refl
-others_known c conns (x ∷ waits) h = grind (arith, nat_tests, others_known c conns waits, and_parts)
-
--- four of each connection, and no others
 pub few_waiting : (conns : List (ℕ × ℕ)) (waits : List Waiting) → ((cid : ℕ) → waiting_in waits cid ≤ 4) → list_all (λ w. is_known (connection_of w.request) conns) waits ≡ true → length waits ≤ 4 * length conns
-few_waiting [] [] few known = omega arith
-few_waiting [] (x ∷ waits) few known = absurd (false≢true known)
-few_waiting (c ∷ conns) waits few known =
-    let here : Waiting → Bool = λ w. connection_of w.request == c.0 in
-    let away : List Waiting = filter (λ w. not (here w)) waits in
-    let rest = few_waiting conns away (λ cid. let less = fewer_counted (λ w. connection_of w.request == cid) (λ w. not (here w)) waits in omega (arith, less, few cid)) (others_known c conns waits known) in
-    omega (arith, length-filter_both here (λ w. not (here w)) (λ w. refl) waits, length-filter here waits, few c.0, rest)
+few_waiting conns waits few known = few_of (λ (w : Waiting). connection_of w.request) 4 conns waits few known
 
 more_waiting : (waits : List Waiting) (w : Waiting) → ((cid : ℕ) → waiting_in waits cid ≤ 4) → waiting_in waits (connection_of w.request) < 4 → (cid : ℕ) → waiting_in (waits ++ w ∷ []) cid ≤ 4
-more_waiting waits w few room cid = rw (count_by-push (λ v. connection_of v.request == cid) waits w) (by_conn (connection_of w.request == cid) refl)
-  where
-    by_conn : (b : Bool) → (connection_of w.request == cid) ≡ b → waiting_in waits cid + cond b 1 0 ≤ 4
-    by_conn true is = omega (arith, room, ap (waiting_in waits) (eqb-true (connection_of w.request) cid is))
-    by_conn false is = omega (arith, few cid)
+more_waiting waits w few room cid =
+    let there : connection_of w.request ≡ cid → waiting_in waits (connection_of w.request) ≡ waiting_in waits cid = ap (waiting_in waits) in
+    grind (arith, nat_tests, count_by-push (λ (v : Waiting). connection_of v.request == cid) waits w, few cid)
 
 -- what is known of the functions that wait, with one more
 pub record Waits (conns : List (ℕ × ℕ)) (waits : List Waiting) (w : Waiting) : Type 0 where
@@ -77,3 +63,29 @@ pub record Few (s : Inner) : Type 0 where
 
 pub few : {s : Inner} → IsSessionSound s → Few s
 few {s} inv = grind (arith, nat_tests, count_by-le-length, few_waiting, few_live)
+
+pub ruleset few_steps = (count_by-le-length, few_waiting, few_live)
+
+-- ---- what live commands may bring: each leaves once, and is enabled once before
+
+-- those of a unit, and those of later units
+unit_and_later : (u : ℕ) (lives : List Live) → count_by (λ l. l.unit == u) lives + count_by (λ l. nat_le (u + 1) l.unit) lives ≤ count_by (λ l. nat_le u l.unit) lives
+unit_and_later u [] = omega arith
+unit_and_later u (x ∷ lives) =
+    omega (arith, one_unit x.unit u, unit_and_later u lives, sum_by-cons (λ (l : Live). cond (l.unit == u) 1 0) x lives, sum_by-cons (λ (l : Live). cond (nat_le (u + 1) l.unit) 1 0) x lives, sum_by-cons (λ (l : Live). cond (nat_le u l.unit) 1 0) x lives)
+
+-- the sets of the units from u on
+ungiven_from : (lives : List Live) (sets : List Members) (u : ℕ) → ((k : ℕ) → k < length sets → tickets_of (get_or sets k (opened 0)) ≡ tickets_in (u + k) lives) → ungiven_in sets ≤ count_by (λ l. nat_le u l.unit) lives
+ungiven_from lives [] u is = omega arith
+ungiven_from lives (x ∷ sets) u is =
+    let tickets : tickets_of x ≡ tickets_in u lives = is 0 (omega arith) ∙ ap (λ k. tickets_in k lives) (let z : u + 0 ≡ u = omega arith in z) in
+    let size : length x.list ≡ count_by (λ (l : Live). l.unit == u) lives =
+    sym (length-map x.list (λ (m : Member). m.task.ticket)) ∙ ap length tickets ∙ length-map (filter (λ (l : Live). l.unit == u) lives) (λ (l : Live). l.ticket) ∙ length-filter (λ (l : Live). l.unit == u) lives in
+    let few : ungiven x ≤ length x.list = count_by-le-length (λ (m : Member). not m.given) x.list in
+    let rest : ungiven_in sets ≤ count_by (λ (l : Live). nat_le (u + 1) l.unit) lives = ungiven_from lives sets (u + 1) (λ k lt. is (suc k) (omega arith) ∙ ap (λ n. tickets_in n lives) (let z : u + suc k ≡ u + 1 + k = omega arith in z)) in
+    omega (arith, size, few, rest, unit_and_later u lives)
+
+pub owed_few : (sets : List Members) (lives : List Live) → Match sets lives → owed lives sets ≤ 2 * length lives
+owed_few sets lives m =
+    let given : ungiven_in sets ≤ count_by (λ (l : Live). nat_le 0 l.unit) lives = ungiven_from lives sets 0 (λ k lt. m k lt ∙ ap (λ n. tickets_in n lives) (let z : k ≡ 0 + k = omega arith in z)) in
+    omega (arith, given, count_by-le-length (λ (l : Live). nat_le 0 l.unit) lives)

@@ -58,6 +58,9 @@ Settled-opened o room taken = record {
 held_place : (t : Trace) (n : ℕ) → is_held (place_of t n) ≡ is_some (held t n)
 held_place t n = grind (arith, nat_tests, unreceived_unheld)
 
+pub conns_same : (o : Setting) (s : Core) (h : List Event) → StandsFor o s h → length s.conns ≡ length o.conns
+conns_same o s h stands = sym (length-map s.conns (λ (k : ℕ × ℕ). k.0)) ∙ ap length stands.settled.agrees.replies.cids ∙ length-map o.conns (λ (k : ℕ × ℕ). k.0)
+
 pub bound_is : (o : Setting) (s : Core) (h : List Event) → StandsFor o s h → 12 * (count_by is_held s.window.places + length s.waiting + 1) + 2 * length s.live ≡ effect_bound_of o (trace_of o h)
 bound_is o s h stands =
     let t : Trace = trace_of o h in

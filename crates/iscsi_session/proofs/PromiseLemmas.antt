@@ -81,3 +81,5 @@ promises_kept o s h stands flow = record {
   in_order = keeps_order o h;
   meaning = means_what_it_says o h;
 }
+
+pub ruleset promises = (aborts_hold_in, starts_once, answers_once_in, counts_replies, keeps_order, means_what_it_says, stands_delivers, stands_enables, stands_closes)

@@ -1,8 +1,8 @@
 -- The first event of a run that is refused.
-use Rattle.std.proofs.Common.{◌≡◌, ℕ, ◌+◌, true, List, Option, Some, None, ◌<◌, ◌⊎◌, length, take, drop, get_or, Ok, Err, arith, length-take}
+use Rattle.std.proofs.Common.{◌≡◌, ◌≢◌, ℕ, ◌+◌, Bool, true, false, not, cond, List, Option, Some, None, ◌<◌, ◌⊎◌, length, take, drop, get_or, Ok, Err, arith, length-take}
 use Rattle.iscsi_rules.specs.declared.event.Event.{Event}
 use Rattle.iscsi_session.specs.declared.fault.SessionFault.{SessionFault}
-use Rattle.iscsi_session.specs.declared.fault.SessionFault.TheVariants.{NoMemory}
+use Rattle.iscsi_session.specs.declared.fault.SessionFault.TheVariants.{UnknownConnection, Exhausted, NoMemory}
 use Rattle.iscsi_rules.specs.rules.Settings.{Setting}
 use Rattle.iscsi_rules.specs.rules.Agenda.{belongs}
 use Rattle.iscsi_session.specs.promises.Refusals.{first_refusal, refusal_of, RefusesAs, RunRefusesAs}
@@ -46,3 +46,9 @@ event_refused B x of_events e is h = rw is h
 
 pub run_taken : {B : Type 0} (x of_events : Option SessionFault) (v : B) → x ≡ None → of_events ≡ None → RunRefusesAs x of_events (Ok v)
 run_taken x of_events v is none = rw is none
+
+-- it never is want of memory
+pub not_memory : (known early : Bool) (fault : SessionFault) → Some fault ≡ cond (not known) (Some UnknownConnection) (cond early None (Some Exhausted)) → fault ≢ NoMemory
+not_memory true true fault said is = cc
+not_memory true false fault said is = cc
+not_memory false early fault said is = cc

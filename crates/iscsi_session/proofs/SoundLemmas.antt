@@ -18,11 +18,10 @@ use Rattle.iscsi_rules.proofs.traces.TraceLemmas.{weaker}
 use Rattle.iscsi_rules.proofs.general.NumberLemmas.{later_event}
 use Rattle.iscsi_session.proofs.WindowLemmas.{Changed, Advanced}
 use Rattle.iscsi_session.proofs.CountLemmas.{length-replied, AreCounted-replied}
-use Rattle.iscsi_session.proofs.KeptLemmas.{ascending-push, within-push, ascending-kept}
+use Rattle.iscsi_session.proofs.KeptLemmas.{ascending-push, within-push, ascending-kept, Match-staying, roomy_set}
 use Rattle.std.proofs.lemmas.Bool.Decides.{nat_tests}
 use Rattle.iscsi_tasks.specs.declared.task.Task.{Task}
 use Rattle.iscsi_rules.proofs.general.PlaceLemmas.{written}
-use Rattle.iscsi_session.proofs.KeptLemmas.{Match-staying, roomy_set}
 
 -- ---- the window
 

@@ -1,7 +1,11 @@
--- A live command is found by its tag, which no other one has.
-use Rattle.std.proofs.Common.{◌≡◌, ℕ, zero, suc, ◌==◌, ◌||◌, ◌&&◌, cond, Bool, true, false, is_some, List, [], ◌∷◌, find, All, Option, Some, None, refl, sym, ◌∙◌, arith, ne_eqb}
+-- A live command is found by its tag, which no other one has, or by its unit.
+use Rattle.std.proofs.lemmas.Bool.Decides.{nat_tests}
+use Rattle.std.proofs.Common.{◌≡◌, ℕ, zero, suc, ◌==◌, ◌||◌, ◌&&◌, cond, Bool, true, false, is_some, List, [], ◌∷◌, find, All, Option, Some, None, refl, sym, ◌∙◌, arith, ne_eqb, ◌<◌, nat_lt, length, filter, get_or}
 use Rattle.std.specs.List.{list_any}
-use Rattle.std.proofs.lemmas.Bool.{eqb-true}
+use Rattle.std.proofs.lemmas.Bool.{eqb-true, lt-ltb}
+use Rattle.std.proofs.lemmas.List.{get_or_default, length-map}
+use Rattle.iscsi_tasks.specs.Sets.{Members}
+use Rattle.iscsi_session.specs.private.Standing.{Match}
 use Rattle.std.proofs.lemmas.List.Elements.{All-head, All-tail}
 use Rattle.iscsi_commands.specs.declared.live.Live.{Live}
 use Rattle.iscsi_commands.specs.Commands.{AreTagsApart}
@@ -24,12 +28,18 @@ none_later q itt (x ∷ lives) none =
 -- a tag is that of one command at the most
 pub find_passing : (q : Live → Bool) (lives : List Live) (itt : ℕ) → AreTagsApart lives → find (λ l. q l && l.itt == itt) lives ≡ passing q (find (λ l. l.itt == itt) lives)
 find_passing q [] itt apart = refl
-find_passing q (x ∷ lives) itt apart = by_test (x.itt == itt) (q x) refl refl (find_passing q lives itt (λ i j d lt within. apart (suc i) (suc j) d (omega (arith, lt)) (omega (arith, within))))
-  where
-    by_test : (b c : Bool) → (x.itt == itt) ≡ b → q x ≡ c → find (λ l. q l && l.itt == itt) lives ≡ passing q (find (λ l. l.itt == itt) lives)
-        → find (λ l. q l && l.itt == itt) (x ∷ lives) ≡ passing q (find (λ l. l.itt == itt) (x ∷ lives))
-    by_test true true this passes rest = rw (this, passes, passing)
-    by_test true false this passes rest =
-        let others : All (λ l. (l.itt == itt) ≡ false) lives = λ k d within. ne_eqb _ _ (λ tag. apart zero (suc k) d (omega arith) (omega (arith, within)) (eqb-true x.itt itt this ∙ sym tag)) in
-        rw (this, passes, passing) (none_later q itt lives others)
-    by_test false c other passes rest = rw (other, and_false (q x)) rest
+find_passing q (x ∷ lives) itt apart =
+    let others : x.itt ≡ itt → All (λ l. (l.itt == itt) ≡ false) lives = λ this k d within. ne_eqb _ _ (λ tag. apart zero (suc k) d (omega arith) (omega (arith, within)) (this ∙ sym tag)) in
+    grind (arith, nat_tests, eqb-true, and_false, others, none_later q itt lives, find_passing q lives itt (λ i j d lt within. apart (suc i) (suc j) d (omega (arith, lt)) (omega (arith, within))))
+
+-- ---- commands of a unit
+
+pub any_filtered : (p : Live → Bool) (lives : List Live) → list_any p lives ≡ nat_lt 0 (length (filter p lives))
+any_filtered p [] = refl
+any_filtered p (x ∷ lives) = grind (arith, nat_tests, any_filtered p lives, lt-ltb)
+
+-- a set has a command just where the unit has a live one
+pub any_in_set : (sets : List Members) (lives : List Live) (unit i : ℕ) (set : Members) → Match sets lives → i ≡ unit → set ≡ get_or sets i set → unit < length sets → nat_lt 0 (length set.list) ≡ list_any (λ l. l.unit == unit) lives
+any_in_set sets lives unit i set match at read inside = grind (arith, nat_tests, get_or_default, length-map, any_filtered)
+
+pub ruleset unit_steps = (lt-ltb, get_or_default, length-map, any_filtered, any_in_set, nat_tests)

@@ -1,5 +1,5 @@
 -- The functions that wait for a number, one after the other.
-use Rattle.std.proofs.Common.{◌≡◌, ℕ, ◌+◌, ◌<◌, ◌≤◌, ◌==◌, Bool, true, false, List, [], ◌∷◌, map, filter, find, position, All, Some, None, is_some, refl, arith}
+use Rattle.std.proofs.Common.{◌≡◌, ℕ, ◌+◌, ◌<◌, ◌≤◌, ◌==◌, Bool, false, List, [], ◌∷◌, ap, drop, map, filter, find, position, All, Some, None, is_some, refl, arith}
 use Rattle.std.proofs.lemmas.Bool.Decides.{nat_tests}
 use Rattle.std.proofs.lemmas.List.Elements.{All-weaker}
 use Rattle.iscsi_wire.specs.Serial.{number_of_first}
@@ -21,13 +21,9 @@ number_test first turned w = grind (arith, nat_tests)
 at_turn : (first turned : ℕ) (ws : List Waiting) → filter (λ b. b.number == number_of_first first + turned) (map (arrival_waiting first) ws) ≡ map (arrival_waiting first) (filter (λ w. w.turn == turned) ws)
 at_turn first turned ws = grind (arith, nat_tests, filter-map, filter-same, number_test)
 
-first_found : (p : Waiting → Bool) (ws : List Waiting) (w : Waiting) → find p ws ≡ Some w → (rest : List Waiting) × (filter p ws ≡ w ∷ rest)
+first_found : (p : Waiting → Bool) (ws : List Waiting) (w : Waiting) → find p ws ≡ Some w → filter p ws ≡ w ∷ drop 1 (filter p ws)
 first_found p [] w h = absurd cc
-first_found p (x ∷ ws) w h = by_head (p x) refl (first_found p ws w)
-  where
-    by_head : (b : Bool) → p x ≡ b → (find p ws ≡ Some w → (rest : List Waiting) × (filter p ws ≡ w ∷ rest)) → (rest : List Waiting) × (filter p (x ∷ ws) ≡ w ∷ rest)
-    by_head true is later = (filter p ws, let same : Some x ≡ Some w = rw is at h in let here : x ≡ w = cc in rw (is, here))
-    by_head false is later = rw is (later (rw is at h))
+first_found p (x ∷ ws) w h = grind (arith, nat_tests, first_found p ws w)
 
 none_found : (p : Waiting → Bool) (ws : List Waiting) → find p ws ≡ None → filter p ws ≡ []
 none_found p [] h = refl
@@ -37,9 +33,9 @@ none_found p (x ∷ ws) h = grind (arith, nat_tests, none_found p ws)
 pub next_function : (o : Setting) (t : Trace) (ws : List Waiting) (turned : ℕ) (w : Waiting) → waiting t ≡ map (arrival_waiting o.first) ws → find (λ v. v.turn == turned) ws ≡ Some w
     → functions_at o (number_of_first o.first + turned) t ≡ function_item o t (arrival_waiting o.first w) ∷ functions_at o (number_of_first o.first + turned) (function_item o t (arrival_waiting o.first w) ∷ t)
 next_function o t ws turned w same found =
-    let f = first_found (λ v. v.turn == turned) ws w found in
-    let these : filter (λ b. b.number == number_of_first o.first + turned) (waiting t) ≡ arrival_waiting o.first w ∷ map (arrival_waiting o.first) f.0 = rw (same, at_turn o.first turned ws, f.1) in
-    first_function o (number_of_first o.first + turned) t (arrival_waiting o.first w) (map (arrival_waiting o.first) f.0) these (waits_itself (λ (b : Arrival). b.number == number_of_first o.first + turned) (waiting t) (arrival_waiting o.first w) (map (arrival_waiting o.first) f.0) these)
+    let rest : List Arrival = map (arrival_waiting o.first) (drop 1 (filter (λ (v : Waiting). v.turn == turned) ws)) in
+    let these : filter (λ b. b.number == number_of_first o.first + turned) (waiting t) ≡ arrival_waiting o.first w ∷ rest = rw (same, at_turn o.first turned ws) (ap (map (arrival_waiting o.first)) (first_found (λ (v : Waiting). v.turn == turned) ws w found)) in
+    first_function o (number_of_first o.first + turned) t (arrival_waiting o.first w) rest these (waits_itself (λ (b : Arrival). b.number == number_of_first o.first + turned) (waiting t) (arrival_waiting o.first w) rest these)
 
 -- or there is none
 pub no_function : (o : Setting) (t : Trace) (ws : List Waiting) (turned : ℕ) → waiting t ≡ map (arrival_waiting o.first) ws → find (λ v. v.turn == turned) ws ≡ None → functions_at o (number_of_first o.first + turned) t ≡ []

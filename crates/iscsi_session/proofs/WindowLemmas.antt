@@ -73,6 +73,7 @@ advanced_at w q here =
 
 -- what the window has become: so many held requests fewer are counted in it, and so many received numbers more
 pub record Changed (old new : Arrived) (fewer_held more : ℕ) : Type 0 where
+  pub first : new.first ≡ old.first
   pub long : length new.places ≡ length old.places
   pub turned : new.turned ≡ old.turned
   pub unfinished : new.unfinished ≡ old.unfinished
@@ -81,13 +82,14 @@ pub record Changed (old new : Arrived) (fewer_held more : ℕ) : Type 0 where
   pub known : (conns : List (ℕ × ℕ)) → list_all (is_place_known conns) old.places ≡ true → list_all (is_place_known conns) new.places ≡ true
 
 same : (w : Arrived) → Changed w w 0 0
-same w = record { long = refl; turned = refl; unfinished = refl; held_is = omega arith; counted = omega arith; known = λ conns all. all }
+same w = record { first = refl; long = refl; turned = refl; unfinished = refl; held_is = omega arith; counted = omega arith; known = λ conns all. all }
 
 -- nothing is held at a place any more
 blanked : (w : Arrived) (k : ℕ) (p : Option (Option HeldRequest)) → at_place w k ≡ p → k < length w.places → Changed w (with_place w k (Some None)) (cond (is_held p) 1 0) (cond (is_some p) 0 1)
 blanked w k p is within =
     let none : Option (Option HeldRequest) = Some None in
     record {
+      first = refl;
       long = length-set w.places k none;
       turned = refl;
       unfinished = refl;

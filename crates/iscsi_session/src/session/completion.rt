@@ -76,6 +76,7 @@ impl Session {
 
 /// The live command with this ticket leaves the set of its unit, if it is enabled there. It is still among the live ones.
 #[inline(always)]
+#[tactic(auto, using(crate::proofs::CountLemmas::found_steps, crate::proofs::KeptLemmas::one_leaving, std::proofs::lemmas::List::get_or_default, std::proofs::lemmas::Bool::Decides::nat_tests))]
 fn take_enabled(sets: &mut [LinkedTaskSet], live: &LiveCommands, ticket: u64) -> Option<Live>
     requires units { list_all (λ l. nat_lt l.unit (length sets.old)) live.now.items ≡ true }
     ensures command { result ≡ enabled_in sets.old live.now.items ticket }

@@ -175,6 +175,7 @@ impl Session {
     /// What a function to a unit does.
     ///
     /// Rules: `abort-set/lower`, `abort-set/equal`, `reset/all`, `query-task/live`, `query-task-set/live`.
+    #[tactic(auto, using(crate::proofs::TagLemmas::unit_steps))]
     fn decide_to(&self, request: &Request, unit: u16) -> Deed
         requires named { unit_of_lun (length self.now.sets) request.now ≡ Some unit }
         requires unit { unit < length self.now.sets }

@@ -133,7 +133,7 @@ impl Session {
 
     /// Does what a request does that executes, by which alone that changes anything. Its number less the first CmdSN is this
     /// one, and it arrived in this event.
-    #[tactic(auto, using(crate::proofs::DeedLemmas::carried_stays, crate::proofs::ManageLemmas::owed_entered, std::proofs::lemmas::Bool::Decides::nat_tests))]
+    #[tactic(auto, using(crate::proofs::DeedLemmas::carried_stays, crate::proofs::ManageLemmas::owed_entered, crate::proofs::DeedLemmas::numbers_read))]
     #[inline(always)]
     pub(crate) fn carry_out<S: EffectSink>(
         &mut self,

@@ -22,6 +22,7 @@ pub(crate) const COMPLETE: Answer = Answer::Respond(Response::Complete as u8);
 
 impl Session {
     /// An immediate request executes, or is a function that waits.
+    #[tactic(auto, using(crate::proofs::DeedLemmas::arrival_steps))]
     pub(crate) fn receive_immediate<S: EffectSink>(&mut self, request: &Request, out: &mut S)
         requires immediate { is_immediate request.now ≡ true }
         requires known { known_in (connection_of request.now) self.old.conns ≡ true }
@@ -45,6 +46,7 @@ impl Session {
 
     /// Does what an immediate request does at its arrival, which doesn't wait.
     #[inline(never)]
+    #[tactic(auto, using(crate::proofs::DeedLemmas::numbers_read, std::proofs::Common::append_assoc))]
     fn execute_at_once<S: EffectSink>(&mut self, request: &Request, deed: Deed, out: &mut S)
         requires fits { Fits self.old request.now deed }
         requires ready { IsReady self.old request.now deed }
@@ -140,6 +142,7 @@ impl Session {
 
     /// Receives this number without a request, if it wasn't received before.
     #[inline(never)]
+    #[tactic(auto, using(crate::proofs::WindowLemmas::voided_changes, std::proofs::lemmas::Bool::Decides::nat_tests))]
     pub(crate) fn void_number<S: EffectSink>(&mut self, sn: u32, out: &mut S)
         requires inside { IsInside (place_in self.old.window sn) }
         requires counted { self.old.window.turned + count_by is_some self.old.window.places < self.old.taken }

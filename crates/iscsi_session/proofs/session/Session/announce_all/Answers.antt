@@ -4,7 +4,7 @@ use Rattle.std.specs.List.{range_with_len, flat_map}
 use Rattle.iscsi_session.proofs.SinkLemmas.{continued, ended}
 use Rattle.iscsi_session.specs.private.Standing.{Core}
 use Rattle.iscsi_session.specs.private.Steps.{set_at, all_given, enable_effects, all_told}
-use Rattle.iscsi_session.proofs.TellingLemmas.{given_all, told_more, told_all, told_later}
+use Rattle.iscsi_session.proofs.GivingLemmas.{given_set, told_more, told_all, told_later}
 use Rattle.iscsi_session.proofs.session.Session.announce_all.Goals as goal
 use Rattle.iscsi_rules.proofs.general.ListLemmas.{range_step}
 
@@ -20,7 +20,7 @@ loop-unit-preserved over c =
     let lt : u < end = c.loop-unit-test.true in
     let told = c.announce_enabled.ensures.done.core in
     record {
-      session = rw (told, given_all s.sets u) inv.session;
+      session = rw (told, given_set s.sets u) inv.session;
       told = rw told (told_more s.sets u (omega (arith, lt, inv.units)) inv.told);
       effects = continued over.S.EffectSink.has (all_told c.args.self.now).effects (told_from s u (end - u)) (enable_effects u (set_at s u).list) (told_from c.announce_enabled.new.self (u + 1) (end - (u + 1))) c.args.out.now c.loop-unit.out c.announce_enabled.new.out inv.effects
           (rw (range_step u end lt, told, told_later s.sets u (all_given (set_at s u)) (end - (u + 1)) (u + 1) (omega arith)) refl) c.announce_enabled.ensures.done.effects;

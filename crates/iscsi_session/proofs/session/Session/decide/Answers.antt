@@ -1,4 +1,4 @@
-use Rattle.std.proofs.Common.{◌≡◌, ◌==◌, ◌∙◌, ⊎_elim, cond, Bool, true, false, ℕ, refl, ap, sym}
+use Rattle.std.proofs.Common.{◌≡◌, ◌==◌, ◌∙◌, ⊎_elim, cond, Bool, true, false, ℕ, refl, ap, sym, arith}
 use Rattle.std.proofs.lemmas.Bool.{false≢true, eqb-true}
 use Rattle.iscsi_wire.specs.declared.request.Request.{Request}
 use Rattle.iscsi_wire.specs.Fields.{opcode}
@@ -9,7 +9,6 @@ use Rattle.iscsi_session.specs.private.Codes.{opcode_named}
 use Rattle.iscsi_session.specs.private.Standing.{Core}
 use Rattle.iscsi_session.specs.private.Deeds.{facts_by, deed_by}
 use Rattle.iscsi_session.proofs.session.Session.decide.Goals as goal
-use Rattle.std.proofs.Common.{arith}
 use Rattle.std.proofs.lemmas.Bool.Decides.{nat_tests}
 
 -- one that has the table of the SCSI Command

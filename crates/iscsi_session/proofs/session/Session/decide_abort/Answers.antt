@@ -1,11 +1,10 @@
-use Rattle.std.proofs.Common.{◌≡◌, None, option_map, ap}
+use Rattle.std.proofs.Common.{◌≡◌, None, option_map, ap, arith}
 use Rattle.iscsi_wire.specs.Fields.{rtt}
 use Rattle.iscsi_commands.specs.declared.live.Live.{Live}
 use Rattle.iscsi_rules.specs.rules.Deeds.{of_unit}
 use Rattle.iscsi_session.specs.private.Deeds.{tagged_in, live_by, facts_by}
 use Rattle.iscsi_session.proofs.session.Session.decide_abort.Goals as goal
 use Rattle.iscsi_session.proofs.session.Session.decide_abort.Goals.{After-find_held}
-use Rattle.std.proofs.Common.{arith}
 use Rattle.std.proofs.lemmas.Bool.Decides.{nat_tests}
 
 -- what is found of the unit

@@ -2,7 +2,7 @@ use Rattle.std.proofs.Common.{arith, ◌∙◌}
 use Rattle.iscsi_window.specs.Windows.{number_expected}
 use Rattle.iscsi_session.specs.private.Steps.{all_emptied}
 use Rattle.iscsi_session.proofs.SinkLemmas.{ended, joined}
-use Rattle.iscsi_session.proofs.DroppingLemmas.{DroppedAll, dropped_all}
+use Rattle.iscsi_session.proofs.EmptyingLemmas.{DroppedAll, dropped_all}
 use Rattle.iscsi_session.proofs.session.Session.empty_all.Given.{Over}
 use Rattle.iscsi_session.proofs.session.Session.empty_all.Goals as goal
 use Rattle.std.proofs.lemmas.Bool.Decides.{nat_tests}

@@ -5,7 +5,7 @@ use Rattle.iscsi_session.specs.contracts.session.Session.{the_view}
 use Rattle.iscsi_session.specs.private.Steps.{all_emptied}
 use Rattle.iscsi_session.proofs.SinkLemmas.{started, continued}
 use Rattle.iscsi_session.specs.private.Standing.{is_held}
-use Rattle.iscsi_session.proofs.DroppingLemmas.{Dropped, dropped, clear_past, answered_some, answered_none}
+use Rattle.iscsi_session.proofs.EmptyingLemmas.{Dropped, dropped, clear_past, answered_some, answered_none}
 use Rattle.iscsi_session.proofs.WindowLemmas.{Changed}
 use Rattle.iscsi_session.proofs.SoundLemmas.{window_sound, changed_sound, same_sound}
 use Rattle.iscsi_session.proofs.session.Session.empty_at.Given.{Over}
@@ -36,7 +36,7 @@ invariant_of-self-2 over c =
     let w : Arrived = c.self.inside.window in
     let t = taken over (goal.at.invariant_of-self-2 over c).In-Some in
     let d = t.left in
-    let g : Changed w (with_place w c.args.ahead (Some None)) 1 0 = record { long = length-set w.places c.args.ahead (Some None); turned = refl; unfinished = refl; held_is = d.held; counted = omega (arith, d.counted); known = d.known } in
+    let g : Changed w (with_place w c.args.ahead (Some None)) 1 0 = record { first = refl; long = length-set w.places c.args.ahead (Some None); turned = refl; unfinished = refl; held_is = d.held; counted = omega (arith, d.counted); known = d.known } in
     rw t.is (window_sound inv g.unfinished g.long (changed_sound inv.window g (omega (arith, inv.window.turned)) (omega (arith, inv.window.entered))))
 
 pub returns : goal.returns

@@ -4,8 +4,7 @@ use Rattle.iscsi_window.specs.Windows.{number_expected}
 use Rattle.iscsi_rules.specs.rules.Items.{functions_at}
 use Rattle.iscsi_rules.specs.rules.Trace.{Mark, after_items}
 use Rattle.iscsi_rules.specs.rules.Run.{effects_of}
-use Rattle.iscsi_session.specs.private.Standing.{Agrees}
-use Rattle.iscsi_session.specs.private.Standing.{Core}
+use Rattle.iscsi_session.specs.private.Standing.{Agrees, Core}
 use Rattle.iscsi_session.specs.private.Deeds.{next_waiting, function_taken}
 use Rattle.iscsi_session.proofs.AgendaLemmas.{functions-on, functions-done}
 use Rattle.iscsi_session.proofs.DeedLemmas.{function_stays, pace-function}

@@ -1,22 +1,15 @@
 use Rattle.std.proofs.Common.{◌≡◌, ◌∙◌, ◌<◌, ◌++◌, length, take, drop, get_or, set, ap, sym, arith}
 use Rattle.iscsi_tasks.specs.Sets.{opened}
-use Rattle.iscsi_session.specs.private.Steps.{ungiven_in, owed}
+use Rattle.iscsi_session.specs.private.Steps.{ungiven_in, owed, set_staying, covered_tickets, covers_by, staying, finished_by}
 use Rattle.iscsi_session.specs.private.Standing.{Core}
-use Rattle.iscsi_session.specs.private.Steps.{set_staying, covered_tickets, covers_by, staying, finished_by}
-use Rattle.iscsi_session.proofs.CountLemmas.{few_live}
-use Rattle.iscsi_session.proofs.KeptLemmas.{ungiven_in-staying, rises, few_in, covered_live, covered_up, without_covered}
+use Rattle.iscsi_session.proofs.KeptLemmas.{ungiven_in-staying, covered_live, without_covered}
 use Rattle.iscsi_session.proofs.SoundLemmas.{sets_written, left_sound}
 use Rattle.iscsi_session.proofs.session.Session.leave.Goals.{After-deref_mut, After-deref}
 use Rattle.iscsi_session.proofs.session.Session.leave.Given.{Over}
 use Rattle.iscsi_session.proofs.session.Session.leave.Goals as goal
-use Rattle.std.proofs.lemmas.Bool.Decides.{nat_tests}
 
 inside : (over : Over) (c : After-deref_mut over) → c.args.unit < length c.self.inside.sets.items
 inside over c = rw (← c.self.view_is) at c.requires.unit
-
--- there is room for the tickets of all that are live, and so for those of one set
-pub dequeue-requires-clause-room : goal.dequeue-requires-clause-room
-dequeue-requires-clause-room over c = grind (arith, nat_tests, inside, few_in, few_live)
 
 -- the tickets are those of the covered commands of the unit
 tickets_are : (over : Over) (c : After-deref over) → c.deref.result.now ≡ covered_tickets (covers_by c.args.leaving.now) (get_or c.self.inside.sets.items c.args.unit (opened 0)).list
@@ -32,9 +25,6 @@ end_all-requires-clause-there over c =
     let within = inside over (goal.at.end_all-requires-clause-there over c).After-deref_mut in
     rw (tickets_are over (goal.at.end_all-requires-clause-there over c).After-deref)
     (covered_live (get_or c.self.inside.sets.items c.args.unit (opened 0)) (covers_by c.args.leaving.now) c.args.unit c.self.inside.live.items (c.self.invariant.commands.in_sets c.args.unit within))
-
-pub end_all-requires-clause-in_order : goal.end_all-requires-clause-in_order
-end_all-requires-clause-in_order over c = grind (arith, nat_tests, inside, tickets_are, covered_up, rises)
 
 live_are : (over : Over) (c : goal.After-end_all over) → c.end_all.new.live.items ≡ staying (covers_by c.args.leaving.now) (get_or c.self.inside.sets.items c.args.unit (opened 0)) c.self.inside.live.items
 live_are over c = c.end_all.ensures.live ∙ rw (tickets_are over (goal.at.returns over c).After-deref) (without_covered (get_or c.self.inside.sets.items c.args.unit (opened 0)) (covers_by c.args.leaving.now) c.self.inside.live.items)

@@ -7,9 +7,8 @@ use Rattle.iscsi_session.specs.private.Steps.{find_ticket, without_ticket, enabl
 use Rattle.iscsi_rules.proofs.general.BoolLemmas.{and_second}
 use Rattle.iscsi_rules.proofs.general.ListLemmas.{find-passes}
 use Rattle.iscsi_rules.proofs.general.CountLemmas.{fewer}
-use Rattle.iscsi_session.proofs.FoundLemmas.{found_ticket}
-use Rattle.iscsi_session.proofs.KeptLemmas.{enabled_found, enabled_covered}
-use Rattle.iscsi_session.proofs.KeptLemmas.{ungiven_in-staying, rises, one_live, one_leaves}
+use Rattle.iscsi_session.proofs.CountLemmas.{found_ticket}
+use Rattle.iscsi_session.proofs.KeptLemmas.{enabled_found, enabled_covered, ungiven_in-staying, rises, one_live, one_leaves}
 use Rattle.iscsi_session.proofs.SoundLemmas.{sets_written, left_sound}
 use Rattle.iscsi_session.proofs.session.Session.leave_enabled.Given.{Over}
 use Rattle.iscsi_session.proofs.session.Session.leave_enabled.Goals as goal

@@ -1,8 +1,7 @@
 use Rattle.std.proofs.Common.{◌∙◌, ap, sym, refl, arith, count_by}
 use Rattle.iscsi_window.specs.Windows.{at_place}
 use Rattle.iscsi_session.specs.private.Standing.{Core, is_held}
-use Rattle.iscsi_session.proofs.AgendaLemmas.{Due, whole_of, Due-start, Due-functions, turned-one}
-use Rattle.iscsi_session.proofs.AgendaLemmas.{turns_done}
+use Rattle.iscsi_session.proofs.AgendaLemmas.{Due, whole_of, Due-start, Due-functions, turned-one, turns_done}
 use Rattle.iscsi_session.proofs.DeedLemmas.{same_expected, pace-turned, turned_taken}
 use Rattle.iscsi_session.proofs.session.Session.run_agenda.Goals as goal
 use Rattle.std.proofs.lemmas.Bool.Decides.{nat_tests}

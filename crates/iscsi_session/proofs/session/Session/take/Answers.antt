@@ -10,8 +10,7 @@ use Rattle.iscsi_rules.proofs.traces.FlowItems.{belong_more}
 use Rattle.iscsi_session.specs.private.Standing.{Core, StandsFor}
 use Rattle.iscsi_session.specs.private.Steps.{KeepsPace, Handles}
 use Rattle.iscsi_session.proofs.PromiseLemmas.{Flows-step}
-use Rattle.iscsi_session.proofs.ManageLemmas.{few}
-use Rattle.iscsi_session.proofs.OwedLemmas.{owed_few}
+use Rattle.iscsi_session.proofs.ManageLemmas.{few, owed_few}
 use Rattle.iscsi_session.proofs.AgreeLemmas.{settled_numbers}
 use Rattle.iscsi_session.proofs.AgendaLemmas.{Settled-counted, taken_by, refusal_as}
 use Rattle.iscsi_session.proofs.SoundLemmas.{taken_sound}

@@ -5,9 +5,8 @@ use Rattle.iscsi_commands.specs.declared.live.Live.{Live}
 use Rattle.iscsi_rules.specs.declared.effect.Effect.TheVariants.{Leave}
 use Rattle.iscsi_session.proofs.SinkLemmas.{started, continued}
 use Rattle.iscsi_session.specs.private.Steps.{leave_each, find_ticket, without_ticket, is_numbered}
-use Rattle.iscsi_session.proofs.KeptLemmas.{ascending-kept}
+use Rattle.iscsi_session.proofs.KeptLemmas.{ascending-kept, without_none, without_more, leave_next, there_yet, finished_none, finished_on, without_shorter}
 use Rattle.iscsi_session.proofs.ListLemmas.{are_known-left}
-use Rattle.iscsi_session.proofs.KeptLemmas.{without_none, without_more, leave_next, there_yet, finished_none, finished_on, without_shorter}
 use Rattle.iscsi_session.proofs.session.leaving.end_all.Goals.{In-loop-k}
 use Rattle.iscsi_session.proofs.session.leaving.end_all.Given.{Over}
 use Rattle.iscsi_session.proofs.session.leaving.end_all.Goals as goal

@@ -14,13 +14,6 @@ given over c = given_one c.args.unit c.in-Some.ticket c.loop-ticket.set.list (sy
 all : (over : Over) (c : In_default over) → AllGiven c.args.unit c.loop-ticket.set.list
 all over c = given_all c.args.unit c.loop-ticket.set.list (sym c.next_new.ensures.answer ∙ c.in_default.is)
 
-pub put_enable-requires : goal.put_enable-requires
-put_enable-requires over c =
-    omega (arith, (given over (goal.at.put_enable-requires over c).In-Some).fewer, c.loop-ticket.invariant.spent, c.loop-ticket.invariant.capacity, c.requires.room)
-
-pub loop-ticket-smaller : goal.loop-ticket-smaller
-loop-ticket-smaller over c = rw c.next_new.ensures.state (omega (arith, (given over (goal.at.loop-ticket-smaller over c).In-Some).fewer))
-
 pub loop-ticket-preserved : goal.loop-ticket-preserved
 loop-ticket-preserved over c =
     let inv = c.loop-ticket.invariant in
@@ -33,11 +26,6 @@ loop-ticket-preserved over c =
       capacity = c.put_enable.ensures.capacity ∙ inv.capacity;
     }
 
-pub returns-clause-set : goal.returns-clause-set
-returns-clause-set over c =
-    let g = all over (goal.at.returns-clause-set over c).In_default in
-    c.next_new.ensures.state ∙ rw (g.unchanged, ← g.same) c.loop-ticket.invariant.set
-
 pub returns-clause-effects : goal.returns-clause-effects
 returns-clause-effects over c =
     let inv = c.loop-ticket.invariant in
@@ -45,6 +33,3 @@ returns-clause-effects over c =
       items = ended over.S.EffectSink.has (enable_effects c.args.unit c.args.set.now.list) (enable_effects c.args.unit c.loop-ticket.set.list) c.args.out.now c.loop-ticket.out inv.effects (all over (goal.at.returns-clause-effects over c).In_default).effects;
       room = inv.capacity;
     }
-
-pub returns-clause-spent : goal.returns-clause-spent
-returns-clause-spent over c = omega (arith, (all over (goal.at.returns-clause-spent over c).In_default).none_new, c.loop-ticket.invariant.spent)

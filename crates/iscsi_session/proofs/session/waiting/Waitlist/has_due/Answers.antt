@@ -1,11 +1,8 @@
 use Rattle.std.proofs.Common.{◌≡◌, ◌==◌, find, arith, None}
 use Rattle.std.proofs.lemmas.Bool.Decides.{nat_tests}
 use Rattle.iscsi_session.specs.declared.session.waiting.Waiting.{Waiting}
-use Rattle.iscsi_session.proofs.WaitLemmas.{none_due, found_where}
+use Rattle.iscsi_session.proofs.WaitLemmas.{none_due}
 use Rattle.iscsi_session.proofs.session.waiting.Waitlist.has_due.Goals as goal
-
-pub returns-then-self-turn : goal.returns-then-self-turn
-returns-then-self-turn c = grind (arith, nat_tests, found_where)
 
 pub returns-else-self-turn : goal.returns-else-self-turn
 returns-else-self-turn c =
