@@ -1,11 +1,13 @@
--- A live command is found by its tag, which no other one has, or by its unit.
+-- A live command is found by its tag, which no other one has, by its unit, or by its ticket.
 use Rattle.std.proofs.lemmas.Bool.Decides.{nat_tests}
 use Rattle.std.proofs.Common.{◌≡◌, ℕ, zero, suc, ◌==◌, ◌||◌, ◌&&◌, cond, Bool, true, false, is_some, List, [], ◌∷◌, find, All, Option, Some, None, refl, sym, ◌∙◌, arith, ne_eqb, ◌<◌, nat_lt, length, filter, get_or}
 use Rattle.std.specs.List.{list_any}
 use Rattle.std.proofs.lemmas.Bool.{eqb-true, lt-ltb}
-use Rattle.std.proofs.lemmas.List.{get_or_default, length-map}
+use Rattle.std.proofs.lemmas.List.{get_or_default, length-map, set-get_or}
 use Rattle.iscsi_tasks.specs.Sets.{Members}
-use Rattle.iscsi_session.specs.private.Standing.{Match}
+use Rattle.iscsi_session.specs.private.Standing.{Match, tickets_of, tickets_in, are_ascending}
+use Rattle.iscsi_session.specs.private.Steps.{has_covered, covered_tickets, covers_ticket}
+use Rattle.iscsi_session.proofs.KeptLemmas.{one_leaving, one_missing, one_covered, rising_in}
 use Rattle.std.proofs.lemmas.List.Elements.{All-head, All-tail}
 use Rattle.iscsi_commands.specs.declared.live.Live.{Live}
 use Rattle.iscsi_commands.specs.Commands.{AreTagsApart}
@@ -43,3 +45,11 @@ pub any_in_set : (sets : List Members) (lives : List Live) (unit i : ℕ) (set :
 any_in_set sets lives unit i set match at read inside = grind (arith, nat_tests, get_or_default, length-map, any_filtered)
 
 pub ruleset unit_steps = (lt-ltb, get_or_default, length-map, any_filtered, any_in_set, nat_tests)
+
+-- ---- a ticket in a set
+
+-- it is the only one, if it is there
+pub noted : (k unit : ℕ) (now : Members) (lives : List Live) (there : Bool) → tickets_of now ≡ tickets_in unit lives → are_ascending lives ≡ true → has_covered (covers_ticket k) now ≡ there → covered_tickets (covers_ticket k) now.list ≡ cond there (k ∷ []) []
+noted k unit now lives there match up has = rw has at (one_covered k now.list (rw match (rising_in unit lives up)))
+
+pub ruleset ticket_steps = (get_or_default, set-get_or, one_leaving, one_missing, one_covered, rising_in, noted, nat_tests)
