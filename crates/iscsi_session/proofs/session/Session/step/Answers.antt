@@ -1,15 +1,10 @@
-use Rattle.std.proofs.Common.{◌≤◌, ◌∙◌, ◌++◌, refl, ap, sym, arith, List, [], ◌∷◌, length, length-append}
+use Rattle.std.proofs.Common.{◌∙◌, ◌++◌, refl, ap, sym, arith, List, [], ◌∷◌, length, length-append}
 use Rattle.iscsi_rules.specs.declared.effect.Effect.{Effect}
-use Rattle.iscsi_rules.specs.declared.event.Event.{Event}
-use Rattle.iscsi_rules.specs.rules.Settings.{Setting}
-use Rattle.iscsi_rules.specs.rules.Run.{trace_of, next_entry}
+use Rattle.iscsi_rules.specs.rules.Run.{next_entry}
 use Rattle.iscsi_rules.proofs.promises.NumberingLemmas.{counts_replies}
-use Rattle.iscsi_session.specs.promises.Bounds.{effect_bound_of}
-use Rattle.iscsi_session.specs.private.Standing.{StandsFor}
 use Rattle.iscsi_session.proofs.AgendaLemmas.{refusal_as}
 use Rattle.iscsi_session.proofs.OpenLemmas.{bound_is}
 use Rattle.iscsi_session.proofs.session.Session.step.Goals as goal
-use Rattle.iscsi_session.proofs.session.Session.step.Goals.{After-take}
 
 pub returns-in-Some-clause-refused : goal.returns-in-Some-clause-refused
 returns-in-Some-clause-refused c = λ o h stands. rw (refusal_as o _ h _ _ stands (sym c.refusal.ensures ∙ c.in-Some.is))
@@ -26,11 +21,8 @@ returns-clause-effects c = λ o h stands. c.take.ensures.effects o h stands [] c
 pub returns-clause-stat_sns : goal.returns-clause-stat_sns
 returns-clause-stat_sns c = λ o h stands. counts_replies o (h ++ c.args.event.now ∷ [])
 
-bounded : (c : After-take) (o : Setting) (h : List Event) → StandsFor o c.args.self.now h → length (next_entry o h c.args.event.now).effects ≤ effect_bound_of o (trace_of o h)
-bounded c o h stands =
+pub returns-clause-bound : goal.returns-clause-bound
+returns-clause-bound c = λ o h stands.
     let es : List Effect = (next_entry o h c.args.event.now).effects in
     let added = ap length (c.take.ensures.effects o h stands [] c.reserve.new.self.items refl) ∙ length-append c.reserve.new.self.items es in
     omega (arith, added, c.take.new.out.ok.0, c.reserve.new.self.ok.0, c.take.ensures.spent, bound_is o _ h stands)
-
-pub returns-clause-bound : goal.returns-clause-bound
-returns-clause-bound c = bounded (goal.at.returns-clause-bound c).After-take
