@@ -257,6 +257,7 @@ impl Session {
     /// Takes an event that isn't refused, and hands its effects to `out`, which has room for as many as any event gives
     /// or for `effect_bound()` more.
     #[inline(always)]
+    #[tactic(auto, using(crate::proofs::ManageLemmas::owed_few, std::proofs::lemmas::Bool::Decides::nat_tests))]
     fn take<S: EffectSink>(&mut self, event: &Event, out: &mut S) -> Numbers
         requires taken { refusal_by self.old event.now ≡ None }
         requires room { (S.len out.old + 18444 ≤ S.capacity out.old) ⊎ (S.len out.old

@@ -113,6 +113,7 @@ impl Session {
 
     /// Executes a request that arrived in this event, which does this.
     #[inline(always)]
+    #[tactic(auto, using(crate::proofs::DeedLemmas::fits_deed, crate::proofs::DeedLemmas::numbers_read))]
     fn execute_by<S: EffectSink>(&mut self, request: &Request, event: u64, deed: Deed, out: &mut S)
         requires deed { deed ≡ deed_by self.old request.now }
         requires space { is_immediate request.now ≡ false → HasRoom self.old.window }

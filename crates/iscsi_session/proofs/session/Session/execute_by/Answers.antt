@@ -1,20 +1,14 @@
-use Rattle.std.proofs.Common.{rules, w64, ◌∙◌, arith}
+use Rattle.std.proofs.Common.{rules, w64, arith}
 use Rattle.std.proofs.lemmas.Int.{to_z-of_z}
 use Rattle.iscsi_session.specs.private.Deeds.{deed_by}
 use Rattle.iscsi_session.proofs.DeedLemmas.{fits_deed, ready, executed_stays}
 use Rattle.iscsi_session.proofs.LoggedOutLemmas.{Stays}
 use Rattle.iscsi_session.proofs.session.Session.execute_by.Goals as goal
 
-pub carry_out-requires-clause-fits : goal.carry_out-requires-clause-fits
-carry_out-requires-clause-fits over c = rw c.requires.deed (fits_deed c.args.self.now c.args.request.now)
-
 pub carry_out-requires-clause-ready : goal.carry_out-requires-clause-ready
 carry_out-requires-clause-ready over c =
     rw c.requires.deed
     (ready c.args.self.now c.args.request.now (deed_by c.args.self.now c.args.request.now) (fits_deed c.args.self.now c.args.request.now) c.requires.space c.requires.turned c.requires.counted c.requires.known)
-
-pub carry_out-requires-clause-number : goal.carry_out-requires-clause-number
-carry_out-requires-clause-number over c = λ unit is. to_z-of_z w64 c.position-number.result (search rules) ∙ c.position-number.ensures
 
 pub returns : goal.returns
 returns over c =

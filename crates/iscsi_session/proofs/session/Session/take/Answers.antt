@@ -10,7 +10,7 @@ use Rattle.iscsi_rules.proofs.traces.FlowItems.{belong_more}
 use Rattle.iscsi_session.specs.private.Standing.{Core, StandsFor}
 use Rattle.iscsi_session.specs.private.Steps.{KeepsPace, Handles}
 use Rattle.iscsi_session.proofs.PromiseLemmas.{Flows-step}
-use Rattle.iscsi_session.proofs.ManageLemmas.{few, owed_few}
+use Rattle.iscsi_session.proofs.ManageLemmas.{few}
 use Rattle.iscsi_session.proofs.AgreeLemmas.{settled_numbers}
 use Rattle.iscsi_session.proofs.AgendaLemmas.{Settled-counted, taken_by, refusal_as}
 use Rattle.iscsi_session.proofs.SoundLemmas.{taken_sound}
@@ -21,9 +21,6 @@ use Rattle.iscsi_session.proofs.session.Session.take.Goals.{After-apply}
 
 pub invariant_of-self : goal.invariant_of-self
 invariant_of-self over c = taken_sound c.self.invariant (rw (← c.self.view_is) at (taken_by c.args.self.now c.args.event.now c.requires.taken).1)
-
-pub apply-requires-clause-owed : goal.apply-requires-clause-owed
-apply-requires-clause-owed over c = owed_few c.self.inside.sets.items c.self.inside.live.items c.self.invariant.commands.in_sets
 
 pub apply-requires-clause-room : goal.apply-requires-clause-room
 apply-requires-clause-room over c = ⊎_elim (λ most. omega (arith, most, few c.self.invariant, c.self.invariant.window.most, c.self.invariant.window.fits, c.self.invariant.limits.conns)) (λ enough. enough) (rw (← c.self.view_is) at c.requires.room)
