@@ -1,5 +1,5 @@
 -- Where the live commands stand once they have closed up.
-use Rattle.std.proofs.Common.{◌≡◌, ◌≢◌, ℕ, zero, suc, ◌+◌, ◌<◌, ◌≤◌, Bool, List, [], ◌∷◌, length, map, filter, get_or, set, refl, ap, ◌∙◌, arith, ⊎_elim}
+use Rattle.std.proofs.Common.{◌≡◌, ◌≢◌, ℕ, zero, suc, ◌+◌, ◌<◌, ◌≤◌, Bool, false, List, [], ◌∷◌, length, map, filter, get_or, set, refl, ap, ◌∙◌, arith, ⊎_elim}
 use Rattle.std.proofs.lemmas.Bool.{cases_Bool, false≢true}
 use Rattle.std.proofs.lemmas.List.{get_or-map, get_or-set_same, get_or-set_other, length-map, length-set}
 use Rattle.iscsi_slots.specs.Places.{AreAscending}
@@ -99,3 +99,11 @@ module _ (log : List Entry) (n group : ℕ) {old places : List ℕ} (before : Ar
     done = λ k l live first. grind (arith, before.done k, before.to_do k);
     to_do = λ k l live first. before.to_do k (omega (arith, l)) live first;
   }
+
+-- a command that ended stays where it is
+pub renumbered_ended : (log : List Entry) (n : ℕ) {old places : List ℕ} → AreRenumbered log n old places → (entry_at log n).is_live ≡ false → AreRenumbered log (n + 1) old places
+renumbered_ended log n before over = record {
+  size = before.size;
+  done = λ k l live first. grind (arith, before.done k, over);
+  to_do = λ k l live first. before.to_do k (omega (arith, l)) live first;
+}

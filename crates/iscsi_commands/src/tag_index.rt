@@ -74,7 +74,8 @@ impl TagIndex {
         None
     }
 
-    /// The command at a place enters, behind those before it.
+    /// The command at a place enters, behind those before it. Mostly the place of its group is free.
+    #[inline(always)]
     #[tactic(auto, using(crate::proofs::LogLemmas::group_below))]
     pub(crate) fn enter(&mut self, log: &[Entry], k: usize)
         requires tagged { AreTagged (take k log.now) self.old.places.items self.old.crowded.items self.old.others.items }
@@ -90,12 +91,32 @@ impl TagIndex {
         let itt = entry_at(log, k).command.itt;
         let group = group_of(itt);
         if is_taken(log, k, usize::from(self.places[group]), group) {
-            let place = count_below(&self.others, log, itt);
-            self.others.insert(place, k as u16);
-            self.crowded[group] = true;
+            self.enter_apart(log, k);
         } else {
             self.places[group] = k as u16;
         }
+    }
+
+    /// The command at a place enters apart, since the place of its group is taken.
+    #[inline(never)]
+    #[tactic(auto, using(crate::proofs::LogLemmas::group_below))]
+    fn enter_apart(&mut self, log: &[Entry], k: usize)
+        requires tagged { AreTagged (take k log.now) self.old.places.items self.old.crowded.items self.old.others.items }
+        requires place { k < length log.now }
+        requires short { k < 65536 }
+        requires room { length self.old.others.items < self.old.others.room }
+        requires live { IsLiveAt log.now k }
+        requires unused { (j : ℕ) → IsLiveAt (take k log.now) j → tag_at log.now j ≢ tag_at log.now k }
+        requires taken { slice_index_or self.old.places.items (group_of (tag_at log.now k)) 0 < k }
+        ensures tagged { AreTagged (take (k + 1) log.now) self.new.places.items self.new.crowded.items
+            self.new.others.items }
+        ensures room { self.new.others.room ≡ self.old.others.room }
+    {
+        let itt = entry_at(log, k).command.itt;
+        let group = group_of(itt);
+        let place = count_below(&self.others, log, itt);
+        self.others.insert(place, k as u16);
+        self.crowded[group] = true;
     }
 
     /// The live command at a place leaves. Mostly it stands at the place of its group.
@@ -191,9 +212,12 @@ fn renumber_places(places: &mut [u16], log: &[Entry], to: &[u16])
         → slice_index_or places.new (group_of (tag_at log.now k)) 0 ≡ rank log.now k }
 {
     for k in 0..log.len() {
-        let group = group_of(entry_at(log, k).command.itt);
-        if usize::from(places[group]) == k {
-            places[group] = to[k];
+        let entry = entry_at(log, k);
+        if entry.is_live {
+            let group = group_of(entry.command.itt);
+            if usize::from(places[group]) == k {
+                places[group] = to[k];
+            }
         }
     }
 }

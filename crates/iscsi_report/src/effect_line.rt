@@ -254,10 +254,7 @@ fn put_attr(attr: Attr, line: &mut [u8], at: usize) -> usize
 {
     match attr {
         // Most are of this kind.
-        Attr::Simple => {
-            let word = *b" simple\n";
-            put_text(&word, line, at)
-        }
+        Attr::Simple => put_text(b" simple\n", line, at),
         Attr::Ordered => put_rarer(b" ordered\n", line, at),
         Attr::Head => put_rarer(b" head\n", line, at),
     }

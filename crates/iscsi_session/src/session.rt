@@ -281,8 +281,8 @@ impl Session {
         self.numbers()
     }
 
-    /// Takes an event that is counted. It is apart from `take`, so that this one is short where it is inlined.
-    #[inline(never)]
+    /// Takes an event that is counted. Arrivals and completions are apart, so that it is short where it is inlined.
+    #[inline(always)]
     fn apply<S: EffectSink>(&mut self, event: &Event, out: &mut S)
         requires known { comes_on self.old.conns event.now ≡ true }
         requires counted { self.old.window.turned + count_by is_some self.old.window.places < self.old.taken }
@@ -300,7 +300,7 @@ impl Session {
         ensures capacity { S.capacity out.new ≡ S.capacity out.old }
     {
         match event {
-            Event::Arrive { conn, header } => self.arrive(&Request::read(*conn, header), out),
+            Event::Arrive { conn, header } => self.arrive(*conn, header, out),
             Event::Done { ticket, status } => self.complete(*ticket, *status, out),
         }
     }

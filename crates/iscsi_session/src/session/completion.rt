@@ -29,6 +29,7 @@ impl Session {
     ///
     /// Rules: `completion/stale`, `completion/status`.
     #[tactic(auto, using(std::proofs::Common::append_assoc, std::proofs::lemmas::Bool::Decides::nat_tests))]
+    #[inline(never)]
     pub(crate) fn complete<S: EffectSink>(&mut self, ticket: u64, status: u8, out: &mut S)
         requires room { S.len out.old + owed self.old.live self.old.sets + 1 ≤ S.capacity out.old }
         ensures done { Takes S.has S.capacity (completed self.old (enabled_in self.old.sets self.old.live ticket) status) self.new

@@ -1,5 +1,6 @@
-use Rattle.std.proofs.Common.{◌≡◌, ◌∙◌, ap, sym, subst, refl, true, false, List}
-use Rattle.iscsi_wire.specs.Fields.{connection_of}
+use Rattle.std.proofs.Common.{◌≡◌, ◌∙◌, sym, subst, refl, true, false, List}
+use Rattle.iscsi_wire.specs.Fields.{request_of}
+use Rattle.iscsi_wire.specs.declared.request.Request.{Request}
 use Rattle.iscsi_rules.specs.rules.Trace.{Mark}
 use Rattle.iscsi_rules.specs.promises.Flow.{HasOneMore}
 use Rattle.iscsi_session.specs.private.Standing.{Core}
@@ -11,12 +12,14 @@ use Rattle.iscsi_session.proofs.session.Session.arrive.Goals as goal
 pub returns-then-is_open-clause-items : goal.returns-then-is_open-clause-items
 returns-then-is_open-clause-items over c = λ o index t taken h.
     let s : Core = c.args.self.now in
-    let there : is_among_open (connection_of c.args.request.now) s.open_conns ≡ true = ap (λ n. is_among_open n s.open_conns) (sym c.conn.ensures) ∙ sym c.is_open.ensures ∙ c.if-is_open.true in
-    subst (λ (items : List (List Mark)). Handles over.S.EffectSink.has o t items HasOneMore c.dispatch.new.self c.args.out.now c.dispatch.new.out) (sym (opened_arrival o s index t c.args.request.now h.agrees (known_of o s t _ h.agrees c.requires.known) there)) (c.dispatch.ensures.items o index t taken h)
+    let request : Request = request_of c.args.conn c.args.header.now in
+    let there : is_among_open c.args.conn s.open_conns ≡ true = sym c.is_open.ensures ∙ c.if-is_open.true in
+    subst (λ (items : List (List Mark)). Handles over.S.EffectSink.has o t items HasOneMore c.dispatch.new.self c.args.out.now c.dispatch.new.out) (sym (opened_arrival o s index t request h.agrees (known_of o s t _ h.agrees c.requires.known) there)) (rw c.read.ensures at (c.dispatch.ensures.items o index t taken h))
 
 pub returns-else-is_open-clause-items : goal.returns-else-is_open-clause-items
 returns-else-is_open-clause-items over c = λ o index t taken h.
     let s : Core = c.args.self.now in
     let known = known_of o s t _ h.agrees c.requires.known in
-    let gone : is_among_open (connection_of c.args.request.now) s.open_conns ≡ false = ap (λ n. is_among_open n s.open_conns) (sym c.conn.ensures) ∙ sym c.is_open.ensures ∙ c.if-is_open.false in
-    handled over.S.EffectSink.has o _ t _ s c.args.out.now c.put_ignore.new.self (closed_arrival o s index t c.args.request.now h known gone) refl c.put_ignore.ensures.has
+    let request : Request = request_of c.args.conn c.args.header.now in
+    let gone : is_among_open c.args.conn s.open_conns ≡ false = sym c.is_open.ensures ∙ c.if-is_open.false in
+    handled over.S.EffectSink.has o _ t _ s c.args.out.now c.put_ignore.new.self (closed_arrival o s index t request h known gone) refl c.put_ignore.ensures.has
