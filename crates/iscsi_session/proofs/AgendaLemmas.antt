@@ -6,7 +6,7 @@ use Rattle.std.proofs.lemmas.Bool.Decides.{nat_tests}
 use Rattle.std.proofs.lemmas.List.{append-nil}
 use Rattle.iscsi_wire.specs.declared.request.Request.{Request}
 use Rattle.iscsi_wire.specs.Serial.{lift, number_of_first}
-use Rattle.iscsi_wire.specs.Fields.{connection_of, is_immediate, itt, cmd_sn, header_of}
+use Rattle.iscsi_wire.specs.Fields.{connection_of, is_immediate, itt, cmd_sn}
 use Rattle.iscsi_window.specs.declared.answer.Offer.{Offer}
 use Rattle.iscsi_window.specs.declared.answer.Offer.TheVariants.{Held, Outside as OutsideWindow, Duplicate as Known}
 use Rattle.iscsi_tasks.specs.declared.member.Member.{Member}
@@ -20,23 +20,23 @@ use Rattle.iscsi_rules.specs.rules.Trace.{Arrival, Command, Mark, Admits, Trace,
 use Rattle.iscsi_rules.specs.rules.Execution.{exp_of, max_of, completion, sense_of_status, rejected}
 use Rattle.iscsi_rules.specs.rules.Agenda.{with_turns, numbered, arrival_of, command_of, items_of, belongs, kind_of, arrival_as, arrival_open, arrival}
 use Rattle.iscsi_rules.specs.rules.Items.{agenda, item_of, function_item, functions_at, turn_at, immediate_item}
-use Rattle.iscsi_rules.specs.rules.Run.{newly_enabled, effects_of, trace_of, effects_of_item, stat_sn_of}
+use Rattle.iscsi_rules.specs.rules.Run.{newly_enabled, effects_of, effects_of_item}
 use Rattle.iscsi_session.specs.declared.fault.SessionFault.{SessionFault}
 use Rattle.iscsi_session.specs.promises.Refusals.{refusal_of}
-use Rattle.iscsi_session.specs.private.Standing.{Core, place_of, kept, is_regular, is_regular_request, member_of, Agrees, Settled, StandsFor, arrival_waiting}
-use Rattle.iscsi_session.specs.private.Steps.{find_ticket, comes_on, refusal_by, set_at, with_offered, enabled_of, enabled_in, covers_ticket, left_answered, completed, Step, Runs, Handles, HasNoMore, count_reply, is_among_open, Takes, replied, request_answered}
+use Rattle.iscsi_session.specs.private.Standing.{Core, kept, is_regular, is_regular_request, member_of, Agrees, Settled, StandsFor, arrival_waiting}
+use Rattle.iscsi_session.specs.private.Steps.{is_gone, find_ticket, comes_on, refusal_by, set_at, with_offered, enabled_of, enabled_in, covers_ticket, left_answered, completed, Step, Runs, Handles, HasNoMore, count_reply, is_among_open, Takes, request_answered}
 use Rattle.iscsi_rules.proofs.general.BoolLemmas.{and_both, not_flip}
 use Rattle.iscsi_rules.proofs.general.ListLemmas.{list_any-map, is_known-cids, filter-swap, list_all-filter, find-passes, filtered_among, is_none}
-use Rattle.iscsi_session.proofs.WindowParts.{WindowAgrees-quiet, Next, next_request, Passed, passed_at, WindowAgrees-passed}
+use Rattle.iscsi_session.proofs.WindowParts.{WindowAgrees-quiet, Next, next_request, Passed, passed_at, WindowAgrees-passed, read_inside}
 use Rattle.iscsi_rules.proofs.promises.MomentLemmas.{enables}
 use Rattle.iscsi_session.proofs.AgreeLemmas.{find_kept, lasting, Regular, regular_parts, regular_live, settled_expected, settled_max, Stepped, Stepped-ignored, step_ignored, Agrees-admitted, known_of, Agrees-untouched, RepliesAgree-sent}
-use Rattle.iscsi_rules.proofs.traces.NewlyLemmas.{newly-untouched, Untouched}
+use Rattle.iscsi_rules.proofs.traces.NewlyLemmas.{newly-untouched}
 use Rattle.iscsi_rules.proofs.general.NumberLemmas.{wire-lift}
-use Rattle.iscsi_rules.proofs.items.CommandItems.{first_passing, none_passing, ticket_alone, untouched-admits, completion_item, first_passes, quiet-completion}
+use Rattle.iscsi_rules.proofs.items.CommandItems.{first_passing, none_passing, ticket_alone, untouched-admits, completion_item, first_passes, quiet-completion, LeavesSome}
 use Rattle.iscsi_session.proofs.ExecutionLemmas.{covered_in, gone_tickets, Leaving, leaving-agrees, leaving-effects, Follows, turned_core, turned_is, numbered_held}
 use Rattle.iscsi_tasks.specs.declared.task.Task.{Task}
 use Rattle.iscsi_wire.specs.declared.reply.Reply.{Reply}
-use Rattle.iscsi_wire.specs.declared.reply.Reply.TheVariants.{Scsi, Reject}
+use Rattle.iscsi_wire.specs.declared.reply.Reply.TheVariants.{Scsi}
 use Rattle.std.proofs.lemmas.List.Folds.{list_all-map}
 use Rattle.iscsi_window.specs.declared.held_request.HeldRequest.{HeldRequest}
 use Rattle.iscsi_rules.specs.declared.effect.Effect.{Effect}
@@ -50,10 +50,8 @@ use Rattle.iscsi_rules.proofs.traces.FlowItems.{agenda-halves, effects_of-append
 use Rattle.iscsi_session.proofs.WaitLemmas.{next_function, no_function}
 use Rattle.iscsi_session.proofs.FunctionLemmas.{turned-item, waited-item, immediate-item}
 use Rattle.iscsi_session.proofs.DeedLemmas.{stays_expected, executed_stays, function_stays, immediate_same}
-use Rattle.iscsi_rules.specs.declared.effect.Effect.TheVariants.{Send}
 use Rattle.iscsi_rules.specs.declared.kind.Kind.TheVariants.{PassedOver, Unknown, Executes as ExecutesKind}
 use Rattle.iscsi_rules.specs.promises.Flow.{HasOneMore}
-use Rattle.iscsi_rules.proofs.traces.DeliveryLemmas.{IsQuiet}
 use Rattle.iscsi_session.proofs.WindowLemmas.{held_now, comes_alone, Delivered, delivered}
 use Rattle.iscsi_rules.specs.declared.deed.Answer.TheVariants.{Reject as RejectAnswer}
 
@@ -72,17 +70,9 @@ Stepped-completed o s t c ticket status h found =
     let reply : Reply = Scsi (itt c.arrival.request) status (sense_of_status status) in
     let one = (ticket_alone (λ d. d.ticket == ticket) (live t) c a.commands.apart found).0 in
     let gone : covered_in o t c.unit covers ≡ c ∷ [] = filter-swap (λ (d : Command). d.ticket == c.ticket) (λ (d : Command). d.unit == c.unit) (live t) ∙ rw (one, eq-eqb c.unit c.unit refl) in
-    let leaving : Leaving o s t item c.unit covers conn = record {
-      lasts = lasting o s t a;
-      window = WindowAgrees-quiet o s.window t item (quiet-completion c status) a.window;
-      replies = a.replies;
-      waits = record { list = a.waiting.list; may = a.waiting.may; known = a.waiting.known };
-      closes = record { session = refl; conns = λ k. refl };
-      inside = r.unit;
-      known = r.known;
-      leaves = record { enters_none = refl; some = λ k. sym (gone_tickets o t (set_at s c.unit) c.unit (a.sets.lists c.unit r.unit) covers k ∙ ap (is_among k) gone) };
-      sends = refl;
-    } in
+    let leaving : Leaving o s t item c.unit covers conn =
+    let leaves : LeavesSome item (is_gone covers (set_at s c.unit)) = record { enters_none = refl; some = λ k. sym (gone_tickets o t (set_at s c.unit) c.unit (a.sets.lists c.unit r.unit) covers k ∙ ap (is_among k) gone) } in
+    search (lasting o s t a, WindowAgrees-quiet o s.window t item (quiet-completion c status) a.window, r.unit, r.known, leaves) in
     record {
       settled = record { agrees = leaving-agrees o s t item c.unit covers conn reply leaving; none_due = h.none_due };
       effects_are = rw (leaving-effects o s t item c.unit covers conn reply leaving, gone, append-nil (enables (newly_enabled o t item)));
@@ -136,11 +126,6 @@ answered o s t a h number event regular = by_tests (nat_le (number_expected s.wi
     within : (nat_le (number_expected s.window) a.number && nat_lt a.number (number_expected s.window + room_of s.window)) ≡ true → (number_expected s.window ≤ a.number) × (a.number < number_expected s.window + room_of s.window)
     within is = grind (arith, nat_tests)
 
-    read : number_expected s.window ≤ a.number → a.number < number_expected s.window + room_of s.window → at_place s.window (a.number - number_expected s.window) ≡ place_of t a.number
-    read low high =
-        let at : number_expected s.window + (a.number - number_expected s.window) ≡ a.number = omega arith in
-        rw at at (h.agrees.window.inside (a.number - number_expected s.window) (omega (arith, h.agrees.window.few)))
-
     by_tests : (b v : Bool) → (nat_le (number_expected s.window) a.number && nat_lt a.number (number_expected s.window + room_of s.window)) ≡ b → is_received t a.number ≡ v
         → Answered o s t a (offer_to s.window a.request) (with_offered s a.request)
     by_tests false v is there = rw (← number, is) (record {
@@ -148,7 +133,7 @@ answered o s t a h number event regular = by_tests (nat_le (number_expected s.wi
       known = λ said. absurd cc;
       taken = λ said. absurd cc;
     })
-    by_tests true true is there = let at = within is in rw (← number, is, read at.0 at.1, there) (record {
+    by_tests true true is there = let at = within is in rw (← number, is, read_inside o s.window t a.number h.agrees.window at.0 (omega (arith, at.1)), there) (record {
       outside = λ said. absurd cc;
       known = λ said. rw (outside_test o s t a.number h, is, there) (Stepped-ignored o s t Duplicate h);
       taken = λ said. absurd cc;
@@ -157,7 +142,7 @@ answered o s t a h number event regular = by_tests (nat_le (number_expected s.wi
         let at = within is in
         let t₁ : Trace = (Admits a ∷ []) ∷ t in
         let items_are : numbered o t a ≡ with_turns o t (Admits a ∷ []) = rw (outside_test o s t a.number h, is, gone) in
-        rw (← number, is, read at.0 at.1, gone, ← event) (record {
+        rw (← number, is, read_inside o s.window t a.number h.agrees.window at.0 (omega (arith, at.1)), gone, ← event) (record {
           outside = λ said. absurd cc;
           known = λ said. absurd cc;
           taken = λ said. (
@@ -184,11 +169,10 @@ Settled-counted o s t h = assumption
 
 -- ---- refusals
 
-belongs_is : (o : Setting) (s : Core) (t : Trace) (e : Event) → Agrees o s t → comes_on s.conns e ≡ belongs o e
-belongs_is o s t e a = grind (arith, nat_tests, is_known-cids)
-
 pub refusal_is : (o : Setting) (s : Core) (h : List Event) (e : Event) → StandsFor o s h → refusal_by s e ≡ refusal_of o h e
-refusal_is o s h e stands = cc (belongs_is o s (trace_of o h) e stands.settled.agrees)
+refusal_is o s h e stands =
+    let same : comes_on s.conns e ≡ belongs o e = grind (arith, nat_tests, is_known-cids, stands.settled.agrees) in
+    cc same
 
 -- what the session found is what the definitions say
 pub refusal_as : (o : Setting) (s : Core) (h : List Event) (e : Event) (x : Option SessionFault) → StandsFor o s h → refusal_by s e ≡ x → refusal_of o h e ≡ x
@@ -409,19 +393,14 @@ passed_over o s index t r h kind = subst (λ k. Stepped o (step_ignored s Data) 
 pub rejected_opcode : (o : Setting) (s : Core) (index : ℕ) (t : Trace) (r : Request) → Settled o s t → kind_of r ≡ Unknown → is_known (connection_of r) o.conns ≡ true
     → Stepped o (request_answered s r (RejectAnswer 5)) t (arrival_open o t (arrival_of o index t r))
 rejected_opcode o s index t r h kind known =
-    let a = h.agrees in
-    let conn : ℕ = connection_of r in
-    let reply : Reply = Reject 5 (header_of r) in
     let item : List Mark = rejected (arrival_of o index t r) in
-    let u : Untouched item = record { enters_none = refl; leaves_no = λ k. refl } in
-    let q : IsQuiet item = record { receives = refl; admits = λ n. refl; delivers_none = refl; delivers_no = λ n. refl; empties_no = λ n. refl } in
-    subst (λ k. Stepped o (replied s conn reply) t (arrival_as o t (arrival_of o index t r) k)) (sym kind) (record {
+    rw kind (record {
       settled = record {
-        agrees = Agrees-untouched o s t item s.window (count_reply conn s.conns) s.waiting u (record { session = refl; conns = λ c. refl }) (lasting o s t a) refl (WindowAgrees-quiet o s.window t item q a.window) (RepliesAgree-sent o s.conns t item conn refl known a.replies)
-            (record { list = a.waiting.list; may = a.waiting.may; known = a.waiting.known });
+        agrees = Agrees-untouched o s t item s.window (count_reply (connection_of r) s.conns) s.waiting (search) (search) (lasting o s t h.agrees) refl (WindowAgrees-quiet o s.window t item (search) h.agrees.window) (RepliesAgree-sent o s.conns t item (connection_of r) refl known h.agrees.replies)
+            (record { list = h.agrees.waiting.list; may = h.agrees.waiting.may; known = h.agrees.waiting.known });
         none_due = h.none_due;
       };
-      effects_are = ap (λ n. Send conn n reply ∷ []) (a.replies.stat_sns conn known) ∙ sym (ap (λ cs. ((Send conn (stat_sn_of o t conn) reply ∷ []) ++ enables cs) ++ []) (newly-untouched o t item u));
+      effects_are = rw (newly-untouched o t item (search), h.agrees.replies.stat_sns (connection_of r) known);
       receives = inl (append-nil (received t));
     })
 

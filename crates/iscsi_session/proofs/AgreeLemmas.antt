@@ -13,7 +13,7 @@ use Rattle.iscsi_rules.proofs.general.BoolLemmas.{and_parts, or_comm}
 use Rattle.iscsi_rules.proofs.general.ListLemmas.{list_all-filter, all_of_filter, filter-map, map-map, map_all, is_known-cids, count_by-push}
 use Rattle.iscsi_rules.proofs.promises.MomentLemmas.{enables}
 use Rattle.iscsi_rules.proofs.traces.NewlyLemmas.{all_here, filter-twice, is_here, new_in, new_in-more, was_free-stays, Untouched, never_free, live_in-untouched, newly-untouched}
-use Rattle.iscsi_rules.proofs.items.EnabledItems.{was_before, newly-one, EnabledSoFar-more, Exact, enabled_once, exact_now, same_enabled, shown-before, shown-item, EnabledSoFar-untouched}
+use Rattle.iscsi_rules.proofs.items.EnabledItems.{was_before, newly-one, EnabledSoFar-more, enabled_once, exact_now, same_enabled, shown-before, shown-item, EnabledSoFar-untouched}
 use Rattle.std.proofs.lemmas.Bool.Decides.{nat_tests}
 use Rattle.iscsi_rules.specs.rules.Logout.{is_open}
 use Rattle.iscsi_rules.proofs.traces.TraceLemmas.{filter-same, filter-true, live-enters, weaker}
@@ -219,36 +219,27 @@ RepliesAgree-quiet o conns t item none a = grind (arith, nat_tests, append-nil)
 
 -- an item that sends one reply
 pub RepliesAgree-sent : (o : Setting) (conns : List (ℕ × ℕ)) (t : Trace) (item : List Mark) (conn : ℕ) → filter_map sent_on item ≡ conn ∷ [] → is_known conn o.conns ≡ true → RepliesAgree o conns t → RepliesAgree o (count_reply conn conns) (item ∷ t)
-RepliesAgree-sent o conns t item conn one known a = record {
-  cids = cids-count_reply conn conns ∙ a.cids;
-  stat_sns = λ cid known_cid. grind (arith, nat_tests, count_by-push, eqb-true, stat_sn_on-same, is_known-cids, wire-next, stat_sn_on-other);
-}
+RepliesAgree-sent o conns t item conn one known a = grind (arith, nat_tests, cids-count_reply conn conns, count_by-push, eqb-true, stat_sn_on-same, is_known-cids, wire-next, stat_sn_on-other)
 
 -- ==== the commands that the effects show as enabled are those that the rule enables, after one item more
 
 -- ---- a command enters
 
 pub EnabledSoFar-entered : (o : Setting) (lives : List Live) (n : ℕ) (item : List Mark) (t : Trace) (c : Command) → CommandsAgree o lives n t → EntersOne item t c → c.unit < o.units → was_free c t ≡ false → EnabledSoFar o t → EnabledSoFar o (item ∷ t)
-EnabledSoFar-entered o lives n item t c a e inside new x = EnabledSoFar-more o item t x exact
+EnabledSoFar-entered o lives n item t c a e inside new x =
+    let more : ℕ → List Command = λ unit. cond (unit == c.unit) (c ∷ []) [] in
+    let now : (unit : ℕ) → live_in unit (item ∷ t) ≡ live_in unit t ++ more unit = λ unit. grind (arith, nat_tests, eqb-true, live_in-entered, live_in-elsewhere, append-nil) in
+    let newly : newly_enabled o t item ≡ filter (λ d. was_free d (item ∷ t) && not (was_free d t)) (c ∷ []) =
+    newly-one o item t c.unit inside (live_in-elsewhere o lives n item t c a e) ∙ new_in-more item t c.unit (c ∷ []) (live_in-entered o lives n item t c a e) in
+    EnabledSoFar-more o item t x (λ k.
+    let free : Command → Bool = λ d. d.ticket == k && was_free d (item ∷ t) in
+    let old : list_any free (live t) ≡ (enabled_once o t k && not (has (leaves_ticket k) t)) = same_enabled item t k more now ∙ sym (exact_now o t x k) ∙ shown-before o t k in
+    rw (shown-item o t item k, newly, e.leaves_no k)
+    (by_ticket k (c.ticket == k) (was_free c (item ∷ t)) (was_free c t) (enabled_once o t k) refl new ∙ sym (ap (list_any free) (live-entered o lives n item t c a e) ∙ list_any-append free (live t) (c ∷ []) ∙ rw old)))
   where
-    more : ℕ → List Command
-    more unit = cond (unit == c.unit) (c ∷ []) []
-
-    now : (unit : ℕ) → live_in unit (item ∷ t) ≡ live_in unit t ++ more unit
-    now unit = grind (arith, nat_tests, eqb-true, live_in-entered, live_in-elsewhere, append-nil)
-
     by_ticket : (k : ℕ) (b free before was : Bool) → (c.ticket == k) ≡ b → before ≡ false
         → ((was || is_among k (cond (free && not before) (c ∷ []) [])) && not (has (leaves_ticket k) t)) ≡ ((was && not (has (leaves_ticket k) t)) || (((c.ticket == k) && free) || false))
     by_ticket k b free before was is none = grind (arith, nat_tests, eqb-true)
-
-    exact : Exact o (item ∷ t)
-    exact k =
-        let newly : newly_enabled o t item ≡ filter (λ d. was_free d (item ∷ t) && not (was_free d t)) (c ∷ []) =
-        newly-one o item t c.unit inside (live_in-elsewhere o lives n item t c a e) ∙ new_in-more item t c.unit (c ∷ []) (live_in-entered o lives n item t c a e) in
-        let free : Command → Bool = λ d. d.ticket == k && was_free d (item ∷ t) in
-        let old : list_any free (live t) ≡ (enabled_once o t k && not (has (leaves_ticket k) t)) = same_enabled item t k more now ∙ sym (exact_now o t x k) ∙ shown-before o t k in
-        rw (shown-item o t item k, newly, e.leaves_no k)
-        (by_ticket k (c.ticket == k) (was_free c (item ∷ t)) (was_free c t) (enabled_once o t k) refl new ∙ sym (ap (list_any free) (live-entered o lives n item t c a e) ∙ list_any-append free (live t) (c ∷ []) ∙ rw old))
 
 -- ==== the whole session
 
@@ -321,19 +312,8 @@ lasting o s t a = record { events = a.events; commands = a.commands; sets = a.se
 
 pub Agrees-untouched : (o : Setting) (s : Core) (t : Trace) (item : List Mark) (w : Arrived) (conns : List (ℕ × ℕ)) (waits : List Waiting) → Untouched item → ClosesNone item → Lasting o s t → w.unfinished ≡ s.window.unfinished
     → WindowAgrees o w (item ∷ t) → RepliesAgree o conns (item ∷ t) → WaitingAgrees o waits (item ∷ t) → Agrees o (record s { window = w; conns = conns; waiting = waits }) (item ∷ t)
-Agrees-untouched o s t item w conns waits u closes a same window replies waiting = record {
-  events = a.events;
-  window = window;
-  replies = replies;
-  commands = CommandsAgree-untouched o s.live s.entered t item u a.commands;
-  sets = SetsAgree-untouched o s.sets t item u a.sets;
-  depth = a.depth;
-  unfinished = same ∙ a.unfinished_is ∙ sym (unfinished-untouched item t u);
-  enabled = EnabledSoFar-untouched o item t u a.enabled;
-  level = a.level;
-  waiting = waiting;
-  open_conns = a.open_is ∙ sym (open_of-same o item t closes);
-}
+Agrees-untouched o s t item w conns waits u closes a same window replies waiting =
+    search (CommandsAgree-untouched o s.live s.entered t item u a.commands, SetsAgree-untouched o s.sets t item u a.sets, same ∙ a.unfinished_is ∙ sym (unfinished-untouched item t u), EnabledSoFar-untouched o item t u a.enabled, a.open_is ∙ sym (open_of-same o item t closes))
 
 -- nor does it receive or send anything
 pub Agrees-waits : (o : Setting) (s : Core) (t : Trace) (item : List Mark) (waits : List Waiting) → IsQuiet item → Untouched item → ClosesNone item → filter_map sent_on item ≡ [] → Agrees o s t → WaitingAgrees o waits (item ∷ t) → Agrees o (record s { waiting = waits }) (item ∷ t)
@@ -343,18 +323,14 @@ Agrees-waits o s t item waits q u closes sends h w =
 -- ---- an ignored event
 
 pub Stepped-ignored : (o : Setting) (s : Core) (t : Trace) (why : Why) → Settled o s t → Stepped o (step_ignored s why) t (ignored why)
-Stepped-ignored o s t why h =
-    let a = h.agrees in
-    let item : List Mark = Ignores why ∷ [] in
-    let u : Untouched item = record { enters_none = refl; leaves_no = λ k. refl } in
-    record {
-      settled = record {
-        agrees = Agrees-waits o s t item s.waiting (quiet-ignored why) u (record { session = refl; conns = λ c. refl }) refl a (record { list = a.waiting.list; may = a.waiting.may; known = a.waiting.known });
-        none_due = h.none_due;
-      };
-      effects_are = cc (newly-untouched o t item u);
-      receives = ignored_receives t (ignored why) why refl;
-    }
+Stepped-ignored o s t why h = record {
+  settled = record {
+    agrees = Agrees-waits o s t (Ignores why ∷ []) s.waiting (quiet-ignored why) (search) (search) refl h.agrees (record { list = h.agrees.waiting.list; may = h.agrees.waiting.may; known = h.agrees.waiting.known });
+    none_due = h.none_due;
+  };
+  effects_are = rw (newly-untouched o t (Ignores why ∷ []) (search));
+  receives = ignored_receives t (ignored why) why refl;
+}
 
 -- ---- an admission
 

@@ -7,7 +7,7 @@ use Rattle.std.proofs.lemmas.List.{length-map, length-replicate, length_push}
 use Rattle.std.proofs.lemmas.List.Filters.{length-filter_both}
 use Rattle.std.proofs.lemmas.List.Sums.{length-filter}
 use Rattle.iscsi_commands.specs.declared.live.Live.{Live}
-use Rattle.iscsi_window.specs.Windows.{Arrived, with_unfinished}
+use Rattle.iscsi_window.specs.Windows.{Arrived}
 use Rattle.iscsi_rules.specs.rules.Settings.{is_known}
 use Rattle.iscsi_session.specs.private.Standing.{are_known, are_ascending}
 use Rattle.iscsi_session.specs.private.Steps.{find_ticket, without_ticket, count_reply, counted_on, is_immediate_on, immediate_in, AreCounted, is_numbered, finished, finished_by}
@@ -20,14 +20,11 @@ use Rattle.iscsi_session.proofs.ListLemmas.{cids-count_reply, list_all-push, few
 
 -- ---- how many are live
 
-two_kinds : (lives : List Live) → count_by is_numbered lives + count_by (λ l. l.immediate) lives ≡ length lives
-two_kinds lives = omega (arith, length-filter_both (λ (l : Live). l.immediate) is_numbered (λ l. refl) lives, length-filter is_numbered lives, length-filter (λ (l : Live). l.immediate) lives)
-
 pub few_live : (n : ℕ) (conns : List (ℕ × ℕ)) (lives : List Live) → count_by is_numbered lives ≤ n → ((cid : ℕ) → immediate_in lives cid ≤ 8) → are_known lives conns ≡ true → length lives ≤ n + 8 * length conns
 few_live n conns lives numbered few known =
     let now : List Live = filter (λ l. l.immediate) lives in
     let all = few_of (λ (l : Live). l.conn) 8 conns now (λ cid. omega (arith, count-filter (λ (l : Live). l.conn == cid) (λ l. l.immediate) lives, few cid)) (list_all-filter (λ (l : Live). l.immediate) (λ l. is_known l.conn conns) lives known) in
-    omega (arith, two_kinds lives, numbered, all, length-filter (λ (l : Live). l.immediate) lives)
+    omega (arith, length-filter_both (λ (l : Live). l.immediate) is_numbered (λ l. refl) lives, length-filter is_numbered lives, numbered, all, length-filter (λ (l : Live). l.immediate) lives)
 
 -- no more than eight of a connection
 few_more : (lives : List Live) (l : Live) → ((cid : ℕ) → immediate_in lives cid ≤ 8) → (l.immediate ≡ true → immediate_in lives l.conn < 8) → (cid : ℕ) → immediate_in (lives ++ l ∷ []) cid ≤ 8
@@ -76,11 +73,9 @@ AreCounted-replied cid counts conns lives h = record {
 pub AreCounted-entered : (counts counts' : List ℕ) (conns : List (ℕ × ℕ)) (lives : List Live) (l : Live) → AreCounted counts conns lives → length counts' ≡ length counts
     → ((cid : ℕ) → counted_on cid conns counts' ≡ counted_on cid conns counts + cond (is_immediate_on cid l) 1 0) → (l.immediate ≡ true → immediate_in lives l.conn < 8)
     → AreCounted counts' conns (lives ++ l ∷ [])
-AreCounted-entered counts counts' conns lives l h long counted room = record {
-  long = long ∙ h.long;
-  exact = λ cid known. counted cid ∙ ap (λ n. n + cond (is_immediate_on cid l) 1 0) (h.exact cid known) ∙ sym (count_by-push (is_immediate_on cid) lives l);
-  few = few_more lives l h.few room;
-}
+AreCounted-entered counts counts' conns lives l h long counted room =
+    let push = λ (cid : ℕ). count_by-push (is_immediate_on cid) lives l in
+    grind (arith, nat_tests, push, counted, h.exact, few_more lives l h.few room)
 
 -- later tickets stay
 pub kept_later : (k : ℕ) (lives : List Live) → list_all (λ m. nat_lt k m.ticket) lives ≡ true → without_ticket k lives ≡ lives
@@ -109,11 +104,8 @@ some_counted counts conns lives l h up found known immediate =
     omega (arith, h.exact l.conn known, count-left (is_immediate_on l.conn) l.ticket lives l up found, counts_one)
 
 -- a numbered command gives its place back
-finished_is : (w : Arrived) (l : Live) (left all : ℕ) → left + cond (not l.immediate) 1 0 ≡ all → all ≤ w.unfinished → finished w l ≡ with_unfinished w (w.unfinished + left - all)
-finished_is w l left all counted few = grind arith
-
 pub finished_left : (w : Arrived) (lives : List Live) (l : Live) → are_ascending lives ≡ true → find_ticket l.ticket lives ≡ Some l → count_by is_numbered lives ≤ w.unfinished → finished w l ≡ finished_by w lives (without_ticket l.ticket lives)
-finished_left w lives l up found few = finished_is w l _ _ (count-left is_numbered l.ticket lives l up found) few
+finished_left w lives l up found few = grind (arith, count-left is_numbered l.ticket lives l up found)
 
 pub ruleset left_steps = (find-passes, some_counted, AreCounted-left, finished_left)
 

@@ -51,13 +51,10 @@ pub fits_deed : (s : Core) (r : Request) → Fits s r (deed_by s r)
 fits_deed s r = fits s r _ (befits_deed (facts_by s r) r)
 
 pub fits_arrival : (s : Core) (r : Request) → Fits s r (arrival_by s r)
-fits_arrival s r = cond_both (opcode r == 0x02 && may_wait r) _ _ (Fits s r) (λ is. unless_refused (refusal_by s r) (waiting (and_second (opcode r == 0x02) (may_wait r) is))) (λ is. fits_deed s r)
-  where
-    waiting : may_wait r ≡ true → Fits s r (waits_by s r)
-    waiting may = grind (arith, nat_tests, cond_both, fits_function)
-
-    unless_refused : (x : Option Answer) → Fits s r (waits_by s r) → Fits s r (elim x [ Some y ↦ Reply y | None ↦ waits_by s r ])
-    unless_refused x rest = grind (arith, nat_tests)
+fits_arrival s r =
+    let waits : may_wait r ≡ true → Fits s r (waits_by s r) = λ may. grind (arith, nat_tests, cond_both, fits_function) in
+    let unless_refused : (x : Option Answer) → Fits s r (waits_by s r) → Fits s r (elim x [ Some y ↦ Reply y | None ↦ waits_by s r ]) = λ x rest. grind (arith, nat_tests) in
+    cond_both (opcode r == 0x02 && may_wait r) _ _ (Fits s r) (λ is. unless_refused (refusal_by s r) (waits (and_second (opcode r == 0x02) (may_wait r) is))) (λ is. fits_deed s r)
 
 -- ---- a number is voided, or a held request is taken out
 
@@ -111,9 +108,6 @@ aborted_stays : (s : Core) (r : Request) (unit : ℕ) (covers : Task → Bool) �
 aborted_stays s r unit covers = omega (arith, fewer_counted is_numbered (λ l. not (is_gone covers (set_at s unit) l.ticket)) s.live)
 
 pub carried_stays : (s : Core) (r : Request) (number : ℤ) (event : ℕ) (d : Deed) → Fits s r d → Stays (begins r d) s (carried s r number event d).core
-carried_stays s r number event Nothing fits = omega arith
-carried_stays s r number event Wait fits = omega arith
-carried_stays s r number event (Reply x) fits = omega arith
 carried_stays s r number event (Enter unit) fits = grind arith
 carried_stays s r number event Void fits = omega (arith, voided_changes s.window (ref_cmd_sn r) (missing_parts s r fits).1)
 carried_stays s r number event (Empty unit sn) fits = omega (arith, emptied_changes s.window sn)
@@ -122,6 +116,7 @@ carried_stays s r number event (AbortEarlier unit) fits = aborted_stays s r unit
 carried_stays s r number event (AbortAll unit) fits = aborted_stays s r unit (is_covered AllOfThem)
 carried_stays s r number event (CloseConn closing) fits = (logged_out_parts s r (Some closing)).stays
 carried_stays s r number event CloseSession fits = (logged_out_parts s r None).stays
+carried_stays s r number event _ fits = omega arith
 
 -- a numbered request voids no number
 pub carried_counted : (s : Core) (r : Request) (number : ℤ) (event : ℕ) (d : Deed) → Fits s r d → is_immediate r ≡ false → count_by is_some (carried s r number event d).core.window.places ≡ count_by is_some s.window.places
@@ -145,22 +140,14 @@ one_more s s' r d h = omega (arith, h, begins_one r d)
 
 -- ---- a function that has waited
 
-begins_none : (r : Request) (d : Deed) → is_immediate r ≡ true → begins r d ≡ 0
-begins_none r d immediate = grind (arith, nat_tests)
-
--- a function begins none
-begins_function : (f : Facts) (r : Request) → begins r (function_deed f r) ≡ 0
-begins_function f r = through_function (λ d. begins r d ≡ 0) f r refl (λ x. refl) refl (λ u n. refl) (λ u n. refl) (λ u. refl) (λ u. refl)
-
+-- it begins no command
 pub function_stays : (s : Core) (x : Option Waiting) → Stays 0 s (function_taken s x).core
 function_stays s None = omega arith
 function_stays s (Some w) =
     let s' : Core = record s { waiting = filter (λ v. not (v.event == w.event)) s.waiting } in
     let h = carried_stays s' w.request (next_position s) w.event (function_deed (facts_by s' w.request) w.request) (fits_function s' w.request) in
-    omega (arith, h, begins_function (facts_by s' w.request) w.request, fewer_left w)
-  where
-    fewer_left : (w : Waiting) → length (filter (λ v. not (v.event == w.event)) s.waiting) ≤ length s.waiting
-    fewer_left w = filter-shorter (λ v. not (v.event == w.event)) s.waiting
+    let none = through_function (λ d. begins w.request d ≡ 0) (facts_by s' w.request) w.request refl (λ x. refl) refl (λ u n. refl) (λ u n. refl) (λ u. refl) (λ u. refl) in
+    omega (arith, h, none, filter-shorter (λ (v : Waiting). not (v.event == w.event)) s.waiting)
 
 pub pace-function : (s : Core) (x : Option Waiting) → KeepsPace s.window (function_taken s x).core.window
 pace-function s x = omega (arith, function_stays s x)
@@ -175,7 +162,9 @@ executed_counted s r event numbered = carried_counted s r (position_by s r) even
 
 -- an immediate one that doesn't wait begins none of the numbered commands
 pub at_once_stays : (s : Core) (r : Request) (d : Deed) → Fits s r d → is_immediate r ≡ true → Stays 0 s (done_at_once s r d).core
-at_once_stays s r d fits immediate = let h = carried_stays s r (position_by s r) (s.taken - 1) d fits in omega (arith, h, begins_none r d immediate)
+at_once_stays s r d fits immediate =
+    let none : begins r d ≡ 0 = grind (arith, nat_tests) in
+    omega (arith, carried_stays s r (position_by s r) (s.taken - 1) d fits, none)
 
 pub immediate_is : (s : Core) (r : Request) (d : Deed) → (d ≡ Wait → ⊥) → immediate_taken s r d ≡ done_at_once s r d
 immediate_is s r d other = grind (arith, nat_tests)
@@ -195,10 +184,8 @@ pub record Same (s s' : Core) : Type 0 where
 pub immediate_same : (s : Core) (r : Request) → Same s (immediate_taken s r (arrival_by s r)).core
 immediate_same s r =
     let d : Deed = arrival_by s r in
+    let by_deed : (d : Deed) → Stays 1 s (done_at_once s r d).core → Same s (immediate_taken s r d).core = λ d h. grind (arith, nat_tests, stays_expected) in
     by_deed d (one_more s (done_at_once s r d).core r d (carried_stays s r (position_by s r) (s.taken - 1) d (fits_arrival s r)))
-  where
-    by_deed : (d : Deed) → Stays 1 s (done_at_once s r d).core → Same s (immediate_taken s r d).core
-    by_deed d h = grind (arith, nat_tests, stays_expected)
 
 -- ---- a completion
 

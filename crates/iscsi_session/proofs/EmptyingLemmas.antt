@@ -1,5 +1,5 @@
 -- The held requests that a Logout takes out, one after the other and in the window.
-use Rattle.std.proofs.Common.{◌≡◌, ℕ, zero, suc, ◌+◌, cond, Bool, true, false, List, [], ◌∷◌, length, map, set, slice_index_or, not, count_by, is_some, Option, Some, None, refl, arith, add-one, ◌-◌, ◌<◌, ◌≤◌, ◌&&◌, ◌||◌, ◌++◌, filter, get_or, nat_lt, nat_le, ap, sym, ◌∙◌}
+use Rattle.std.proofs.Common.{◌≡◌, ℕ, zero, suc, ◌+◌, cond, Bool, true, false, List, [], ◌∷◌, length, map, set, slice_index_or, not, count_by, is_some, Option, Some, None, refl, arith, add-one, ◌-◌, ◌<◌, ◌&&◌, ◌||◌, ◌++◌, filter, get_or, nat_lt, nat_le, ap, sym, ◌∙◌}
 use Rattle.std.specs.List.{list_all}
 use Rattle.std.proofs.lemmas.Bool.{false≢true}
 use Rattle.std.proofs.lemmas.List.Sums.{sum_by-cons}
@@ -77,10 +77,6 @@ answered_none b n said = grind arith
 
 -- ---- the requests that are held at the numbers of a range
 
--- above the window nothing is held
-above_none : (o : Setting) (w : Arrived) (t : Trace) → WindowAgrees o w t → (n : ℕ) → number_expected w + length w.places ≤ n → held t n ≡ None
-above_none o w t h n high = unreceived_unheld t n (h.above n high)
-
 -- all that is held is held in the window
 all_held-window : (o : Setting) (w : Arrived) (t : Trace) → WindowAgrees o w t → all_held o t ≡ held_from t (number_expected w) (length w.places)
 all_held-window o w t h =
@@ -91,7 +87,7 @@ all_held-window o w t h =
     let d : ℕ = exp_of o t + o.window - first - (m + len) in
     let at : first + m ≡ e = omega (arith, h.first) in
     let parts : exp_of o t + o.window - first ≡ m + (len + d) = omega (arith, h.first, h.size, expected_past_next o w t h) in
-    rw (parts, held_from-parts t first m (len + d), held_from-none t first m (λ n l u. h.past n (omega (arith, at))), at, held_from-parts t e len d, held_from-none t (e + len) d (λ n l u. above_none o w t h n l), append-nil)
+    rw (parts, held_from-parts t first m (len + d), held_from-none t first m (λ n l u. h.past n (omega (arith, at))), at, held_from-parts t e len d, held_from-none t (e + len) d (λ n l u. unreceived_unheld t n (h.above n l)), append-nil)
 
 -- ---- which are taken out
 
@@ -139,7 +135,7 @@ emptied_from-is o w t scope h = rw (all_held-window o w t h) (emptied-numbers t 
 
 -- a number is taken out where a request of these connections is held
 taken-number : (o : Setting) (w : Arrived) (t : Trace) (scope : Option ℕ) → WindowAgrees o w t → (n : ℕ) → is_number_of (taken_requests o t scope) n ≡ is_taken scope (held t n)
-taken-number o w t scope h n = rw (all_held-window o w t h) (grind (arith, nat_tests, taken-range t scope n, h.past n, above_none o w t h n))
+taken-number o w t scope h n = rw (all_held-window o w t h) (grind (arith, nat_tests, taken-range t scope n, h.past n, h.above n, unreceived_unheld t n))
 
 -- ---- the window
 
@@ -159,10 +155,6 @@ module _ (t t' : Trace) (scope : Option ℕ) (v : Emptied t t' (λ n. is_taken s
   held-taken : (k : ℕ) → held t' k ≡ cond (is_taken scope (held t k)) None (held t k)
   held-taken k = grind (arith, v.delivered_is k, v.emptied_is k, v.admitted_is k)
 
-  -- where nothing is held, nothing changes
-  request_at-taken : (k : ℕ) → held t k ≡ None → request_at t' k ≡ request_at t k
-  request_at-taken k none = rw (v.emptied_is k, none, v.admitted_is k)
-
   place_of-taken : (k : ℕ) → place_of t' k ≡ emptied_place scope (place_of t k)
   place_of-taken k = grind (arith, held-taken k, v.received_is)
 
@@ -170,6 +162,8 @@ module _ (t t' : Trace) (scope : Option ℕ) (v : Emptied t t' (λ n. is_taken s
   WindowAgrees-taken o w h =
       let e : ℕ = number_expected w in
       let long : length (map (emptied_place scope) w.places) ≡ length w.places = length-map w.places (emptied_place scope) in
+      -- where nothing is held, nothing changes
+      let same_request : (k : ℕ) → held t k ≡ None → request_at t' k ≡ request_at t k = λ k none. rw (v.emptied_is k, none, v.admitted_is k) in
       let same_received : (k : ℕ) → is_received t' k ≡ is_received t k = λ k. ap (λ ns. contains ns k) v.received_is in
       record {
         first = h.first;
@@ -182,7 +176,7 @@ module _ (t t' : Trace) (scope : Option ℕ) (v : Emptied t t' (λ n. is_taken s
         unemptied = λ k gone. let before = sym (same_received k) ∙ gone in rw (v.emptied_is k, unreceived_unheld t k before) (h.unemptied k before);
         requests = λ k b found. h.requests k b (sym (v.admitted_is k) ∙ found);
         numbers = λ k b found. h.numbers k b (sym (v.admitted_is k) ∙ found);
-        delivered = v.delivers_is ∙ h.delivered ∙ same_range t t' (number_of_first o.first) (e - number_of_first o.first) (λ k l u. sym (request_at-taken k (h.past k (omega (arith, h.first, l, u)))));
+        delivered = v.delivers_is ∙ h.delivered ∙ same_range t t' (number_of_first o.first) (e - number_of_first o.first) (λ k l u. sym (same_request k (h.past k (omega (arith, h.first, l, u)))));
         few = omega (arith, h.few, long);
         free = λ k big. rw (get_or-map (emptied_place scope) w.places k None, h.free k (omega (arith, big, long)));
       }

@@ -86,10 +86,9 @@ module _ (o : Setting) (s : Core) (t : Trace) (m : Mark) (e : Effect) (a : Arriv
   pub answered : (reply : Reply) → Follows o t (m ∷ reply_on a reply) (after_effect e (replied s (connection_of a.request) reply))
   answered reply =
       let conn : ℕ = connection_of a.request in
-      let sends : List Mark = Sends conn reply ∷ [] in
-      let none : Untouched sends = record { enters_none = refl; leaves_no = λ k. refl } in (
-        begun-untouched sends (count_reply conn s.conns) (quiet_sends conn reply) none (record { session = refl; conns = λ k. refl }) (RepliesAgree-sent o s.conns t (m ∷ sends) conn (cc b.sends_no) b.known b.replies) refl,
-        cc (b.replies.stat_sns conn b.known, b.shows, newly-untouched o t (m ∷ sends) (untouched-begun sends none)),
+      let sends : List Mark = Sends conn reply ∷ [] in (
+        begun-untouched sends (count_reply conn s.conns) (quiet_sends conn reply) (search) (record { session = refl; conns = λ k. refl }) (RepliesAgree-sent o s.conns t (m ∷ sends) conn (cc b.sends_no) b.known b.replies) refl,
+        cc (b.replies.stat_sns conn b.known, b.shows, newly-untouched o t (m ∷ sends) (untouched-begun sends (search))),
       )
 
   -- a command enters
@@ -147,20 +146,10 @@ turn-begun o s t r h place x =
     let e : ℕ = number_expected s.window in
     let regular = and_parts _ _ (h.window.requests e a (admitted_of_held t e a x.held_is)) in
     let number : a.number ≡ e = held-number t e a x.held_is in
-    record {
-      lasts = record { events = h.events; commands = h.commands; sets = h.sets; depth = h.depth; unfinished_is = h.unfinished; enabled = h.enabled; level = h.level; open_is = h.open_conns };
-      window = λ ms q. (WindowAgrees-turned o s.window t r ms h.window place x q).agrees;
-      room = λ is ms q. WindowAgrees-turned o s.window t r ms h.window place x q;
-      replies = h.replies;
-      known = regular.1;
-      first = h.window.first;
-      waits = record { list = h.waiting.list; may = h.waiting.may; known = h.waiting.known };
-      enters_no = refl;
-      leaves_no = λ k. refl;
-      sends_no = refl;
-      closes_no = record { session = refl; conns = λ c. refl };
-      shows = refl;
-    }
+    let known : is_known (connection_of a.request) o.conns ≡ true = regular.1 in
+    let turns : (ms : List Mark) → IsQuiet ms → Turned o (turned_window s.window) ((Delivers a ∷ ms) ∷ t) = λ ms q. WindowAgrees-turned o s.window t r ms h.window place x q in
+    let agrees : (ms : List Mark) → IsQuiet ms → WindowAgrees o (turned_window s.window) ((Delivers a ∷ ms) ∷ t) = λ ms q. (turns ms q).agrees in
+    search (turns, agrees, known)
 
 -- ==== commands of a unit leave together, and the function that took them out is answered
 
@@ -279,19 +268,20 @@ module _ (o : Setting) (s : Core) (t : Trace) (item : List Mark) (unit : ℕ) (c
 
   pub leaving-agrees : Agrees o (left_answered s unit covers conn reply).core (item ∷ t)
   leaving-agrees =
-      let fewer = fewer_counted is_numbered (λ l. not (out l.ticket)) s.live in record {
-        events = b.lasts.events;
-        window = WindowAgrees-fewer o s.window (item ∷ t) (s.window.unfinished + count_by is_numbered rest - count_by is_numbered s.live) (omega (arith, fewer)) b.window;
-        replies = RepliesAgree-sent o s.conns t item conn b.sends b.known b.replies;
-        commands = commands;
-        sets = rw (left_is, set-set) (set-changed o s.sets t item unit (all_given (set_staying covers old)) b.lasts.sets b.inside left.given elsewhere);
-        depth = b.lasts.depth;
-        unfinished = omega (arith, numbered_live o s.live s.entered t b.lasts.commands, numbered_live o rest s.entered (item ∷ t) commands, b.lasts.unfinished_is);
-        enabled = EnabledSoFar-left o item t out b.leaves (units_live o rest s.entered (item ∷ t) commands) b.lasts.enabled;
-        level = b.lasts.level;
-        waiting = b.waits;
-        open_conns = b.lasts.open_is ∙ sym (open_of-same o item t b.closes);
-      }
+      let fewer = fewer_counted is_numbered (λ l. not (out l.ticket)) s.live in
+      let sets : SetsAgree o (left_answered s unit covers conn reply).core.sets (item ∷ t) =
+      rw (left_is, set-set) (set-changed o s.sets t item unit (all_given (set_staying covers old)) b.lasts.sets b.inside left.given elsewhere) in
+      search (
+        arith,
+        WindowAgrees-fewer o s.window (item ∷ t) (s.window.unfinished + count_by is_numbered rest - count_by is_numbered s.live) (omega (arith, fewer)) b.window,
+        RepliesAgree-sent o s.conns t item conn b.sends b.known b.replies,
+        commands,
+        sets,
+        numbered_live o s.live s.entered t b.lasts.commands,
+        numbered_live o rest s.entered (item ∷ t) commands,
+        EnabledSoFar-left o item t out b.leaves (units_live o rest s.entered (item ∷ t) commands) b.lasts.enabled,
+        b.lasts.open_is ∙ sym (open_of-same o item t b.closes),
+      )
 
   pub leaving-effects : (left_answered s unit covers conn reply).effects ≡ map (λ (c : Command). Leave c.ticket c.unit) gone ++ (Send conn (stat_sn_of o t conn) reply ∷ enables (newly_enabled o t item))
   leaving-effects = rw (leaving_shown o t old unit list_is covers, b.replies.stat_sns conn b.known, left_is, left.effects, ← newly-one o item t unit b.inside elsewhere)
@@ -303,18 +293,12 @@ leaving-item o s t m e a b unit inside covers =
     let conn : ℕ = connection_of a.request in
     let reply : Reply = TaskReply (itt a.request) 0 in
     let gone : List Command = covered_in o t unit covers in
-    let leaving : Leaving o s t item unit covers conn = record {
-      lasts = b.lasts;
-      window = b.window (map Leaves gone ++ reply_on a reply) (quiet-leaving gone a reply);
-      replies = b.replies;
-      waits = record { list = leaving-calm gone a reply (waiting_by m (waiting t)) ∙ b.waits.list; may = b.waits.may; known = b.waits.known };
-      closes = closes-more m (map Leaves gone ++ reply_on a reply) b.closes_no (leaving-closes gone a reply);
-      inside = inside;
-      known = b.known;
-      leaves = record {
-        enters_none = rw b.enters_no (leaving-enters gone a reply);
-        some = λ k. rw (b.leaves_no k, leaving-tickets gone a reply k) (sym (gone_tickets o t (set_at s unit) unit (b.lasts.sets.lists unit inside) covers k));
-      };
-      sends = rw b.sends_no (leaving-sends gone a reply);
+    let ms : List Mark = map Leaves gone ++ reply_on a reply in
+    let waits : WaitingAgrees o s.waiting (item ∷ t) = record { list = leaving-calm gone a reply (waiting_by m (waiting t)) ∙ b.waits.list; may = b.waits.may; known = b.waits.known } in
+    let leaves : LeavesSome item (is_gone covers (set_at s unit)) = record {
+      enters_none = rw b.enters_no (leaving-enters gone a reply);
+      some = λ k. rw (b.leaves_no k, leaving-tickets gone a reply k) (sym (gone_tickets o t (set_at s unit) unit (b.lasts.sets.lists unit inside) covers k));
     } in
+    let sends : filter_map sent_on item ≡ conn ∷ [] = rw b.sends_no (leaving-sends gone a reply) in
+    let leaving : Leaving o s t item unit covers conn = search (b.window ms (quiet-leaving gone a reply), waits, closes-more m ms b.closes_no (leaving-closes gone a reply), leaves, sends) in
     (leaving-agrees o s t item unit covers conn reply leaving, rw (leaving-effects o s t item unit covers conn reply leaving, b.shows, leaving-shown o t gone a reply, append_assoc))

@@ -6,18 +6,17 @@ use Rattle.std.proofs.lemmas.Bool.Decides.{nat_tests}
 use Rattle.iscsi_window.specs.declared.held_request.HeldRequest.{HeldRequest}
 use Rattle.iscsi_wire.specs.declared.request.Request.{Request}
 use Rattle.iscsi_wire.specs.Serial.{lift, wire}
-use Rattle.iscsi_wire.specs.Fields.{itt, lun, unit_of, connection_of, is_immediate, rtt, cmd_sn, ref_cmd_sn}
-use Rattle.iscsi_window.specs.Windows.{Arrived, number_expected, is_unit, holds_command, find_held, at_place, place_in}
+use Rattle.iscsi_wire.specs.Fields.{itt, lun, unit_of, connection_of, is_immediate, rtt, cmd_sn}
+use Rattle.iscsi_window.specs.Windows.{Arrived, number_expected, is_unit, holds_command, find_held, at_place}
 use Rattle.iscsi_commands.specs.declared.live.Live.{Live}
 use Rattle.iscsi_rules.specs.rules.Settings.{Setting, is_known}
 use Rattle.iscsi_rules.specs.rules.Trace.{Arrival, Command, Trace, first_of, held, held_among, live, Mark, Delivers, Executes, waiting}
 use Rattle.iscsi_rules.specs.rules.Execution.{exp_of, max_of}
 use Rattle.iscsi_rules.specs.rules.Management.{is_to, held_command, live_with_tag}
 use Rattle.iscsi_session.specs.private.Standing.{Core, held_of, place_of, kept, WindowAgrees, arrival_waiting, Agrees, Settled}
-use Rattle.iscsi_session.specs.private.Deeds.{tagged_in, missing_at, missing_by, Fits}
+use Rattle.iscsi_session.specs.private.Deeds.{tagged_in, missing_by, Fits}
 use Rattle.iscsi_rules.proofs.traces.HeldLemmas.{held-number, held_received, is_sought, none_below, admitted_of_held, held_command-below, held_command-held, held_command-none}
 use Rattle.iscsi_rules.proofs.general.PlaceLemmas.{position-cons}
-use Rattle.iscsi_window.specs.declared.answer.Place.{Place}
 use Rattle.iscsi_rules.specs.declared.deed.Deed.{Deed}
 use Rattle.iscsi_rules.specs.rules.Deeds.{facts_of}
 use Rattle.iscsi_rules.specs.rules.Agenda.{arrival_of}
@@ -34,12 +33,9 @@ pub is_to-unit : (o : Setting) (unit : ℕ) (r : Request) → unit < o.units →
 is_to-unit o unit r inside = grind (arith, nat_tests)
 
 module _ (o : Setting) (t : Trace) (tag unit below : ℕ) where
-  fuse : (e : ℕ) (y : Option ℕ) → option_map (λ k. e + 1 + k) y ≡ option_map (λ k. e + k) (option_map suc y)
-  fuse e y = grind arith
-
   one : (b : Bool) (a : Arrival) (as' : List Arrival) (e : ℕ) (y : Option ℕ) → a.number ≡ e → option_map (λ (h : Arrival). h.number) (first_of as') ≡ option_map (λ k. e + 1 + k) y
       → option_map (λ (h : Arrival). h.number) (first_of (cond b (a ∷ as') as')) ≡ option_map (λ k. e + k) (cond b (Some 0) (option_map suc y))
-  one b a as' e y is after = grind (arith, nat_tests, fuse)
+  one b a as' e y is after = grind (arith, nat_tests)
 
   take-none : {A : Type 0} (n : ℕ) → take n (let xs : List A = [] in xs) ≡ []
   take-none n = grind (arith, nat_tests)
@@ -49,40 +45,25 @@ module _ (o : Setting) (t : Trace) (tag unit below : ℕ) where
       → option_map (λ (h : Arrival). h.number) (first_of (filter (is_sought o tag unit below) (held_among t (range_with_len e (length ps))))) ≡ option_map (λ k. e + k) (position (holds_command tag unit) (take (below - e) ps))
   found_numbers [] e inside same = rw (take-none (below - e))
   found_numbers (p ∷ ps) e inside same =
-      ⊎_elim (λ lt. by_held (found_numbers ps (e + 1) inside (λ k l. same (suc k) (omega arith) ∙ ap (place_of t) (let z : e + suc k ≡ e + 1 + k = omega arith in z))) lt (held t e) refl) (λ ge. past ge) (cases_lt e below)
-    where
-      rest : List Arrival
-      rest = held_among t (range_with_len (e + 1) (length ps))
-
-      found : Option ℕ
-      found = position (holds_command tag unit) (take (below - (e + 1)) ps)
-
-      goal : Type 0
-      goal = option_map (λ (h : Arrival). h.number) (first_of (filter (is_sought o tag unit below) (held_among t (range_with_len e (suc (length ps)))))) ≡ option_map (λ k. e + k) (position (holds_command tag unit) (take (below - e) (p ∷ ps)))
-
-      past : below ≤ e → goal
-      past ge =
-          let none : below - e ≡ 0 = omega arith in
-          rw (none_below o t tag unit below (suc (length ps)) e ge, none)
-
-      at_first : p ≡ place_of t e
-      at_first = same 0 (omega arith) ∙ ap (place_of t) (let z : e + 0 ≡ e = omega arith in z)
-
-      more : e < below → suc (below - (e + 1)) ≡ below - e
-      more lt = omega arith
-
-      rest_agrees : Type 0
-      rest_agrees = option_map (λ (h : Arrival). h.number) (first_of (filter (is_sought o tag unit below) rest)) ≡ option_map (λ k. e + 1 + k) found
-
-      by_held : rest_agrees → e < below → (x : Option Arrival) → held t e ≡ x → goal
-      by_held after lt None is =
-          let none : holds_command tag unit p ≡ false = rw (at_first, is) (grind arith) in
-          rw (is, ← more lt, position-cons (holds_command tag unit) p (take (below - (e + 1)) ps), none, after) (fuse e found)
-      by_held after lt (Some a) is =
-          let number = held-number t e a is in
-          let low : nat_lt a.number below ≡ true = grind (arith, nat_tests) in
-          let here : p ≡ Some (Some (held_of a)) = rw (at_first, held_received t e a is, is) in
-          rw (is, ← more lt, position-cons (holds_command tag unit) p (take (below - (e + 1)) ps), low, is_to-unit o unit a.request inside, here) (one (holds_command tag unit (Some (Some (held_of a)))) a (filter (is_sought o tag unit below) rest) e found number after)
+      let rest : List Arrival = held_among t (range_with_len (e + 1) (length ps)) in
+      let found : Option ℕ = position (holds_command tag unit) (take (below - (e + 1)) ps) in
+      let goal : Type 0 =
+      option_map (λ (h : Arrival). h.number) (first_of (filter (is_sought o tag unit below) (held_among t (range_with_len e (suc (length ps)))))) ≡ option_map (λ k. e + k) (position (holds_command tag unit) (take (below - e) (p ∷ ps))) in
+      let at_first : p ≡ place_of t e = same 0 (omega arith) ∙ ap (place_of t) (let z : e + 0 ≡ e = omega arith in z) in
+      let after : option_map (λ (h : Arrival). h.number) (first_of (filter (is_sought o tag unit below) rest)) ≡ option_map (λ k. e + 1 + k) found =
+      found_numbers ps (e + 1) inside (λ k l. same (suc k) (omega arith) ∙ ap (place_of t) (let z : e + suc k ≡ e + 1 + k = omega arith in z)) in
+      let by_held : suc (below - (e + 1)) ≡ below - e → e < below → (x : Option Arrival) → held t e ≡ x → goal = λ more lt.
+      elim [
+        | None ↦ λ is.
+            let none : holds_command tag unit p ≡ false = rw (at_first, is) (grind arith) in
+            rw (is, ← more, position-cons (holds_command tag unit) p (take (below - (e + 1)) ps), none, after) (grind arith)
+        | Some a ↦ λ is.
+            let number = held-number t e a is in
+            let low : nat_lt a.number below ≡ true = grind (arith, nat_tests) in
+            let here : p ≡ Some (Some (held_of a)) = rw (at_first, held_received t e a is, is) in
+            rw (is, ← more, position-cons (holds_command tag unit) p (take (below - (e + 1)) ps), low, is_to-unit o unit a.request inside, here) (one (holds_command tag unit (Some (Some (held_of a)))) a (filter (is_sought o tag unit below) rest) e found number after)
+      ] in
+      ⊎_elim (λ lt. by_held (omega arith) lt (held t e) refl) (λ ge. let none : below - e ≡ 0 = omega arith in rw (none_below o t tag unit below (suc (length ps)) e ge, none)) (cases_lt e below)
 
 -- the held command of the definitions has the number of the one that the window finds
 pub held_command-is : (o : Setting) (w : Arrived) (t : Trace) (tag unit below sn : ℕ) → WindowAgrees o w t → exp_of o t ≡ number_expected w → below ≡ lift (number_expected w) sn → unit < o.units
@@ -119,16 +100,10 @@ none_held_below w r unit n next shows = grind (arith, nat_tests, last_number)
 pub numbered_deed : (s : Core) (r : Request) (n : ℕ) (d : Deed) → is_immediate r ≡ false → n + 1 ≡ number_expected s.window → wire (cmd_sn r) ≡ wire n → Fits s r d → is_of_number d ≡ false
 numbered_deed s r number d later next shows fits = grind (arith, nat_tests, false≢true, missing_parts, none_held_below)
 
-none_of : (i b c d : Bool) → (b && c) ≡ false → (i && b && c && d) ≡ false
-none_of i b c d out = grind arith
-
 -- a number is voided where it is in the window and below the function's own
 missing_is : (o : Setting) (s : Core) (t : Trace) (a : Arrival) → WindowAgrees o s.window t → exp_of o t ≡ number_expected s.window → max_of o t ≡ number_expected s.window + length s.window.places - 1 - s.window.unfinished → a.number ≡ lift (number_expected s.window) (cmd_sn a.request)
     → (facts_of o t a).is_missing ≡ missing_by s a.request
-missing_is o s t a h exp max own = grind (arith, nat_tests, within_window, none_of)
-
-numbered_missing : (s : Core) (r : Request) (p : Place) → is_immediate r ≡ false → false ≡ missing_at s r p
-numbered_missing s r p later = grind (arith, nat_tests)
+missing_is o s t a h exp max own = grind (arith, nat_tests, within_window)
 
 -- an immediate request, at its arrival
 pub Found-arrived : (o : Setting) (s : Core) (index : ℕ) (t : Trace) (r : Request) → Settled o s t → waiting ((Executes (arrival_of o index t r) ∷ []) ∷ t) ≡ map (arrival_waiting o.first) s.waiting
@@ -169,6 +144,6 @@ Found-turned o s t r h place x =
     record {
       held_same = λ unit inside. rw (nowhere unit, none_held_below s'.window a.request unit a.number next shows);
       held_inside = λ unit y found. absurd (let z : None ≡ Some y = sym (nowhere unit) ∙ found in cc);
-      missing_same = rw numbered (numbered_missing s' a.request (place_in s'.window (ref_cmd_sn a.request)) numbered);
+      missing_same = grind (arith, nat_tests, numbered);
       expected_is = λ is. absurd (false≢true (sym numbered ∙ is));
     }

@@ -13,7 +13,7 @@ use Rattle.iscsi_rules.specs.rules.Execution.{unit_named, exp_of, max_of, reply_
 use Rattle.iscsi_rules.specs.rules.Management.{live_with_tag, held_command, may_wait, waiting_on, answer, is_before, refusal}
 use Rattle.iscsi_rules.specs.rules.Deeds.{Facts, function_deed, deed_of, of_unit, facts_of, if_found, deed_marks}
 use Rattle.iscsi_session.specs.private.Standing.{Core, kept, CommandsAgree, SetsAgree, task_of, WindowAgrees, arrival_waiting, WaitingAgrees, Agrees, Settled}
-use Rattle.iscsi_session.specs.private.Deeds.{facts_by, refusal_by, live_by, deed_by, waits_by, arrival_by, Fits, position_by, carried, executed, turn_of, next_waiting, next_position, function_taken, immediate_taken}
+use Rattle.iscsi_session.specs.private.Deeds.{facts_by, refusal_by, deed_by, waits_by, arrival_by, Fits, position_by, carried, executed, turn_of, next_waiting, next_position, function_taken, immediate_taken}
 use Rattle.iscsi_rules.proofs.general.BoolLemmas.{and_true, and_parts}
 use Rattle.iscsi_rules.proofs.general.ListLemmas.{list_any-map, any_filter, any_same, count_by-map, list_all-filter, find-passes, find-found, filter-map}
 use Rattle.iscsi_rules.proofs.traces.NewlyLemmas.{Untouched, live_in-untouched, newly-untouched}
@@ -37,7 +37,7 @@ use Rattle.iscsi_rules.specs.rules.Run.{effects_of_mark}
 use Rattle.iscsi_rules.proofs.traces.TraceLemmas.{filter-same}
 use Rattle.iscsi_rules.proofs.traces.DeliveryLemmas.{IsQuiet, received-quiet, held-quiet}
 use Rattle.iscsi_rules.proofs.traces.HeldLemmas.{held-number, admitted_of_held}
-use Rattle.iscsi_session.proofs.WindowParts.{Next, turned_window, WindowAgrees-quiet, inside_bounds, WindowAgrees-voided, WindowAgrees-emptied, VoidedAt, voided_at, emptied_at}
+use Rattle.iscsi_session.proofs.WindowParts.{Next, Turned, turned_window, WindowAgrees-quiet, inside_bounds, WindowAgrees-voided, WindowAgrees-emptied, VoidedAt, voided_at, emptied_at}
 use Rattle.iscsi_rules.proofs.items.ClosingItems.{ClosesNone, closes-more}
 use Rattle.iscsi_rules.proofs.items.ReceivedItems.{no_abort_task, may_immediate}
 use Rattle.iscsi_rules.proofs.general.NumberLemmas.{position_eq, position_lt, wire-lift}
@@ -199,16 +199,14 @@ module _ (o : Setting) (s : Core) (t : Trace) (m : Mark) (e : Effect) (a : Arriv
 
   -- the command of a unit with the tag leaves
   abort_one : (position : ℤ) (event unit ticket : ℕ) → Fits s a.request (Abort unit ticket) → Does position event (Abort unit ticket)
-  abort_one position event unit ticket fits = by_live (live_with_tag t₁ (rtt a.request) unit) refl
+  abort_one position event unit ticket fits =
+      by_live (live_with_tag t₁ (rtt a.request) unit) refl (sym (ap (option_map (λ (l : Live). l.ticket)) (tagged_in-is s t₁ (rtt a.request) unit commands.commands)) ∙ fits.1)
     where
-      lives : live_by s a.request unit ≡ option_map (λ (l : Live). l.ticket) (option_map kept (live_with_tag t₁ (rtt a.request) unit))
-      lives = ap (option_map (λ (l : Live). l.ticket)) (tagged_in-is s t₁ (rtt a.request) unit commands.commands)
-
-      by_live : (x : Option Command) → live_with_tag t₁ (rtt a.request) unit ≡ x
+      by_live : (x : Option Command) → live_with_tag t₁ (rtt a.request) unit ≡ x → option_map (λ (l : Live). l.ticket) (option_map kept x) ≡ Some ticket
           → Follows o t (m ∷ (if_found Leaves x ++ answer a 0)) (after_effect e (carried s a.request position event (Abort unit ticket)))
-      by_live None is = absurd (let none : None ≡ Some ticket = sym (lives ∙ ap (λ y. option_map (λ (l : Live). l.ticket) (option_map kept y)) is) ∙ fits.1 in cc)
-      by_live (Some c) is =
-          let ticket_is : c.ticket ≡ ticket = let z : Some c.ticket ≡ Some ticket = sym (lives ∙ ap (λ y. option_map (λ (l : Live). l.ticket) (option_map kept y)) is) ∙ fits.1 in cc in
+      by_live None is none = absurd cc
+      by_live (Some c) is this =
+          let ticket_is : c.ticket ≡ ticket = cc in
           let one = (ticket_alone (λ d. itt d.arrival.request == rtt a.request) (live_in unit t₁) c (apart-filter (λ d. d.unit == unit) (live t₁) commands.apart) is).0 in
           let gone : covered_in o t unit (covers_ticket ticket) ≡ c ∷ [] = rw (← ticket_is, ← same_live unit) one in
           rw gone at (leaving-item o s t m e a b unit (omega (arith, fits.0, b.lasts.sets.units)) (covers_ticket ticket))
@@ -274,20 +272,10 @@ turned-item o s t r h place x =
 
 immediate_begun : (o : Setting) (s : Core) (t : Trace) (a : Arrival) (waits : List Waiting) → Agrees o s t → is_immediate a.request ≡ true → is_known (connection_of a.request) o.conns ≡ true → WaitingAgrees o waits ((Executes a ∷ []) ∷ t)
     → Begun o (record s { waiting = waits }) t (Executes a) (Immediate a.request) a
-immediate_begun o s t a waits h immediate known w = record {
-  lasts = record { events = h.events; commands = h.commands; sets = h.sets; depth = h.depth; unfinished_is = h.unfinished; enabled = h.enabled; level = h.level; open_is = h.open_conns };
-  window = λ ms q. WindowAgrees-quiet o s.window t (Executes a ∷ ms) (quiet_executes a ms q) h.window;
-  room = λ no ms q. absurd (false≢true (sym no ∙ immediate));
-  replies = h.replies;
-  known = known;
-  first = h.window.first;
-  waits = w;
-  enters_no = refl;
-  leaves_no = λ k. refl;
-  sends_no = refl;
-  closes_no = record { session = refl; conns = λ c. refl };
-  shows = refl;
-}
+immediate_begun o s t a waits h immediate known w =
+    let window : (ms : List Mark) → IsQuiet ms → WindowAgrees o s.window ((Executes a ∷ ms) ∷ t) = λ ms q. WindowAgrees-quiet o s.window t (Executes a ∷ ms) (quiet_executes a ms q) h.window in
+    let room : is_immediate a.request ≡ false → (ms : List Mark) → IsQuiet ms → Turned o s.window ((Executes a ∷ ms) ∷ t) = λ no ms q. absurd (false≢true (sym no ∙ immediate)) in
+    search (window, room, known, w)
 
 -- ---- once it has waited
 
@@ -309,13 +297,11 @@ waited-item o s t w h found =
     let number : number_expected s.window ≡ a.number = omega (arith, h.window.first, turn) in
     let t' : Trace = (Executes a ∷ []) ∷ t in
     let d : Deed = function_deed (facts_by s' w.request) w.request in
-    let done = does o s' t (Executes a) (Immediate a.request) a b (next_position s) w.event (rw (number, h.window.first)) refl d (fits_function s' w.request) (whole_meets o s' t a b d (whole_function (facts_by s' w.request) w.request may)) in
+    let whole_meets : (d : Deed) → is_whole d ≡ true → Meets o s' t (Executes a) (Immediate a.request) a b d = λ d is. grind (arith, nat_tests, false≢true) in
+    let done = does o s' t (Executes a) (Immediate a.request) a b (next_position s) w.event (rw (number, h.window.first)) refl d (fits_function s' w.request) (whole_meets d (whole_function (facts_by s' w.request) w.request may)) in
     let is : function_item o t a ≡ Executes a ∷ deed_marks o t' a d =
     ap (λ x. Executes a ∷ deed_marks o t' a x) (function_is o s' t (Executes a) (Immediate a.request) a b (λ one. absurd (false≢true (sym (no_abort_task w.request may) ∙ one)))) in
     subst (λ item. Follows o t item (function_taken s (Some w))) (sym is) done
-  where
-    whole_meets : (o : Setting) (s : Core) (t : Trace) (a : Arrival) (b : Begun o s t (Executes a) (Immediate a.request) a) (d : Deed) → is_whole d ≡ true → Meets o s t (Executes a) (Immediate a.request) a b d
-    whole_meets o s t a b d is = grind (arith, nat_tests, false≢true)
 
 -- ---- at its arrival
 
@@ -389,15 +375,13 @@ module _ (o : Setting) (s : Core) (index : ℕ) (t : Trace) (r : Request) (h : S
       grind (arith, nat_tests, far, becomes_done, near, becomes_now, many, becomes_waiting)
 
   pub immediate-item : Follows o t (immediate_item o t (arrival_of o index t r)) (immediate_taken s r (arrival_by s r))
-  immediate-item = by_function (opcode r == 0x02 && may_wait r) refl
+  immediate-item =
+      let same : refusal o.level (unit_named o.units r) r ≡ refusal_by s r = ap (λ level. refusal level (unit_named o.units r) r) (sym h.agrees.level) ∙ ap (λ units. refusal s.level (unit_named units r) r) (sym h.agrees.sets.units) in
+      ⊎_elim
+      (λ (is : (opcode r == 0x02 && may_wait r) ≡ true). let parts = and_parts (opcode r == 0x02) (may_wait r) is in rw is (by_refusal parts.0 parts.1 _ (refusal_by s r) refl same))
+      (λ (is : (opcode r == 0x02 && may_wait r) ≡ false). rw is becomes_now)
+      (cases_Bool (opcode r == 0x02 && may_wait r))
     where
-      same : refusal o.level (unit_named o.units r) r ≡ refusal_by s r
-      same = ap (λ level. refusal level (unit_named o.units r) r) (sym h.agrees.level) ∙ ap (λ units. refusal s.level (unit_named units r) r) (sym h.agrees.sets.units)
-
       by_refusal : (opcode r == 0x02) ≡ true → may_wait r ≡ true → (x y : Option Answer) → refusal_by s r ≡ y → x ≡ y
           → Becomes (elim (option_map (reply_of r) x) [ Some reply ↦ execution o t (Executes a) a | None ↦ waiting_item o t a ]) (elim y [ Some z ↦ Reply z | None ↦ waits_by s r ])
       by_refusal is may x y refused equal = grind (arith, nat_tests, becomes_now, becomes_by_number)
-
-      by_function : (v : Bool) → (opcode r == 0x02 && may_wait r) ≡ v → Becomes (immediate_item o t a) (arrival_by s r)
-      by_function false is = rw is becomes_now
-      by_function true is = let parts = and_parts (opcode r == 0x02) (may_wait r) is in rw is (by_refusal parts.0 parts.1 _ (refusal_by s r) refl same)

@@ -36,9 +36,6 @@ left_keeps s (unit ∷ units) covers =
 
 -- ---- held requests are taken out
 
-emptied_counted : (scope : Option ℕ) (ps : List (Option (Option HeldRequest))) → count_by is_some (map (emptied_place scope) ps) ≡ count_by is_some ps
-emptied_counted scope ps = grind (arith, nat_tests, count_by-map)
-
 emptied_fewer : (scope : Option ℕ) (ps : List (Option (Option HeldRequest))) → count_by is_held (map (emptied_place scope) ps) ≤ count_by is_held ps
 emptied_fewer scope [] = omega arith
 emptied_fewer scope (p ∷ ps) =
@@ -52,4 +49,4 @@ pub record Parts (s s' : Core) : Type 0 where
   pub counted : count_by is_some s'.window.places ≡ count_by is_some s.window.places
 
 pub logged_out_parts : (s : Core) (r : Request) (scope : Option ℕ) → Parts s (logged_out s r scope).core
-logged_out_parts s r scope = grind (arith, nat_tests, left_keeps, emptied_fewer, emptied_counted, filter-shorter)
+logged_out_parts s r scope = grind (arith, nat_tests, left_keeps, emptied_fewer, count_by-map, filter-shorter)

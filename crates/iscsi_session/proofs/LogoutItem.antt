@@ -1,11 +1,12 @@
 -- A Logout Request executes.
-use Rattle.std.proofs.Common.{◌≡◌, ℕ, zero, suc, ◌+◌, ◌<◌, ◌≤◌, not, Bool, List, [], ◌∷◌, ◌++◌, length, filter, count_by, refl, ap, sym, ◌∙◌, arith, length-set, ◌==◌, ◌&&◌, ◌||◌, cond, true, false, map, nat_lt, Option, Some, None, append_assoc}
-use Rattle.std.specs.List.{list_any, flat_map, range_with_len, list_all, filter_map}
+use Rattle.std.proofs.Common.{⊎_elim, ◌≡◌, ℕ, zero, suc, ◌+◌, ◌<◌, ◌≤◌, not, Bool, List, [], ◌∷◌, ◌++◌, length, filter, count_by, refl, ap, sym, ◌∙◌, arith, length-set, ◌==◌, ◌&&◌, ◌||◌, cond, true, false, map, nat_lt, Option, Some, None, append_assoc}
+use Rattle.std.proofs.lemmas.Bool.{cases_Bool}
+use Rattle.std.specs.List.{list_any, flat_map, range_with_len, list_all}
 use Rattle.std.proofs.lemmas.List.{get_or-set_same, get_or-set_other, length-map}
 use Rattle.iscsi_tasks.specs.declared.task.Task.{Task}
 use Rattle.iscsi_tasks.specs.Sets.{opened}
 use Rattle.iscsi_session.specs.private.Standing.{Core, Agrees, WindowAgrees, CommandsAgree, arrival_waiting, open_of, task_of}
-use Rattle.iscsi_session.specs.private.Steps.{set_staying, covered_tickets, set_at, is_numbered, is_gone, leave_each, commands_left, all_commands_left, is_among_open, still_open, after_effect, units_of, all_given, enable_effects, covers_of, waiting_then, session_closes, closing_effects, logged_out}
+use Rattle.iscsi_session.specs.private.Steps.{set_staying, covered_tickets, set_at, is_numbered, is_gone, leave_each, commands_left, all_commands_left, is_among_open, still_open, after_effect, units_of, all_given, enable_effects, covers_of, session_closes, closing_effects, logged_out}
 use Rattle.iscsi_rules.proofs.traces.TraceLemmas.{filter-same, filter-true}
 use Rattle.iscsi_rules.proofs.traces.NewlyLemmas.{filter-twice, Untouched, live-untouched, filter_all, filter-none}
 use Rattle.iscsi_rules.proofs.general.ListLemmas.{any_in_range, flat_map_in_range, list_all-filter, list_all-same, list_any-map, any_filter, any_flat_map, filter-flat_map, map-flat_map, filter-map, filtered_among}
@@ -18,7 +19,7 @@ use Rattle.iscsi_rules.specs.declared.effect.Effect.{Effect}
 use Rattle.iscsi_rules.specs.declared.effect.Effect.TheVariants.{Leave, Send, CloseConn, CloseSession}
 use Rattle.iscsi_session.specs.declared.session.waiting.Waiting.{Waiting}
 use Rattle.iscsi_rules.specs.rules.Settings.{Setting, is_known}
-use Rattle.iscsi_rules.specs.rules.Trace.{Arrival, Command, Mark, Leaves, Empties, ClosesConn, ClosesSession, Trace, waiting, waiting_by, waiting_through, sent_on, closes_conn, closes_session, has, is_ended, enters, entered, leaves_ticket, live, live_in, is_among}
+use Rattle.iscsi_rules.specs.rules.Trace.{Arrival, Command, Mark, Leaves, Empties, ClosesConn, ClosesSession, Trace, waiting, waiting_by, waiting_through, closes_conn, closes_session, has, is_ended, enters, entered, leaves_ticket, live, live_in, is_among}
 use Rattle.iscsi_rules.specs.rules.Logout.{live_of_units, is_open, is_last_open, taken_out, parting, end_session, close_conn}
 use Rattle.iscsi_rules.specs.rules.Management.{may_wait}
 use Rattle.iscsi_rules.specs.rules.Run.{effects_of_mark, effects_of_item, newly_enabled, stat_sn_of}
@@ -96,16 +97,6 @@ module _ (o : Setting) (t : Trace) (a : Arrival) where
   abbrev hits : Option ℕ → ℕ → Bool
   hits None c = false
   hits (Some closing) c = closing == c
-
-  closing_ends : (x : Option ℕ) → list_any closes_session (closing_marks o t a x) ≡ ends x
-  closing_ends x = grind arith
-
-  closing_hits : (x : Option ℕ) (c : ℕ) → list_any (closes_conn c) (closing_marks o t a x) ≡ hits x c
-  closing_hits x c = grind arith
-
-  -- the reply goes out
-  closing_sends : (x : Option ℕ) → filter_map sent_on (closing_marks o t a x) ≡ connection_of a.request ∷ []
-  closing_sends x = grind arith
 
   -- what closes is shown
   abbrev closes_shown : Option ℕ → List Effect
@@ -187,10 +178,9 @@ module _ (o : Setting) (s : Core) (t : Trace) (m : Mark) (e : Effect) (a : Arriv
 
   leaves : LeavesSome item out
   leaves =
-      let quiet : Untouched (map Empties hs) = untouched-emptied hs in
       let quiet_rest : Untouched rest = untouched-closing o t₁ a scope in
       record {
-        enters_none = rw (b.enters_no, filter_map-append enters (map Leaves cs ++ map Empties hs) rest, enters_only cs (map Empties hs), quiet.enters_none, quiet_rest.enters_none);
+        enters_none = rw (b.enters_no, filter_map-append enters (map Leaves cs ++ map Empties hs) rest, enters_only cs (map Empties hs), (untouched-emptied hs).enters_none, quiet_rest.enters_none);
         some = λ n. rw (b.leaves_no n, grouped, leaves_only cs (map Empties hs ++ rest) n, emptied_any (leaves_ticket n) hs rest (λ h. refl), quiet_rest.leaves_no n, or_false, units_are, out_is n, any_filter (λ (c : Command). c.ticket == n) asked (live_of_units o t), any_flat_map)
             (any_in_units (goes n) o.units (live t) regular);
       }
@@ -268,24 +258,19 @@ module _ (o : Setting) (s : Core) (t : Trace) (m : Mark) (e : Effect) (a : Arriv
 
   open_after : open_of o (item ∷ t) ≡ filter (opens scope) cids
   open_after = filter-same _ _ cids (λ c.
-      rw (closes closes_session b.closes_no.session (λ d. refl) (λ h. refl), closes (closes_conn c) (b.closes_no.conns c) (λ d. refl) (λ h. refl), closing_ends o t₁ a scope, closing_hits o t₁ a scope c))
+      rw (closes closes_session b.closes_no.session (λ d. refl) (λ h. refl), closes (closes_conn c) (b.closes_no.conns c) (λ d. refl) (λ h. refl)) (grind arith))
 
   stays_open : (x : Option ℕ) → still_open x (open_of o t) ≡ filter (opens x) cids
   stays_open None = rw none_stay (sym (filter-none (opens None) cids (λ c. and_false (is_known c o.conns))))
-  stays_open (Some closing) = by_last (is_last_open o t₁ closing) refl
-    where
-      by_last : (v : Bool) → is_last_open o t₁ closing ≡ v → still_open (Some closing) (open_of o t) ≡ filter (opens (Some closing)) cids
-      by_last true is = grind (arith, nat_tests, nil_is, last_open, filter-none, and_false)
-      by_last false is = rw filter-twice (filter-same _ _ cids (λ c. grind (arith, is, eq_sym closing c)))
+  stays_open (Some closing) =
+      ⊎_elim (λ (is : is_last_open o t₁ closing ≡ true). grind (arith, nat_tests, nil_is, last_open, filter-none, and_false))
+      (λ (is : is_last_open o t₁ closing ≡ false). rw filter-twice (filter-same _ _ cids (λ c. grind (arith, is, eq_sym closing c))))
+      (cases_Bool (is_last_open o t₁ closing))
 
   -- ---- what waits still
 
   waits : waiting_through marks (waiting_by m (waiting t)) ≡ map (arrival_waiting o.first) (logged_out s a.request scope).core.waiting
-  waits = rw (b.waits.list, append_assoc, left_waits, emptied_waits, k.same) (rest_waits scope)
-    where
-      rest_waits : (x : Option ℕ) → waiting_through (closing_marks o t₁ a x) (map (arrival_waiting o.first) s.waiting)
-          ≡ map (arrival_waiting o.first) (waiting_then (still_open x s.open_conns) (filter (λ w. not (is_asked x (connection_of w.request))) s.waiting))
-      rest_waits x = grind (arith, nat_tests, none_stay, last_open, filter-map)
+  waits = rw (b.waits.list, append_assoc, left_waits, emptied_waits, k.same) (grind (arith, nat_tests, none_stay, last_open, filter-map))
 
   still_all : (test : Waiting → Bool) → list_all test s.waiting ≡ true → list_all test (logged_out s a.request scope).core.waiting ≡ true
   still_all test h = rw k.same (grind (arith, list_all-filter (λ w. not (is_asked scope (connection_of w.request))) test s.waiting h))
@@ -296,7 +281,7 @@ module _ (o : Setting) (s : Core) (t : Trace) (m : Mark) (e : Effect) (a : Arriv
   agrees = record {
     events = rw k.same b.lasts.events;
     window = window;
-    replies = rw k.same (RepliesAgree-sent o s.conns t item conn (rw (b.sends_no, grouped, left_sends, emptied_sends) (closing_sends o t₁ a scope)) b.known b.replies);
+    replies = rw k.same (RepliesAgree-sent o s.conns t item conn (rw (b.sends_no, grouped, left_sends, emptied_sends) (grind arith)) b.known b.replies);
     commands = rw k.same commands;
     sets = record {
       units = length-map left.sets all_given ∙ units_same;

@@ -55,9 +55,6 @@ Settled-opened o room taken = record {
 
 -- ---- how many are held
 
-held_place : (t : Trace) (n : ℕ) → is_held (place_of t n) ≡ is_some (held t n)
-held_place t n = grind (arith, nat_tests, unreceived_unheld)
-
 pub conns_same : (o : Setting) (s : Core) (h : List Event) → StandsFor o s h → length s.conns ≡ length o.conns
 conns_same o s h stands = sym (length-map s.conns (λ (k : ℕ × ℕ). k.0)) ∙ ap length stands.settled.agrees.replies.cids ∙ length-map o.conns (λ (k : ℕ × ℕ). k.0)
 
@@ -66,8 +63,9 @@ bound_is o s h stands =
     let t : Trace = trace_of o h in
     let a = stands.settled.agrees in
     let e : ℕ = number_expected s.window in
+    let held_place : (n : ℕ) → is_held (place_of t n) ≡ is_some (held t n) = λ n. grind (arith, nat_tests, unreceived_unheld) in
     let counted : count_by is_held s.window.places ≡ held_count o t =
-    count_places is_held (λ n. is_some (held t n)) s.window.places e (λ k lt. ap is_held (a.window.inside k lt) ∙ held_place t (e + k))
+    count_places is_held (λ n. is_some (held t n)) s.window.places e (λ k lt. ap is_held (a.window.inside k lt) ∙ held_place (e + k))
     ∙ cc (a.window.size, settled_expected o s t stands.settled) in
     let lives : length s.live ≡ length (live t) = ap length a.commands.commands ∙ length-map (live t) kept in
     let waits = ap length a.waiting.list ∙ length-map s.waiting (arrival_waiting o.first) in

@@ -45,19 +45,7 @@ none_above o s t h n above =
 pub Flows-step : (o : Setting) (s s' : Core) (index : ℕ) (t : Trace) (e : Event) → HasOneMore (received t) (received (after_event o index t e)) → Settled o s t → Settled o s' (after_event o index t e) → KeepsPace s.window s'.window → Flows o t (after_event o index t e)
 Flows-step o s s' index t e more h h' pace =
     let t' : Trace = after_event o index t e in
-    let w = h.agrees.window in
-    let w' = h'.agrees.window in
-    let exp' = settled_expected o s' t' h' in
-    let max = settled_max o s t h in
-    let max' = settled_max o s' t' h' in
-    record {
-      one_number = more;
-      none_above = none_above o s' t' h';
-      exp_stays = exp_stays o t t' more;
-      max_stays = omega (arith, w, w');
-      max_near = omega (arith, w'.few);
-      few_unfinished = omega (arith, h'.agrees.unfinished, w'.few, w'.size);
-    }
+    search (arith, more, none_above o s' t' h', exp_stays o t t' more, settled_expected o s' t' h', settled_max o s t h, settled_max o s' t' h', h.agrees.window.first, h'.agrees.window.first, h'.agrees.window.few, h'.agrees.unfinished, h'.agrees.window.size)
 
 pub stands_delivers : (o : Setting) (s : Core) (h : List Event) → StandsFor o s h → delivered (run_of o h) ≡ executed o h
 stands_delivers o s h stands = grind (arith, nat_tests, log_delivers, settled_expected)
@@ -69,17 +57,7 @@ pub stands_closes : (o : Setting) (s : Core) (h : List Event) → StandsFor o s 
 stands_closes o s h stands = closes_hold_in o h stands.belong
 
 pub promises_kept : (o : Setting) (s : Core) (h : List Event) → StandsFor o s h → FlowsThrough o h → KeepsPromises o h (run_of o h)
-promises_kept o s h stands flow = record {
-  delivery = stands_delivers o s h stands;
-  enabling = stands_enables o s h stands;
-  aborts = aborts_hold_in o h;
-  closes = stands_closes o s h stands;
-  flow = flow;
-  started_once = starts_once o h;
-  answered_once = answers_once_in o h;
-  stat_sns = counts_replies o h;
-  in_order = keeps_order o h;
-  meaning = means_what_it_says o h;
-}
+promises_kept o s h stands flow =
+    search (stands_delivers o s h stands, stands_enables o s h stands, aborts_hold_in, stands_closes o s h stands, flow, starts_once, answers_once_in, counts_replies, keeps_order, means_what_it_says)
 
 pub ruleset promises = (aborts_hold_in, starts_once, answers_once_in, counts_replies, keeps_order, means_what_it_says, stands_delivers, stands_enables, stands_closes)

@@ -124,15 +124,13 @@ pub sets_written : (unit n : ℕ) (covers : Task → Bool) (old sets : List Memb
     → take n (sets ++ drop (length sets) old) ≡ set old unit (set_staying covers (get_or old unit (opened 0)))
 sets_written unit n covers old sets long is = written n sets old (rw is (length-set old unit (set_staying covers (get_or old unit (opened 0))))) long ∙ is
 
-staying_depth : (covers : Task → Bool) (set : Members) → (set_staying covers set).depth ≡ set.depth
-staying_depth covers set = grind (arith, nat_tests)
-
 pub left_sound : {s : Inner} → IsSessionSound s → (unit : ℕ) (covers : Task → Bool) → unit < length s.sets → {immediate : List ℕ} → AreCounted immediate s.conns (staying covers (get_or s.sets unit (opened 0)) s.live)
     → IsSessionSound (record s { window = finished_by s.window s.live (staying covers (get_or s.sets unit (opened 0)) s.live); live = staying covers (get_or s.sets unit (opened 0)) s.live; immediate = immediate; sets = set s.sets unit (set_staying covers (get_or s.sets unit (opened 0))) })
 left_sound {s} inv unit covers inside counted =
     let stays : Live → Bool = λ l. not (is_gone covers (get_or s.sets unit (opened 0)) l.ticket) in
     let long : length (set s.sets unit (set_staying covers (get_or s.sets unit (opened 0)))) ≡ length s.sets = length-set s.sets unit (set_staying covers (get_or s.sets unit (opened 0))) in
     let fewer = fewer_counted is_numbered stays s.live in
+    let depth_same : (set_staying covers (get_or s.sets unit (opened 0))).depth ≡ (get_or s.sets unit (opened 0)).depth = grind (arith, nat_tests) in
     commands_sound inv (places_sound inv.window refl refl (omega (arith, inv.window.fits, fewer)) inv.window.entered)
     (kept_sound inv.commands stays refl (omega (arith, fewer, inv.commands.numbered)) long (Match-staying s.sets s.live unit covers inside inv.commands.in_sets inv.commands.ascending) counted)
-    refl long (roomy_set s.depth s.live_room s.sets unit (set_staying covers (get_or s.sets unit (opened 0))) inside inv.sets (staying_depth covers (get_or s.sets unit (opened 0)))) (omega arith)
+    refl long (roomy_set s.depth s.live_room s.sets unit (set_staying covers (get_or s.sets unit (opened 0))) inside inv.sets depth_same) (omega arith)

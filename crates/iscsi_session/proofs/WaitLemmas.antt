@@ -15,11 +15,8 @@ use Rattle.iscsi_rules.proofs.traces.TraceLemmas.{filter-same}
 use Rattle.iscsi_rules.proofs.items.WaitingItems.{first_function, waits_itself}
 
 -- the functions that a session finds for the next number are those of the number
-number_test : (first turned : ℕ) (w : Waiting) → ((arrival_waiting first w).number == number_of_first first + turned) ≡ (w.turn == turned)
-number_test first turned w = grind (arith, nat_tests)
-
 at_turn : (first turned : ℕ) (ws : List Waiting) → filter (λ b. b.number == number_of_first first + turned) (map (arrival_waiting first) ws) ≡ map (arrival_waiting first) (filter (λ w. w.turn == turned) ws)
-at_turn first turned ws = grind (arith, nat_tests, filter-map, filter-same, number_test)
+at_turn first turned ws = grind (arith, nat_tests, filter-map, filter-same)
 
 first_found : (p : Waiting → Bool) (ws : List Waiting) (w : Waiting) → find p ws ≡ Some w → filter p ws ≡ w ∷ drop 1 (filter p ws)
 first_found p [] w h = absurd cc

@@ -1,5 +1,5 @@
 -- What an offer and a completion change of what a session keeps.
-use Rattle.std.proofs.Common.{◌≡◌, ◌⊎◌, inl, inr, ℕ, ◌+◌, ◌-◌, ◌<◌, ◌&&◌, cond, Bool, true, false, List, [], ◌∷◌, ◌++◌, length, drop, get_or, Option, Some, None, is_some, refl, ap, ◌∙◌, arith, nat_lt, nat_le, count_by, length-set, get_or-set_same, not}
+use Rattle.std.proofs.Common.{◌≡◌, ◌⊎◌, ℕ, ◌+◌, ◌-◌, ◌<◌, ◌&&◌, cond, Bool, true, false, List, length, get_or, Option, Some, None, is_some, refl, arith, nat_lt, nat_le, count_by, length-set, get_or-set_same, not}
 use Rattle.std.specs.List.{list_all}
 use Rattle.std.specs.Option.{option_flatten}
 use Rattle.std.proofs.lemmas.Bool.Decides.{nat_tests}
@@ -9,11 +9,10 @@ use Rattle.iscsi_session.specs.private.Deeds.{next_waiting, comes_next}
 use Rattle.iscsi_wire.specs.declared.request.Request.{Request}
 use Rattle.iscsi_window.specs.declared.held_request.HeldRequest.{HeldRequest}
 use Rattle.iscsi_wire.specs.Fields.{connection_of, is_immediate}
-use Rattle.iscsi_window.specs.declared.answer.Offer.{Offer}
-use Rattle.iscsi_window.specs.declared.answer.Offer.TheVariants.{Held, Outside as NotAdmitted, Duplicate as Known}
+use Rattle.iscsi_window.specs.declared.answer.Offer.TheVariants.{Held, Duplicate as Known}
 use Rattle.iscsi_window.specs.declared.answer.Place.{Place}
 use Rattle.iscsi_window.specs.declared.answer.Place.TheVariants.{Inside, Outside as NoPlace}
-use Rattle.iscsi_window.specs.Windows.{Arrived, number_expected, room_of, at_place, advanced, advanced_if, offer_at, offer_to, place_in, IsInside, held_at, is_received_at, is_next, received_at, offered_in, voided, emptied, emptied_if, with_place}
+use Rattle.iscsi_window.specs.Windows.{Arrived, number_expected, room_of, at_place, advanced, offer_at, offer_to, place_in, IsInside, held_at, is_received_at, is_next, received_at, offered_in, voided, emptied, emptied_if, with_place}
 use Rattle.iscsi_rules.specs.rules.Settings.{is_known}
 use Rattle.iscsi_session.specs.private.Invariant.{IsWindowSound}
 use Rattle.iscsi_rules.proofs.general.PlaceLemmas.{all_set, all_shift, some_within}
@@ -55,19 +54,7 @@ pub record Advanced (w : Arrived) (q : Option HeldRequest) : Type 0 where
 
 pub advanced_at : (w : Arrived) (q : Option HeldRequest) → at_place w 0 ≡ Some q → Advanced w q
 advanced_at w q here =
-    let moved : advanced w ≡ advanced_if w (Some q) = ap (advanced_if w) here in
-    record {
-      here = here;
-      turned = ap (λ (v : Arrived). v.turned) moved;
-      unfinished = ap (λ (v : Arrived). v.unfinished) moved;
-      long = ap (λ (v : Arrived). length v.places) moved ∙ some w.places q here;
-      held = ap (λ (v : Arrived). count_by is_held v.places + cond (is_held (Some q)) 1 0) moved ∙ count_shift is_held q w.places refl here;
-      counted = ap (λ (v : Arrived). count_by is_some v.places + 1) moved ∙ count_shift is_some q w.places refl here;
-      known = grind (arith, nat_tests, all_shift);
-    }
-  where
-    some : {A : Type 0} (ps : List (Option A)) (x : A) → get_or ps 0 None ≡ Some x → length (drop 1 ps ++ None ∷ []) ≡ length ps
-    some ps x h = grind (arith, nat_tests, length_push)
+    grind (arith, nat_tests, all_shift, length_push, count_shift is_held q w.places refl here, count_shift is_some q w.places refl here)
 
 -- ---- a number that is emptied or voided
 
@@ -87,16 +74,7 @@ same w = record { first = refl; long = refl; turned = refl; unfinished = refl; h
 -- nothing is held at a place any more
 blanked : (w : Arrived) (k : ℕ) (p : Option (Option HeldRequest)) → at_place w k ≡ p → k < length w.places → Changed w (with_place w k (Some None)) (cond (is_held p) 1 0) (cond (is_some p) 0 1)
 blanked w k p is within =
-    let none : Option (Option HeldRequest) = Some None in
-    record {
-      first = refl;
-      long = length-set w.places k none;
-      turned = refl;
-      unfinished = refl;
-      held_is = omega (arith, count_replaced is_held w.places k none None within, ap {B = ℕ} (λ p. cond (is_held p) 1 0) is);
-      counted = grind (arith, count_replaced is_some w.places k none None within);
-      known = λ conns all. all_set (is_place_known conns) w.places k none all refl;
-    }
+    grind (arith, nat_tests, length-set w.places k (Some None), count_replaced is_held w.places k (Some None) None within, count_replaced is_some w.places k (Some None) None within, all_set)
 
 pub emptied_changes : (w : Arrived) (sn : ℕ) → Changed w (emptied w sn) (cond (is_some (held_at w (place_in w sn))) 1 0) 0
 emptied_changes w sn = by_place (place_in w sn)
@@ -139,15 +117,7 @@ grown old new r said is = grind (arith, nat_tests, length-set, count_set, all_se
 
 -- the request is held, or nothing changes
 pub held_or_same : (old new : Arrived) (r : HeldRequest) → new ≡ offered_in old r.request r.event → Grown old new r ⊎ (new ≡ old)
-held_or_same old new r is = by_offer (offer_to old r.request) refl
-  where
-    same : (offer_to old r.request ≡ Held → ⊥) → new ≡ old
-    same apart = is ∙ (let z : offered_in old r.request r.event ≡ old = grind arith in z)
-
-    by_offer : (x : Offer) → offer_to old r.request ≡ x → Grown old new r ⊎ (new ≡ old)
-    by_offer Held said = inl (grown old new r said is)
-    by_offer NotAdmitted said = inr (same (λ held. absurd cc))
-    by_offer Known said = inr (same (λ held. absurd cc))
+held_or_same old new r is = grind (arith, nat_tests, grown old new r)
 
 -- ---- a request that comes with the expected number
 

@@ -219,33 +219,20 @@ pub record Passed (w : Arrived) (t : Trace) : Type 0 where
   pub held_is : held t (number_expected w) ≡ None
 
 -- nothing is held at the next number, where its place says so
-passed_by : (w : Arrived) (t : Trace) → place_of t (number_expected w) ≡ Some None → Passed w t
-passed_by w t none = grind arith
-
--- nothing is to be executed at a number where nothing is held, and nothing was delivered
-no_request : (t : Trace) (n : ℕ) → held t n ≡ None → is_delivered t n ≡ false → request_at t n ≡ None
-no_request t n none undelivered = grind arith
-
 pub passed_at : (o : Setting) (w : Arrived) (t : Trace) → WindowAgrees o w t → at_place w 0 ≡ Some None → Passed w t
 passed_at o w t h place =
     let at : number_expected w + 0 ≡ number_expected w = omega arith in
-    passed_by w t (cc (h.inside 0 (has_first w.places None place)))
+    let none : place_of t (number_expected w) ≡ Some None = cc (h.inside 0 (has_first w.places None place)) in
+    grind arith
 
 -- a number that nothing is held at is passed
 pub WindowAgrees-passed : (o : Setting) (w : Arrived) (t : Trace) → WindowAgrees o w t → at_place w 0 ≡ Some None → WindowAgrees o (turned_window w) t
 WindowAgrees-passed o w t h place =
     let e : ℕ = number_expected w in
     let p : Passed w t = passed_at o w t h place in
-    (turned o w t t None h place (record {
-      here = p.received_is;
-      none_here = p.held_is;
-      received_is = refl;
-      held_is = λ n other. refl;
-      delivered_is = λ n above. refl;
-      emptied_is = λ n. refl;
-      admitted_is = λ n. refl;
-      delivered = cc (h.delivered, executed_below-more o t e (omega (arith, h.first)), no_request t e p.held_is (h.undelivered e (omega arith)), append-nil (executed_below o t e));
-    })).agrees
+    let none : request_at t e ≡ None = grind (arith, p.held_is, h.undelivered e) in
+    let delivered : shown delivers t ≡ executed_below o t (e + 1) = cc (h.delivered, executed_below-more o t e (omega (arith, h.first)), none, append-nil (executed_below o t e)) in
+    (turned o w t t None h place (search (p.received_is, p.held_is, delivered))).agrees
 
 -- a command begins in a window that has turned
 pub WindowAgrees-started : (o : Setting) (w : Arrived) (t : Trace) → Turned o w t → WindowAgrees o (with_unfinished w (w.unfinished + 1)) t
@@ -268,40 +255,32 @@ record Clears (item : List Mark) (t : Trace) (n : ℕ) : Type 0 where
 
 WindowAgrees-clears : (o : Setting) (w : Arrived) (item : List Mark) (t : Trace) (n : ℕ) → WindowAgrees o w t → Clears item t n → number_expected w ≤ n → n < number_expected w + room_of w
     → WindowAgrees o (with_place w (n - number_expected w) (Some None)) (item ∷ t)
-WindowAgrees-clears o w item t n h v low high = record {
-  first = h.first;
-  size = long ∙ h.size;
-  below = λ k l u. rw (v.received_is k, h.below k l u);
-  inside = λ k lt. ⊎_elim (here k) (other k (omega (arith, lt, long))) (cases_eq k (n - e));
-  above = λ k u. rw (v.received_is k, h.above k (omega (arith, u, long))) (apart k (λ same. omega (arith, same, u, long)));
-  past = λ k before. v.other k (apart k (λ same. omega (arith, same, before, low))) ∙ h.past k before;
-  undelivered = λ k u. rw (v.delivers_no k, h.undelivered k u);
-  unemptied = grind (arith, nat_tests, or_none);
-  requests = λ k b found. h.requests k b (sym (ap first_of (v.admitted_is k)) ∙ found);
-  numbers = λ k b found. h.numbers k b (sym (ap first_of (v.admitted_is k)) ∙ found);
-  delivered = rw (v.delivers_none, append-nil, h.delivered)
-      (same_range t (item ∷ t) (number_of_first o.first) (e - number_of_first o.first) (λ k l u. sym (v.requested k (apart k (λ same. omega (arith, same, u, low))))));
-  few = omega (arith, h.few, long);
-  free = λ k big. get_or-set_other w.places (n - e) k (Some None) None (λ same. omega (arith, same, big, long, h.few)) ∙ h.free k (omega (arith, big, long));
-}
-  where
-    e : ℕ
-    e = number_expected w
-
-    long : length (set w.places (n - e) (Some None)) ≡ length w.places
-    long = length-set w.places (n - e) (Some None)
-
-    apart : (k : ℕ) → (n ≡ k → ⊥) → (n == k) ≡ false
-    apart k differ = ne_eqb n k differ
-
-    here : (k : ℕ) → k ≡ n - e → get_or (set w.places (n - e) (Some None)) k None ≡ place_of (item ∷ t) (e + k)
-    here k is =
-        let at : e + k ≡ n = omega (arith, is, low) in
-        let now : Some None ≡ place_of (item ∷ t) n = rw (v.here, v.received_is n, or_second (is_received t n) (n == n) (eq-eqb n n refl)) in
-        get_or-set_at w.places (n - e) k (Some None) None is (omega arith) ∙ now ∙ ap (place_of (item ∷ t)) (sym at)
-
-    other : (k : ℕ) → k < length w.places → (k ≡ n - e → ⊥) → get_or (set w.places (n - e) (Some None)) k None ≡ place_of (item ∷ t) (e + k)
-    other k lt differ = grind (arith, nat_tests, apart, get_or-set_other, or_false)
+WindowAgrees-clears o w item t n h v low high =
+    let e : ℕ = number_expected w in
+    let long : length (set w.places (n - e) (Some None)) ≡ length w.places = length-set w.places (n - e) (Some None) in
+    let apart : (k : ℕ) → (n ≡ k → ⊥) → (n == k) ≡ false = λ k differ. ne_eqb n k differ in
+    let here : (k : ℕ) → k ≡ n - e → get_or (set w.places (n - e) (Some None)) k None ≡ place_of (item ∷ t) (e + k) = λ k is.
+    let at : e + k ≡ n = omega (arith, is, low) in
+    let now : Some None ≡ place_of (item ∷ t) n = rw (v.here, v.received_is n, or_second (is_received t n) (n == n) (eq-eqb n n refl)) in
+    get_or-set_at w.places (n - e) k (Some None) None is (omega arith) ∙ now ∙ ap (place_of (item ∷ t)) (sym at) in
+    let other : (k : ℕ) → k < length w.places → (k ≡ n - e → ⊥) → get_or (set w.places (n - e) (Some None)) k None ≡ place_of (item ∷ t) (e + k) = λ k lt differ.
+    grind (arith, nat_tests, apart, get_or-set_other, or_false) in
+    record {
+      first = h.first;
+      size = long ∙ h.size;
+      below = λ k l u. rw (v.received_is k, h.below k l u);
+      inside = λ k lt. ⊎_elim (here k) (other k (omega (arith, lt, long))) (cases_eq k (n - e));
+      above = λ k u. rw (v.received_is k, h.above k (omega (arith, u, long))) (apart k (λ same. omega (arith, same, u, long)));
+      past = λ k before. v.other k (apart k (λ same. omega (arith, same, before, low))) ∙ h.past k before;
+      undelivered = λ k u. rw (v.delivers_no k, h.undelivered k u);
+      unemptied = grind (arith, nat_tests, or_none);
+      requests = λ k b found. h.requests k b (sym (ap first_of (v.admitted_is k)) ∙ found);
+      numbers = λ k b found. h.numbers k b (sym (ap first_of (v.admitted_is k)) ∙ found);
+      delivered = rw (v.delivers_none, append-nil, h.delivered)
+          (same_range t (item ∷ t) (number_of_first o.first) (e - number_of_first o.first) (λ k l u. sym (v.requested k (apart k (λ same. omega (arith, same, u, low))))));
+      few = omega (arith, h.few, long);
+      free = λ k big. get_or-set_other w.places (n - e) k (Some None) None (λ same. omega (arith, same, big, long, h.few)) ∙ h.free k (omega (arith, big, long));
+    }
 
 -- a number is received without a request
 pub WindowAgrees-voided : (o : Setting) (w : Arrived) (t : Trace) (m : Mark) (n : ℕ) (ms : List Mark) → WindowAgrees o w t → IsQuiet (m ∷ []) → IsQuiet ms → number_expected w ≤ n → n < number_expected w + room_of w → is_received t n ≡ false
@@ -309,19 +288,10 @@ pub WindowAgrees-voided : (o : Setting) (w : Arrived) (t : Trace) (m : Mark) (n 
 WindowAgrees-voided o w t m n ms h q qs low high new =
     let item : List Mark = m ∷ Voids n ∷ ms in
     let v : VoidsOne item n = voids-one m n ms q qs in
-    WindowAgrees-clears o w item t n h (record {
-      received_is = received-voids item t n v;
-      here = held-voids item t n v n ∙ unreceived_unheld t n new;
-      other = λ k no. held-voids item t n v k;
-      emptied_is = λ k no. rw (v.empties_no k);
-      requested = λ k no. request_at-voids item t n v k;
-      admitted_is = admitted-voids item t n v;
-      delivers_none = v.delivers_none;
-      delivers_no = v.delivers_no;
-    }) low high
+    WindowAgrees-clears o w item t n h (grind (arith, nat_tests, received-voids item t n v, held-voids item t n v, unreceived_unheld t n new, v.empties_no, request_at-voids item t n v, admitted-voids item t n v)) low high
 
 -- what the window keeps of a number inside
-read_inside : (o : Setting) (w : Arrived) (t : Trace) (n : ℕ) → WindowAgrees o w t → number_expected w ≤ n → n < number_expected w + length w.places → at_place w (n - number_expected w) ≡ place_of t n
+pub read_inside : (o : Setting) (w : Arrived) (t : Trace) (n : ℕ) → WindowAgrees o w t → number_expected w ≤ n → n < number_expected w + length w.places → at_place w (n - number_expected w) ≡ place_of t n
 read_inside o w t n h low high =
     let at : number_expected w + (n - number_expected w) ≡ n = omega arith in
     h.inside (n - number_expected w) (omega arith) ∙ rw at
@@ -352,16 +322,7 @@ WindowAgrees-emptied o w t m n h ms a q qs is low high =
       | true ↦ λ same. rw (← eqb-true n k same, at.there)
       | false ↦ λ no. sym (or_false (is_received t k))
     ] in
-    WindowAgrees-clears o w item t n a (record {
-      received_is = λ k. ap (λ ns. contains ns k) (received-empties item t n v) ∙ received k (n == k) refl;
-      here = held-gone item t n v;
-      other = held-other item t n v;
-      emptied_is = λ k no. rw (emptied-empties item t n v k, no);
-      requested = request_at-empties item t n v;
-      admitted_is = admitted-empties item t n v;
-      delivers_none = v.delivers_none;
-      delivers_no = v.delivers_no;
-    }) low at.high
+    WindowAgrees-clears o w item t n a (grind (arith, nat_tests, received-empties item t n v, received, held-gone item t n v, held-other item t n v, emptied-empties item t n v, request_at-empties item t n v, admitted-empties item t n v)) low at.high
 
 -- ---- what the window becomes, by the number that the wire shows
 
