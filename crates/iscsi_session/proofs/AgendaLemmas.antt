@@ -70,9 +70,8 @@ Stepped-completed o s t c ticket status h found =
     let reply : Reply = Scsi (itt c.arrival.request) status (sense_of_status status) in
     let one = (ticket_alone (λ d. d.ticket == ticket) (live t) c a.commands.apart found).0 in
     let gone : covered_in o t c.unit covers ≡ c ∷ [] = filter-swap (λ (d : Command). d.ticket == c.ticket) (λ (d : Command). d.unit == c.unit) (live t) ∙ rw (one, eq-eqb c.unit c.unit refl) in
-    let leaving : Leaving o s t item c.unit covers conn =
     let leaves : LeavesSome item (is_gone covers (set_at s c.unit)) = record { enters_none = refl; some = λ k. sym (gone_tickets o t (set_at s c.unit) c.unit (a.sets.lists c.unit r.unit) covers k ∙ ap (is_among k) gone) } in
-    search (lasting o s t a, WindowAgrees-quiet o s.window t item (quiet-completion c status) a.window, r.unit, r.known, leaves) in
+    let leaving : Leaving o s t item c.unit covers conn = search (lasting o s t a, WindowAgrees-quiet o s.window t item (quiet-completion c status) a.window, r.unit, r.known, leaves) in
     record {
       settled = record { agrees = leaving-agrees o s t item c.unit covers conn reply leaving; none_due = h.none_due };
       effects_are = rw (leaving-effects o s t item c.unit covers conn reply leaving, gone, append-nil (enables (newly_enabled o t item)));

@@ -108,20 +108,14 @@ module _ (o : Setting) (s : Core) (t : Trace) (m : Mark) (e : Effect) (a : Arriv
       let regular : is_regular o c ≡ true = and_both _ _ (lt-ltb unit o.units inside) b.known in
       let starts : (started s.window a.request).unfinished ≡ s.window.unfinished + cond (not (is_immediate a.request)) 1 0 = grind arith in
       let numbered : Command → Bool = λ d. not (is_immediate d.arrival.request) in
-      let lives : unfinished (item ∷ t) ≡ unfinished t + cond (numbered c) 1 0 = ap (count_by numbered) (live-entered o s.live s.entered item t c b.lasts.commands en) ∙ count_by-push numbered (live t) c in (
-        record {
-          events = b.lasts.events;
-          window = cond_both (is_immediate a.request) _ _ (λ v. WindowAgrees o v (item ∷ t)) (λ is. b.window ms q) (λ is. WindowAgrees-started o s.window (item ∷ t) (b.room is ms q));
-          replies = RepliesAgree-quiet o s.conns t item (cc b.sends_no) b.replies;
-          commands = rw live_is (CommandsAgree-entered o s.live s.entered t item c b.lasts.commands en regular);
-          sets = entry.agrees;
-          depth = b.lasts.depth;
-          unfinished = starts ∙ ap (λ n. n + cond (not (is_immediate a.request)) 1 0) b.lasts.unfinished_is ∙ sym lives;
-          enabled = EnabledSoFar-entered o s.live s.entered item t c b.lasts.commands en inside (never_free c t (b.lasts.commands.fresh c.ticket (omega (arith, en.ticket)))) b.lasts.enabled;
-          level = b.lasts.level;
-          waiting = record { list = b.waits.list; may = b.waits.may; known = b.waits.known };
-          open_conns = b.lasts.open_is ∙ sym (open_of-same o item t (closes-more m ms b.closes_no (record { session = refl; conns = λ k. refl })));
-        },
+      let lives : unfinished (item ∷ t) ≡ unfinished t + cond (numbered c) 1 0 = ap (count_by numbered) (live-entered o s.live s.entered item t c b.lasts.commands en) ∙ count_by-push numbered (live t) c in
+      let window : WindowAgrees o (started s.window a.request) (item ∷ t) =
+      cond_both (is_immediate a.request) _ _ (λ v. WindowAgrees o v (item ∷ t)) (λ is. b.window ms q) (λ is. WindowAgrees-started o s.window (item ∷ t) (b.room is ms q)) in
+      let commands : CommandsAgree o (s.live ++ new_live s a.request unit ∷ []) (s.entered + 1) (item ∷ t) = rw live_is (CommandsAgree-entered o s.live s.entered t item c b.lasts.commands en regular) in
+      let replies : RepliesAgree o s.conns (item ∷ t) = RepliesAgree-quiet o s.conns t item (cc b.sends_no) b.replies in
+      let enabled = EnabledSoFar-entered o s.live s.entered item t c b.lasts.commands en inside (never_free c t (b.lasts.commands.fresh c.ticket (omega (arith, en.ticket)))) b.lasts.enabled in
+      let open_is = b.lasts.open_is ∙ sym (open_of-same o item t (closes-more m ms b.closes_no (search))) in (
+        search (window, replies, commands, entry.agrees, starts ∙ ap (λ n. n + cond (not (is_immediate a.request)) 1 0) b.lasts.unfinished_is ∙ sym lives, enabled, open_is),
         cc (entry.effects, count, b.shows),
       )
 
@@ -268,20 +262,19 @@ module _ (o : Setting) (s : Core) (t : Trace) (item : List Mark) (unit : ℕ) (c
 
   pub leaving-agrees : Agrees o (left_answered s unit covers conn reply).core (item ∷ t)
   leaving-agrees =
-      let fewer = fewer_counted is_numbered (λ l. not (out l.ticket)) s.live in
-      let sets : SetsAgree o (left_answered s unit covers conn reply).core.sets (item ∷ t) =
-      rw (left_is, set-set) (set-changed o s.sets t item unit (all_given (set_staying covers old)) b.lasts.sets b.inside left.given elsewhere) in
-      search (
-        arith,
-        WindowAgrees-fewer o s.window (item ∷ t) (s.window.unfinished + count_by is_numbered rest - count_by is_numbered s.live) (omega (arith, fewer)) b.window,
-        RepliesAgree-sent o s.conns t item conn b.sends b.known b.replies,
-        commands,
-        sets,
-        numbered_live o s.live s.entered t b.lasts.commands,
-        numbered_live o rest s.entered (item ∷ t) commands,
-        EnabledSoFar-left o item t out b.leaves (units_live o rest s.entered (item ∷ t) commands) b.lasts.enabled,
-        b.lasts.open_is ∙ sym (open_of-same o item t b.closes),
-      )
+      let fewer = fewer_counted is_numbered (λ l. not (out l.ticket)) s.live in record {
+        events = b.lasts.events;
+        window = WindowAgrees-fewer o s.window (item ∷ t) (s.window.unfinished + count_by is_numbered rest - count_by is_numbered s.live) (omega (arith, fewer)) b.window;
+        replies = RepliesAgree-sent o s.conns t item conn b.sends b.known b.replies;
+        commands = commands;
+        sets = rw (left_is, set-set) (set-changed o s.sets t item unit (all_given (set_staying covers old)) b.lasts.sets b.inside left.given elsewhere);
+        depth = b.lasts.depth;
+        unfinished = omega (arith, numbered_live o s.live s.entered t b.lasts.commands, numbered_live o rest s.entered (item ∷ t) commands, b.lasts.unfinished_is);
+        enabled = EnabledSoFar-left o item t out b.leaves (units_live o rest s.entered (item ∷ t) commands) b.lasts.enabled;
+        level = b.lasts.level;
+        waiting = b.waits;
+        open_conns = b.lasts.open_is ∙ sym (open_of-same o item t b.closes);
+      }
 
   pub leaving-effects : (left_answered s unit covers conn reply).effects ≡ map (λ (c : Command). Leave c.ticket c.unit) gone ++ (Send conn (stat_sn_of o t conn) reply ∷ enables (newly_enabled o t item))
   leaving-effects = rw (leaving_shown o t old unit list_is covers, b.replies.stat_sns conn b.known, left_is, left.effects, ← newly-one o item t unit b.inside elsewhere)
