@@ -395,8 +395,7 @@ rejected_opcode o s index t r h kind known =
     let item : List Mark = rejected (arrival_of o index t r) in
     rw kind (record {
       settled = record {
-        agrees = Agrees-untouched o s t item s.window (count_reply (connection_of r) s.conns) s.waiting (search) (search) (lasting o s t h.agrees) refl (WindowAgrees-quiet o s.window t item (search) h.agrees.window) (RepliesAgree-sent o s.conns t item (connection_of r) refl known h.agrees.replies)
-            (record { list = h.agrees.waiting.list; may = h.agrees.waiting.may; known = h.agrees.waiting.known });
+        agrees = Agrees-untouched o s t item s.window (count_reply (connection_of r) s.conns) s.waiting (search) (search) (lasting o s t h.agrees) refl (WindowAgrees-quiet o s.window t item (search) h.agrees.window) (RepliesAgree-sent o s.conns t item (connection_of r) refl known h.agrees.replies) (search);
         none_due = h.none_due;
       };
       effects_are = rw (newly-untouched o t item (search), h.agrees.replies.stat_sns (connection_of r) known);

@@ -29,13 +29,9 @@ pub record Taken (s : Arrived) (h : HeldRequest) : Type 0 where
   pub window : offered_in s h.request h.event ≡ with_place s k (Some (Some h))
 
 -- the place of a request that is held
-by_empty : (s : Arrived) (r : HeldRequest) (k : ℕ) (x : Option (Option HeldRequest)) → at_place s k ≡ x → cond (is_some x) Known Held ≡ Held
-    → (get_or s.places k None ≡ None) × (cond (is_some x) s (with_place s k (Some (Some r))) ≡ with_place s k (Some (Some r)))
-by_empty s r k x is h = grind (arith, nat_tests)
-
 by_test : (s : Arrived) (r : HeldRequest) (m : ℕ) (b : Bool) → (nat_le (number_expected s) m && nat_lt m (number_expected s + room_of s)) ≡ b → offer_at s (cond b (Inside (m - number_expected s)) NoPlace) ≡ Held
     → (k : ℕ) × ((k < length s.places) × ((get_or s.places k None ≡ None) × (received_at s (cond b (Inside (m - number_expected s)) NoPlace) (Some r) ≡ with_place s k (Some (Some r)))))
-by_test s r m b is h = grind (arith, nat_tests, by_empty)
+by_test s r m b is h = grind (arith, nat_tests)
 
 pub taken : (s : Arrived) (r : HeldRequest) → offer_to s r.request ≡ Held → Taken s r
 taken s r said = grind (arith, nat_tests, by_test)
