@@ -1,5 +1,5 @@
 -- What an offer and a completion change of what a session keeps.
-use Rattle.std.proofs.Common.{◌≡◌, ◌⊎◌, ℕ, ◌+◌, ◌-◌, ◌<◌, ◌&&◌, cond, Bool, true, false, List, length, get_or, Option, Some, None, is_some, refl, arith, nat_lt, nat_le, count_by, length-set, get_or-set_same, not}
+use Rattle.std.proofs.Common.{◌≡◌, ◌⊎◌, ℕ, ◌+◌, ◌-◌, ◌<◌, ◌&&◌, cond, true, false, List, length, get_or, Option, Some, None, is_some, refl, arith, count_by, length-set, get_or-set_same, not}
 use Rattle.std.specs.List.{list_all}
 use Rattle.std.specs.Option.{option_flatten}
 use Rattle.std.proofs.lemmas.Bool.Decides.{nat_tests}
@@ -9,10 +9,10 @@ use Rattle.iscsi_session.specs.private.Deeds.{next_waiting, comes_next}
 use Rattle.iscsi_wire.specs.declared.request.Request.{Request}
 use Rattle.iscsi_window.specs.declared.held_request.HeldRequest.{HeldRequest}
 use Rattle.iscsi_wire.specs.Fields.{connection_of, is_immediate}
-use Rattle.iscsi_window.specs.declared.answer.Offer.TheVariants.{Held, Duplicate as Known}
+use Rattle.iscsi_window.specs.declared.answer.Offer.TheVariants.{Held}
 use Rattle.iscsi_window.specs.declared.answer.Place.{Place}
 use Rattle.iscsi_window.specs.declared.answer.Place.TheVariants.{Inside, Outside as NoPlace}
-use Rattle.iscsi_window.specs.Windows.{Arrived, number_expected, room_of, at_place, advanced, offer_at, offer_to, place_in, IsInside, held_at, is_received_at, is_next, received_at, offered_in, voided, emptied, emptied_if, with_place}
+use Rattle.iscsi_window.specs.Windows.{Arrived, at_place, advanced, offer_to, place_in, IsInside, held_at, is_received_at, is_next, received_at, offered_in, voided, emptied, emptied_if, with_place}
 use Rattle.iscsi_rules.specs.rules.Settings.{is_known}
 use Rattle.iscsi_session.specs.private.Invariant.{IsWindowSound}
 use Rattle.iscsi_rules.proofs.general.PlaceLemmas.{all_set, all_shift, some_within}
@@ -29,12 +29,8 @@ pub record Taken (s : Arrived) (h : HeldRequest) : Type 0 where
   pub window : offered_in s h.request h.event ≡ with_place s k (Some (Some h))
 
 -- the place of a request that is held
-by_test : (s : Arrived) (r : HeldRequest) (m : ℕ) (b : Bool) → (nat_le (number_expected s) m && nat_lt m (number_expected s + room_of s)) ≡ b → offer_at s (cond b (Inside (m - number_expected s)) NoPlace) ≡ Held
-    → (k : ℕ) × ((k < length s.places) × ((get_or s.places k None ≡ None) × (received_at s (cond b (Inside (m - number_expected s)) NoPlace) (Some r) ≡ with_place s k (Some (Some r)))))
-by_test s r m b is h = grind (arith, nat_tests)
-
 pub taken : (s : Arrived) (r : HeldRequest) → offer_to s r.request ≡ Held → Taken s r
-taken s r said = grind (arith, nat_tests, by_test)
+taken s r said = grind (arith, nat_tests)
 
 -- ---- a turn
 
