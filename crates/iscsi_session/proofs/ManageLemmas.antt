@@ -1,5 +1,5 @@
 -- The functions that wait, and how many effects are to come.
-use Rattle.std.proofs.Common.{◌≡◌, ℕ, ◌+◌, ◌*◌, ◌<◌, ◌≤◌, ◌==◌, not, cond, true, List, [], ◌∷◌, ◌++◌, length, filter, set, ap, arith, count_by, suc, nat_le, get_or, sym, ◌∙◌}
+use Rattle.std.proofs.Common.{find, Some, All, ◌&&◌, nat_lt, is_some, ◌-◌, ◌≡◌, ℕ, ◌+◌, ◌*◌, ◌<◌, ◌≤◌, ◌==◌, not, cond, true, List, [], ◌∷◌, ◌++◌, length, filter, set, ap, arith, count_by, suc, nat_le, get_or, sym, ◌∙◌}
 use Rattle.std.specs.List.{list_all}
 use Rattle.std.proofs.lemmas.Bool.Decides.{nat_tests}
 use Rattle.std.proofs.lemmas.List.{length_push, length-map}
@@ -22,6 +22,13 @@ use Rattle.iscsi_session.proofs.KeptLemmas.{ungiven_in-set}
 use Rattle.iscsi_tasks.specs.declared.member.Member.{Member}
 use Rattle.iscsi_commands.specs.declared.live.Live.{Live}
 use Rattle.iscsi_rules.proofs.general.NumberLemmas.{one_unit}
+use Rattle.iscsi_rules.proofs.general.ListLemmas.{find-passes}
+use Rattle.iscsi_rules.specs.rules.Management.{may_wait}
+use Rattle.iscsi_window.specs.Windows.{Arrived, advanced, offered_in}
+use Rattle.iscsi_session.specs.private.Standing.{are_within}
+use Rattle.iscsi_session.specs.private.Deeds.{comes_next}
+use Rattle.iscsi_session.proofs.WindowLemmas.{held_now, comes_alone, delivered}
+use Rattle.std.proofs.lemmas.List.Sums.{AllPass-from_list_all}
 
 -- ---- how many functions wait
 
@@ -89,3 +96,22 @@ pub owed_few : (sets : List Members) (lives : List Live) → Match sets lives �
 owed_few sets lives m =
     let given : ungiven_in sets ≤ count_by (λ (l : Live). nat_le 0 l.unit) lives = ungiven_from lives sets 0 (λ k lt. m k lt ∙ ap (λ n. tickets_in n lives) (let z : k ≡ 0 + k = omega arith in z)) in
     omega (arith, given, count_by-le-length (λ (l : Live). nat_le 0 l.unit) lives)
+
+-- ---- what one call takes, and what it leaves
+
+-- each live command has a ticket before the next
+pub all_before : (n units : ℕ) (lives : List Live) → are_within n units lives ≡ true → All (λ l. l.ticket < n + 1) lives
+all_before n units lives within = λ k d lt.
+    let test = AllPass-from_list_all (λ (l : Live). nat_le l.ticket n && nat_lt l.unit units) lives within k d lt in
+    grind (arith, nat_tests)
+
+-- a request that turns as it comes leaves as many that are held and received
+pub turned_counts : {s v : Core} {w : Arrived} → (r : Request) → s ≡ v → comes_next v r ≡ true → ((event : ℕ) → w ≡ advanced (offered_in s.window r event))
+    → (count_by is_held w.places ≡ count_by is_held v.window.places) × (count_by is_some w.places ≡ count_by is_some v.window.places)
+turned_counts {s} {v} r same next is =
+    let d = delivered v.window (held_now v r) (comes_alone v r next).1 in
+    rw (is (v.taken - 1), same) (omega (arith, d.advanced_is, d.grown_is))
+
+-- the function that waits for a turn may wait
+pub next_may : (turn : ℕ) (waits : List Waiting) (f : Waiting) → find (λ w. w.turn == turn) waits ≡ Some f → list_all (λ w. may_wait w.request) waits ≡ true → may_wait f.request ≡ true
+next_may turn waits f found may = find-passes (λ w. w.turn == turn) (λ w. may_wait w.request) waits f may found

@@ -227,6 +227,7 @@ impl Session {
     /// A command enters the set of a unit, which has room for it. No live command has its tag, and its number less the first
     /// CmdSN is this one.
     #[inline(never)]
+    #[tactic(auto, using(crate::proofs::KeptLemmas::newest_in, crate::proofs::ManageLemmas::all_before, std::proofs::lemmas::Bool::Decides::nat_tests))]
     fn enter<S: EffectSink>(&mut self, request: &Request, unit: u16, pos: i64, out: &mut S)
         requires space { is_immediate request.now ≡ false → HasRoom self.old.window }
         requires few { is_immediate request.now ≡ true →

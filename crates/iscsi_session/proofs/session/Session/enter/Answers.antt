@@ -1,7 +1,6 @@
-use Rattle.std.proofs.Common.{rules, w64, refl, All, nat_le, nat_lt, ◌≡◌, ◌∙◌, ◌<◌, ◌≤◌, ◌&&◌, not, cond, ap, sym, true, false, arith, length, ◌+◌, ℕ, List, [], ◌∷◌, get_or, set, take, drop, ◌++◌, length-set, append_assoc}
+use Rattle.std.proofs.Common.{rules, w64, refl, ◌≡◌, ◌∙◌, ◌<◌, ◌≤◌, not, cond, ap, sym, false, arith, length, ◌+◌, ℕ, List, [], ◌∷◌, get_or, set, take, drop, ◌++◌, length-set, append_assoc}
 use Rattle.std.proofs.lemmas.Bool.{leb-false}
 use Rattle.std.proofs.lemmas.Bool.Decides.{nat_tests}
-use Rattle.std.proofs.lemmas.List.Sums.{AllPass-from_list_all}
 use Rattle.iscsi_slots.specs.Queued.{Queued}
 use Rattle.iscsi_rules.proofs.general.PlaceLemmas.{written}
 use Rattle.std.proofs.lemmas.Int.{to_z-of_z}
@@ -11,10 +10,10 @@ use Rattle.iscsi_window.specs.Windows.{Arrived}
 use Rattle.iscsi_tasks.specs.Sets.{Members, opened, entered_to, given_by}
 use Rattle.iscsi_commands.specs.declared.live.Live.{Live}
 use Rattle.iscsi_connections.specs.Connected.{Connected}
-use Rattle.iscsi_session.specs.private.Standing.{Core, are_within}
+use Rattle.iscsi_session.specs.private.Standing.{Core}
 use Rattle.iscsi_session.specs.private.Steps.{new_live, new_task, started}
 use Rattle.iscsi_session.proofs.CountLemmas.{AreCounted-entered, room_for_one}
-use Rattle.iscsi_session.proofs.KeptLemmas.{newest_in, Match-entered, roomy_set, few_in}
+use Rattle.iscsi_session.proofs.KeptLemmas.{Match-entered, roomy_set, few_in}
 use Rattle.iscsi_session.proofs.SoundLemmas.{places_sound, commands_sound_on, entered_sound}
 use Rattle.iscsi_session.proofs.session.Session.enter.Given.{Over}
 use Rattle.iscsi_session.proofs.session.Session.enter.Goals as goal
@@ -24,12 +23,6 @@ use Rattle.iscsi_session.proofs.session.Session.enter.Goals.{After-deref_mut, Af
 started_parts : (w v : Arrived) (r : Request) → v ≡ started w r → w.unfinished ≤ length w.places → (is_immediate r ≡ false → w.unfinished < length w.places)
     → (v.turned ≡ w.turned) × ((v.places ≡ w.places) × ((v.unfinished ≡ w.unfinished + cond (not (is_immediate r)) 1 0) × (v.unfinished ≤ length w.places)))
 started_parts w v r is few space = grind arith
-
-pub enter-slot-requires-clause-newest : goal.enter-slot-requires-clause-newest
-enter-slot-requires-clause-newest over c =
-    let inside : c.args.unit < length c.self.inside.sets.items = omega (arith, c.requires.unit, ap (λ (s : Core). length s.sets) c.self.view_is) in
-    rw c.deref_mut.ensures.value
-    (newest_in c.self.inside.sets.items c.self.inside.live.items c.self.inside.entered (length c.self.inside.sets.items) c.args.unit c.self.invariant.commands.in_sets c.self.invariant.commands.within inside)
 
 -- there is room for one command more
 room_left : (over : Over) (c : After-deref_mut over) → length c.self.inside.live.items < c.self.inside.live.room
@@ -52,15 +45,6 @@ enter-slot-requires-clause-not_full over c =
 
 pub push-requires-clause-room : goal.push-requires-clause-room
 push-requires-clause-room over c = room_left over (goal.at.push-requires-clause-room over c).After-deref_mut
-
--- each has a ticket before the next
-all_before : (n units : ℕ) (lives : List Live) → are_within n units lives ≡ true → All (λ l. l.ticket < n + 1) lives
-all_before n units lives within = λ k d lt.
-    let test = AllPass-from_list_all (λ (l : Live). nat_le l.ticket n && nat_lt l.unit units) lives within k d lt in
-    grind (arith, nat_tests)
-
-pub push-requires-clause-newest : goal.push-requires-clause-newest
-push-requires-clause-newest over c = all_before c.self.inside.entered (length c.self.inside.sets.items) c.self.inside.live.items c.self.invariant.commands.within
 
 -- the set of the unit has the task as the definitions say
 sets_are : (over : Over) (c : After-enter-slot over) → c.enter-slot.new.sets ≡ set c.self.inside.sets.items c.args.unit (given_by (entered_to (get_or c.self.inside.sets.items c.args.unit (opened 0)) (new_task c.args.self.now c.args.request.now)))
