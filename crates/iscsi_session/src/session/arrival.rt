@@ -53,6 +53,7 @@ impl Session {
     /// Dispatches a request that arrived on an open connection, by its opcode.
     ///
     /// Rules: `arrival/data`, `arrival/unknown-opcode`, `arrival/immediate`.
+    #[tactic(auto, using(crate::proofs::DeedLemmas::immediate_same, std::proofs::lemmas::Bool::Decides::nat_tests))]
     fn dispatch<S: EffectSink>(&mut self, request: &Request, out: &mut S)
         requires known { known_in (connection_of request.now) self.old.conns ≡ true }
         requires counted { self.old.window.turned + count_by is_some self.old.window.places < self.old.taken }

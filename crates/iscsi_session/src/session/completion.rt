@@ -50,7 +50,7 @@ impl Session {
     }
 
     /// The live command with this ticket leaves, if it is enabled in the set of its unit.
-    #[tactic(auto, using(iscsi_rules::proofs::traces::TraceLemmas::weaker, iscsi_rules::proofs::general::BoolLemmas::and_second, std::proofs::lemmas::Bool::Decides::nat_tests))]
+    #[tactic(auto, using(iscsi_rules::proofs::traces::TraceLemmas::weaker, iscsi_rules::proofs::general::BoolLemmas::and_second, crate::proofs::KeptLemmas::enabled_found, crate::proofs::CountLemmas::found_ticket, std::proofs::lemmas::Bool::Decides::nat_tests))]
     #[inline(always)]
     fn leave_enabled<S: EffectSink>(&mut self, ticket: u64, out: &mut S) -> Option<Live>
         requires room { S.len out.old + owed self.old.live self.old.sets ≤ S.capacity out.old }

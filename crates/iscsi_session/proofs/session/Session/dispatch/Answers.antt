@@ -1,12 +1,10 @@
-use Rattle.std.proofs.Common.{◌∙◌, ap, sym, subst, refl, List, arith}
+use Rattle.std.proofs.Common.{◌∙◌, sym, subst, refl, List}
 use Rattle.iscsi_rules.specs.rules.Trace.{Mark}
 use Rattle.iscsi_rules.specs.promises.Flow.{HasOneMore}
-use Rattle.iscsi_session.specs.private.Standing.{Core}
 use Rattle.iscsi_session.specs.private.Steps.{Handles}
 use Rattle.iscsi_rules.proofs.items.ReceivedItems.{is_numbered_arrival}
 use Rattle.iscsi_session.proofs.AgreeLemmas.{handled, known_of}
 use Rattle.iscsi_session.proofs.AgendaLemmas.{passed_over, rejected_opcode, at_once}
-use Rattle.iscsi_session.proofs.DeedLemmas.{immediate_same}
 use Rattle.iscsi_session.proofs.session.Session.dispatch.Goals as goal
 
 pub returns-in-PassedOver-clause-items : goal.returns-in-PassedOver-clause-items
@@ -24,12 +22,6 @@ pub returns-then-immediate-clause-items : goal.returns-then-immediate-clause-ite
 returns-then-immediate-clause-items over c = λ o index t taken h.
     at_once over.S.EffectSink.has over.S.EffectSink.capacity o c.args.self.now c.receive_immediate.new.self c.run_agenda.new.self index t c.args.request.now c.args.out.now c.receive_immediate.new.out c.run_agenda.new.out h (sym c.kind_of.ensures ∙ c.in-Executes.is) (sym c.immediate.ensures ∙ c.if-immediate.true)
     (known_of o c.args.self.now t _ h.agrees c.requires.known) taken c.requires.waited c.receive_immediate.ensures.done c.run_agenda.ensures.items
-
-pub returns-then-immediate-clause-taken : goal.returns-then-immediate-clause-taken
-returns-then-immediate-clause-taken over c = c.run_agenda.ensures.taken ∙ ap (λ (s : Core). s.taken) c.receive_immediate.ensures.done.core ∙ (immediate_same c.args.self.now c.args.request.now).taken
-
-pub returns-then-immediate-clause-pace : goal.returns-then-immediate-clause-pace
-returns-then-immediate-clause-pace over c = omega (arith, c.receive_immediate.ensures.pace, c.run_agenda.ensures.pace)
 
 pub returns-else-immediate-clause-items : goal.returns-else-immediate-clause-items
 returns-else-immediate-clause-items over c = λ o index t taken h.

@@ -1,17 +1,16 @@
-use Rattle.std.proofs.Common.{◌≡◌, ℕ, false, ◌∙◌, ap, sym, arith, rules, count_by, Option, Some, None, refl, length-set, [], ◌∷◌}
+use Rattle.std.proofs.Common.{◌≡◌, ℕ, ◌∙◌, ap, sym, arith, rules, count_by, Option, Some, None, refl, length-set, [], ◌∷◌}
 use Rattle.iscsi_window.specs.Windows.{Arrived, number_expected, number_shown, with_place, at_place, holds_from}
 use Rattle.iscsi_rules.specs.declared.effect.Effect.TheVariants.{Empty}
 use Rattle.iscsi_session.specs.contracts.session.Session.{the_view}
 use Rattle.iscsi_session.specs.private.Steps.{all_emptied}
 use Rattle.iscsi_session.proofs.SinkLemmas.{started, continued}
 use Rattle.iscsi_session.specs.private.Standing.{is_held}
-use Rattle.iscsi_session.proofs.EmptyingLemmas.{Dropped, dropped, clear_past, answered_some, answered_none}
+use Rattle.iscsi_session.proofs.EmptyingLemmas.{Dropped, dropped, answered_some, answered_none}
 use Rattle.iscsi_session.proofs.WindowLemmas.{Changed}
 use Rattle.iscsi_session.proofs.SoundLemmas.{window_sound, changed_sound, same_sound}
 use Rattle.iscsi_session.proofs.session.Session.empty_at.Given.{Over}
 use Rattle.iscsi_session.proofs.session.Session.empty_at.Goals as goal
 use Rattle.iscsi_session.proofs.session.Session.empty_at.Goals.{In-Some}
-use Rattle.std.proofs.lemmas.Bool.Decides.{nat_tests}
 
 -- ---- a request is taken out
 
@@ -54,11 +53,5 @@ returns over c =
 
 -- ---- nothing is taken out
 
-none : (over : Over) (c : goal.In_default over) → holds_from c.args.scope (at_place c.self.inside.window c.args.ahead) ≡ false
-none over c = answered_none _ (number_shown c.self.inside.window c.args.ahead) (sym c.drop_at.ensures.answer ∙ c.in_default.is)
-
 pub invariant_of-self : goal.invariant_of-self
-invariant_of-self over c = same_sound c.self.invariant (c.drop_at.ensures.state ∙ rw (none over c))
-
-pub returns-in_default-clause-lowest : goal.returns-in_default-clause-lowest
-returns-in_default-clause-lowest over c = grind (arith, nat_tests, none, clear_past)
+invariant_of-self over c = same_sound c.self.invariant (c.drop_at.ensures.state ∙ rw (answered_none _ (number_shown c.self.inside.window c.args.ahead) (sym c.drop_at.ensures.answer ∙ c.in_default.is)))

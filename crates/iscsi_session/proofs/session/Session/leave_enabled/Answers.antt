@@ -42,9 +42,6 @@ command over c =
       left = fewer (λ (x : Live). x.ticket == l.ticket) lives l here;
     }
 
-pub end_command-requires-clause-there : goal.end_command-requires-clause-there
-end_command-requires-clause-there over c = (command over (goal.at.end_command-requires-clause-there over c).In-Some).found
-
 -- the sets, once the set of the unit was written
 sets_are : (over : Over) (c : In-Some over) → take c.self.inside.sets.len (c.take_enabled.new.sets ++ drop (length c.take_enabled.new.sets) c.self.inside.sets.items) ≡ sets_left c.self.inside.sets.items (Some c.in-Some.command)
 sets_are over c = sets_written c.in-Some.command.unit c.self.inside.sets.len (covers_ticket c.in-Some.command.ticket) c.self.inside.sets.items c.take_enabled.new.sets c.self.inside.sets.ok.0 (rw (c.in-Some.is, c.deref_mut.ensures.value) at c.take_enabled.ensures.sets)

@@ -1,8 +1,7 @@
-use Rattle.std.proofs.Common.{◌≡◌, ◌<◌, ◌-◌, ◌+◌, ◌⊎◌, ⊎_elim, ap, sym, subst, arith, count_by, is_some, true}
+use Rattle.std.proofs.Common.{◌≡◌, ◌<◌, ◌-◌, ◌+◌, ◌⊎◌, ⊎_elim, sym, subst, arith, count_by, is_some, true}
 use Rattle.iscsi_wire.specs.Fields.{connection_of}
-use Rattle.iscsi_window.specs.Windows.{Arrived}
 use Rattle.iscsi_rules.specs.rules.Settings.{is_known}
-use Rattle.iscsi_session.specs.private.Standing.{Core, is_held}
+use Rattle.iscsi_session.specs.private.Standing.{Core}
 use Rattle.iscsi_session.proofs.WindowLemmas.{Grown, held_or_same, grown_sound}
 use Rattle.iscsi_session.proofs.SoundLemmas.{window_sound, same_sound}
 use Rattle.iscsi_session.proofs.session.Session.offer.Goals as goal
@@ -22,9 +21,7 @@ invariant_of-self c =
     ⊎_elim (λ g. window_sound inv g.unfinished g.long (grown_sound inv.window g room entered c.requires.regular known)) (λ same. same_sound inv same) (offered c)
 
 pub returns-clause-held : goal.returns-clause-held
-returns-clause-held c = rw (← c.self.view_is) (⊎_elim (λ g. omega (arith, g.held)) (λ same. omega (arith, ap (λ (w : Arrived). count_by is_held w.places) same)) (offered c))
+returns-clause-held c = grind (arith, offered c)
 
 pub returns-clause-counted : goal.returns-clause-counted
-returns-clause-counted c =
-    rw (← c.self.view_is)
-    (⊎_elim (λ g. omega (arith, g.turned, g.counted)) (λ same. omega (arith, ap (λ (w : Arrived). w.turned) same, ap (λ (w : Arrived). count_by is_some w.places) same)) (offered c))
+returns-clause-counted c = grind (arith, offered c)

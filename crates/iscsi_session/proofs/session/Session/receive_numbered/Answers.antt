@@ -1,7 +1,5 @@
 use Rattle.std.proofs.Common.{◌≡◌, ◌∙◌, true, Some, ap, sym, subst, refl, arith}
 use Rattle.iscsi_wire.specs.declared.request.Request.{Request}
-use Rattle.iscsi_window.specs.declared.answer.Offer.TheVariants.{Held}
-use Rattle.iscsi_window.specs.Windows.{offer_to, is_next}
 use Rattle.iscsi_session.specs.private.Standing.{Core}
 use Rattle.iscsi_session.proofs.AgreeLemmas.{handled}
 use Rattle.iscsi_session.proofs.AgendaLemmas.{offered_known, carried_at_once, held_handled}
@@ -10,12 +8,6 @@ use Rattle.iscsi_session.specs.private.Deeds.{turn_taken, comes_next}
 use Rattle.iscsi_session.proofs.WindowLemmas.{held_now, comes_alone, comes_first, Delivered, delivered}
 use Rattle.iscsi_session.proofs.DeedLemmas.{pace-turned, turned_taken}
 use Rattle.iscsi_session.proofs.session.Session.receive_numbered.Goals as goal
-
-is_next_of : (s : Core) (r : Request) → comes_next s r ≡ true → is_next s.window r ≡ true
-is_next_of s r next = (comes_alone s r next).1
-
-held_next : (s : Core) (r : Request) → comes_next s r ≡ true → offer_to s.window r ≡ Held
-held_next s r next = (comes_first s.window (held_now s r) (is_next_of s r next)).held
 
 pub returns-in-Held-clause-items : goal.returns-in-Held-clause-items
 returns-in-Held-clause-items over c = λ o index t now h.
@@ -39,7 +31,7 @@ returns-then-comes_next-clause-items over c = λ o index t now h.
     let s : Core = c.args.self.now in
     let r : Request = c.args.request.now in
     let next : comes_next s r ≡ true = sym c.comes_next.ensures ∙ c.if-comes_next.true in
-    held_handled over.S.EffectSink.has o s (with_offered s r) c.run_agenda.new.self index t r c.args.out.now c.run_agenda.new.out (offered_known o s index t r h c.requires.regular c.requires.known now) (held_next s r next) refl
+    held_handled over.S.EffectSink.has o s (with_offered s r) c.run_agenda.new.self index t r c.args.out.now c.run_agenda.new.out (offered_known o s index t r h c.requires.regular c.requires.known now) (comes_first s.window (held_now s r) (comes_alone s r next).1).held refl
     (carried_at_once over.S.EffectSink.has over.S.EffectSink.capacity s c.deliver_at_once.new.self c.run_agenda.new.self r c.args.out.now c.deliver_at_once.new.out c.run_agenda.new.out next c.deliver_at_once.ensures.done c.run_agenda.ensures.items)
 
 pub returns-then-comes_next-clause-taken : goal.returns-then-comes_next-clause-taken
@@ -50,7 +42,7 @@ pub returns-then-comes_next-clause-pace : goal.returns-then-comes_next-clause-pa
 returns-then-comes_next-clause-pace over c =
     let s : Core = c.args.self.now in
     let r : Request = c.args.request.now in
-    let d : Delivered s.window (held_now s r) = delivered s.window (held_now s r) (is_next_of s r (sym c.comes_next.ensures ∙ c.if-comes_next.true)) in
+    let d : Delivered s.window (held_now s r) = delivered s.window (held_now s r) (comes_alone s r (sym c.comes_next.ensures ∙ c.if-comes_next.true)).1 in
     let one : KeepsPace (with_offered s r).window c.deliver_at_once.new.self.window = subst (λ (v : Core). KeepsPace (with_offered s r).window v.window) (sym c.deliver_at_once.ensures.done.core)
     (subst (λ p. KeepsPace (with_offered s r).window (turn_taken (with_offered s r) p).core.window) d.first.there (pace-turned (with_offered s r))) in
     omega (arith, one, c.run_agenda.ensures.pace, d.grown_is.turned, d.grown_is.unfinished)
