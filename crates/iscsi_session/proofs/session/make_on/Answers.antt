@@ -1,4 +1,4 @@
-use Rattle.std.proofs.Common.{true, Option, ◌+◌, [], rules, ℕ, ◌*◌, ◌≡◌, ◌≤◌, ◌<◌, ap, arith, length, is_some, replicate, None, refl, List, vec_capacity}
+use Rattle.std.proofs.Common.{Option, ◌+◌, [], rules, ℕ, ◌*◌, ◌≡◌, ◌≤◌, ◌<◌, ap, arith, length, is_some, replicate, None, refl, List, vec_capacity}
 use Rattle.std.proofs.lemmas.Bool.Decides.{nat_tests}
 use Rattle.iscsi_window.specs.declared.held_request.HeldRequest.{HeldRequest}
 use Rattle.iscsi_window.specs.Windows.{opened}
@@ -6,7 +6,6 @@ use Rattle.iscsi_tasks.specs.Sets.{opened as opened_set}
 use Rattle.iscsi_connections.specs.Connected.{Connected}
 use Rattle.iscsi_session.specs.promises.Settings.{setting_of}
 use Rattle.iscsi_session.specs.private.Standing.{is_place_known, tickets_of}
-use Rattle.iscsi_rules.specs.rules.Settings.{Setting, is_valid}
 use Rattle.iscsi_session.specs.private.Invariant.{HasRooms, IsWithinLimits, IsSessionSound}
 use Rattle.iscsi_session.proofs.CountLemmas.{AreCounted-opened}
 use Rattle.iscsi_session.proofs.OpenLemmas.{Settled-opened}
@@ -53,9 +52,6 @@ opened_sound first size events units depth room live_room waiting_room left_room
       limits = rw sets limits;
     }
 
-within_limits : (o : Setting) → is_valid o ≡ true → IsWithinLimits 0 o.events (length o.conns) o.units
-within_limits o valid = record { taken = omega arith; events = grind (arith, nat_tests); conns = grind (arith, nat_tests); units = grind (arith, nat_tests) }
-
 pub invariant_of-result : goal.invariant_of-result
 invariant_of-result c =
     let is : c.in_ok-ok.field-0 ≡ opened c.args.options.first c.args.options.window = search rules in
@@ -71,7 +67,7 @@ invariant_of-result c =
       waiting = omega (arith, c.len-2.ensures, c.args.options.conns.ok.0);
       left = omega (arith, c.len.ensures, c.args.options.conns.ok.0, ap (λ n. n * c.len.result) c.from.ensures);
     })
-    (within_limits (setting_of c.args.options) c.requires.valid))
+    (record { taken = omega arith; events = grind (arith, nat_tests); conns = grind (arith, nat_tests); units = grind (arith, nat_tests) }))
 
 pub returns : goal.returns
 returns c = record {

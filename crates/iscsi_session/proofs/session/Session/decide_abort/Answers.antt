@@ -8,14 +8,13 @@ use Rattle.iscsi_session.proofs.session.Session.decide_abort.Goals.{After-find_h
 use Rattle.std.proofs.lemmas.Bool.Decides.{nat_tests}
 
 -- what is found of the unit
-live_is : (c : After-find_held) → (facts_by c.args.self.now c.args.request.now).live ≡ option_map (λ (l : Live). l.ticket) (tagged_in c.args.self.now (rtt c.args.request.now) c.args.unit)
-live_is c = ap (λ x. of_unit x None (live_by c.args.self.now c.args.request.now)) c.requires.named
-
 held_is : (c : After-find_held) → (facts_by c.args.self.now c.args.request.now).held ≡ c.find_held.result
 held_is c = grind (arith, nat_tests)
 
 untagged : (c : After-find_held) → (facts_by c.args.self.now c.args.request.now).live ≡ None
-untagged c = grind (arith, nat_tests, live_is)
+untagged c =
+    let live : (facts_by c.args.self.now c.args.request.now).live ≡ option_map (λ (l : Live). l.ticket) (tagged_in c.args.self.now (rtt c.args.request.now) c.args.unit) = ap (λ x. of_unit x None (live_by c.args.self.now c.args.request.now)) c.requires.named in
+    grind (arith, nat_tests)
 
 pub returns-in-Some-find_held : goal.returns-in-Some-find_held
 returns-in-Some-find_held c = grind (arith, nat_tests, untagged, held_is)
