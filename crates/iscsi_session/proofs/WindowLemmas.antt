@@ -1,5 +1,5 @@
 -- What an offer and a completion change of what a session keeps.
-use Rattle.std.proofs.Common.{◌≡◌, ◌⊎◌, ℕ, ◌+◌, ◌-◌, ◌<◌, ◌&&◌, cond, true, false, List, length, get_or, Option, Some, None, is_some, refl, arith, count_by, length-set, get_or-set_same, not}
+use Rattle.std.proofs.Common.{◌≡◌, ◌⊎◌, ℕ, ◌+◌, ◌-◌, ◌<◌, cond, true, false, List, length, get_or, Option, Some, None, is_some, refl, arith, count_by, length-set, get_or-set_same, not}
 use Rattle.std.specs.List.{list_all}
 use Rattle.std.specs.Option.{option_flatten}
 use Rattle.std.proofs.lemmas.Bool.Decides.{nat_tests}

@@ -1,4 +1,4 @@
-use Rattle.std.proofs.Common.{◌≡◌, ◌<◌, ◌+◌, ℕ, length, take, get_or, set, true, ap, sym, subst, ◌∙◌, arith}
+use Rattle.std.proofs.Common.{◌≡◌, ◌+◌, ℕ, take, get_or, set, true, ap, sym, subst, ◌∙◌, arith}
 use Rattle.iscsi_slots.specs.Queued.{Queued}
 use Rattle.iscsi_slots.proofs.SlotLemmas.{times_at}
 use Rattle.iscsi_commands.specs.Log.{AreTagged, tag_at, group_of}
