@@ -1,8 +1,8 @@
 -- Members in slots, each linked to those beside it.
-use Rattle.std.proofs.Common.{◌≡◌, ◌≢◌, ℕ, zero, suc, ◌+◌, ◌<◌, ◌≤◌, List, [], ◌∷◌, length, map, get_or, set, refl, ap, subst, ◌∙◌, arith}
+use Rattle.std.proofs.Common.{◌≡◌, ◌≢◌, ℕ, zero, suc, ◌+◌, ◌<◌, ◌≤◌, List, [], ◌∷◌, length, map, get_or, set, refl, ap, sym, subst, ◌∙◌, arith}
 use Rattle.iscsi_tasks.proofs.Names.{nat_tests, times, AreShared, Node, AreApart, BLANK_NODE, node_at, after_of, before_of, member_of, member_at, order_from}
 use Rattle.iscsi_tasks.proofs.Names.{with_after, with_before, points_to, linked_to}
-use Rattle.std.proofs.lemmas.List.{get_or-set_same, get_or-set_other, get_or_past, length-set}
+use Rattle.std.proofs.lemmas.List.{get_or-set_same, get_or-set_other, get_or_past, length-set, set-get_or}
 use Rattle.iscsi_slots.proofs.SlotLemmas.{times_at, stands}
 use Rattle.iscsi_slots.proofs.ShareLemmas.{at_most_once, order_within}
 
@@ -39,6 +39,18 @@ module _ (nodes : List Node) (first second : ℕ) where
     pub member_linked : (j : ℕ) → member_at (linked_to nodes first second) j ≡ member_at nodes j
     member_linked j = kept_by_set member_of pointed second j (with_before first (node_at pointed second)) second_there refl
         ∙ kept_by_set member_of nodes first j (with_after second (node_at nodes first)) first_in refl
+
+-- a slot whose node tells already what it stands between
+pub linked_last : (nodes : List Node) (last slot : ℕ) → slot < length nodes → last ≢ slot → before_of nodes slot ≡ last → after_of nodes slot ≡ 0
+    → linked_to (linked_to nodes last slot) slot 0 ≡ (let pointed = points_to nodes last slot in set pointed 0 (with_before slot (node_at pointed 0)))
+linked_last nodes last slot inside apart before after =
+    let pointed : List Node = points_to nodes last slot in
+    let kept : node_at pointed slot ≡ node_at nodes slot = get_or-set_other nodes last slot (with_after slot (node_at nodes last)) BLANK_NODE (λ e. apart (sym e)) in
+    let same : linked_to nodes last slot ≡ pointed =
+    ap (λ b. set pointed slot (with_before b (node_at pointed slot))) (sym before ∙ ap (λ (n : Node). n.before) (sym kept)) ∙ set-get_or pointed slot BLANK_NODE in
+    let also : points_to pointed slot 0 ≡ pointed =
+    ap (λ a. set pointed slot (with_after a (node_at pointed slot))) (sym after ∙ ap (λ (n : Node). n.after) (sym kept)) ∙ set-get_or pointed slot BLANK_NODE in
+    ap (λ ns. linked_to ns slot 0) same ∙ ap (λ ns. set ns 0 (with_before slot (node_at ns 0))) also
 
 -- ---- the order that the nodes tell
 

@@ -261,6 +261,9 @@ module _ {nodes : List Node} {capacity free len room : ℕ} (chained : IsChained
     pub last_fresh : (before_of nodes 0) < length n0
     last_fresh = let a = is.more in let b = last_inside chained in omega (arith, a, b)
 
+    pub slot_new : node_at n0 slot ≡ node
+    slot_new = is.new
+
     slot_n1 : slot < length (end_in nodes n0 slot)
     slot_n1 = let a = length_linked n0 (before_of nodes 0) slot in let b = is.here in omega (arith, a, b)
 
@@ -298,13 +301,16 @@ module _ {nodes : List Node} {capacity free len room : ℕ} (chained : IsChained
     ring_last : get_or (0 ∷ (order_in nodes len ++ slot ∷ [])) (len + 1) 0 ≡ slot
     ring_last = let e : len + 1 ≡ suc len = omega arith in ap (λ n. get_or (0 ∷ (order_in nodes len ++ slot ∷ [])) n 0) e ∙ order_last
 
+    pub last_other : before_of nodes 0 ≢ slot
+    last_other = subst (λ s. s ≢ slot) (sym last_is) (not_slot (get_or (0 ∷ (order_in nodes len)) len 0) (ring_old len (omega arith)))
+
     -- what the nodes tell
     after_new : after_of (entered_in nodes n0 slot) slot ≡ 0
     after_new = after_here (end_in nodes n0 slot) slot 0 slot_n1 zero_n1
 
     after_last : after_of (entered_in nodes n0 slot) (before_of nodes 0) ≡ slot
     after_last =
-        after_else (end_in nodes n0 slot) slot 0 slot_n1 zero_n1 (before_of nodes 0) (subst (λ s. s ≢ slot) (sym last_is) (not_slot (get_or (0 ∷ (order_in nodes len)) len 0) (ring_old len (omega arith))))
+        after_else (end_in nodes n0 slot) slot 0 slot_n1 zero_n1 (before_of nodes 0) last_other
         ∙ after_here n0 (before_of nodes 0) slot last_fresh slot_fresh
 
     after_old : (j : ℕ) → 1 ≤ times j (0 ∷ (order_in nodes len)) + times j (left_in nodes n0 next len) → j ≢ (before_of nodes 0) → after_of (entered_in nodes n0 slot) j ≡ after_of nodes j

@@ -7,7 +7,7 @@ ghost use Rattle.iscsi_tasks.specs.declared.member.Member.{Member};
 ghost use Rattle.iscsi_tasks.specs.Chains.{AreApart, chained, member_of, node_at, freed_before, IsTaken};
 ghost use Rattle.iscsi_tasks.specs.Counted.{enabled_now, given_now};
 
-use crate::node::{ENDS, FREE, Node, link};
+use crate::node::{ENDS, FREE, Node, link, link_last};
 use crate::task::Task;
 use std::alloc::{AllocError, Global};
 use std::marker::Model;
@@ -148,12 +148,11 @@ impl Chain {
             task,
             enabled,
             given,
-            before: ENDS,
+            before: last,
             after: ENDS,
         };
         let slot = take(&mut self.nodes, &mut self.free, self.len, node);
-        link(&mut self.nodes, last, slot);
-        link(&mut self.nodes, slot, ENDS);
+        link_last(&mut self.nodes, last, slot);
         self.len += 1;
         slot
     }

@@ -78,7 +78,7 @@ pub(crate) fn remove(chain: &mut Chain, marks: &mut Marks, slot: u16)
     let next = chain.after(slot);
     chain.remove(slot);
     let ordered = next_ordered(chain, moved_off(marks.ordered, slot, next));
-    *marks = marks.without(slot, next, attr, ordered);
+    marks.note_left(slot, next, attr, ordered);
 }
 
 /// The slot of the oldest ORDERED command, none of which is before slot `from`, and `ENDS` where there is none.

@@ -102,24 +102,19 @@ impl Marks {
         }
     }
 
-    /// The marks once the command in this slot has left, behind which `next` stood. The oldest ORDERED one is in slot
-    /// `ordered` then.
+    /// The command in this slot has left, behind which `next` stood. The oldest ORDERED one is in slot `ordered` then.
     #[inline(always)]
-    pub(crate) fn without(self, slot: u16, next: u16, attr: Attr, ordered: u16) -> Marks
-        requires { is_head_of attr ≡ true → 0 < self.heads }
-        ensures { result ≡ left_by self slot next attr ordered }
+    pub(crate) fn note_left(&mut self, slot: u16, next: u16, attr: Attr, ordered: u16)
+        requires { is_head_of attr ≡ true → 0 < self.old.heads }
+        ensures { self.new ≡ left_by self.old slot next attr ordered }
     {
-        Marks {
-            heads: if attr.is_head() {
-                self.heads - 1
-            } else {
-                self.heads
-            },
-            ordered,
-            dormant: moved_off(self.dormant, slot, next),
-            new_from: moved_off(self.new_from, slot, next),
-            new_to: moved_off(self.new_to, slot, next),
+        if attr.is_head() {
+            self.heads -= 1;
         }
+        self.ordered = ordered;
+        move_off(&mut self.dormant, slot, next);
+        move_off(&mut self.new_from, slot, next);
+        move_off(&mut self.new_to, slot, next);
     }
 
     /// The marks once the commands before slot `end` are enabled. The new ones are from slot `new_from` on and before
@@ -143,4 +138,15 @@ pub(crate) fn moved_off(mark: u16, slot: u16, next: u16) -> u16
     ensures { result ≡ moved_off mark slot next }
 {
     if mark == slot { next } else { mark }
+}
+
+/// Moves a mark as the command in slot `slot` has left, behind which `next` stood. Most stay where they are, and aren't
+/// written then.
+#[inline(always)]
+fn move_off(mark: &mut u16, slot: u16, next: u16)
+    ensures { mark.new ≡ moved_off mark.old slot next }
+{
+    if *mark == slot {
+        *mark = next;
+    }
 }

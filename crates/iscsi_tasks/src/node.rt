@@ -1,8 +1,8 @@
 //! A command in its slot.
 
-ghost use Rattle.std.specs.Prelude.{◌≡◌, ◌<◌, length, vec_capacity};
+ghost use Rattle.std.specs.Prelude.{◌≡◌, ◌≢◌, ◌<◌, length, vec_capacity};
 ghost use Rattle.iscsi_tasks.specs.Sets.{is_new};
-ghost use Rattle.iscsi_tasks.specs.Chains.{BLANK_NODE, member_of, linked_to};
+ghost use Rattle.iscsi_tasks.specs.Chains.{BLANK_NODE, member_of, before_of, after_of, linked_to};
 
 use crate::task::{Attr, Task};
 
@@ -64,6 +64,24 @@ pub(crate) fn link(nodes: &mut Vec<Node>, first: u16, second: u16)
     ensures nodes { nodes.new.items ≡ linked_to nodes.old.items first second }
     ensures capacity { vec_capacity nodes.new ≡ vec_capacity nodes.old }
 {
+    let nodes = nodes.as_mut_slice();
     nodes[usize::from(first)].after = second;
     nodes[usize::from(second)].before = first;
+}
+
+/// From now on this slot, whose node says so already, stands behind the last one and before the end.
+#[inline(always)]
+#[tactic(auto, using(crate::proofs::ChainLemmas::linked_last))]
+pub(crate) fn link_last(nodes: &mut Vec<Node>, last: u16, slot: u16)
+    requires last { last < length nodes.old.items }
+    requires slot { slot < length nodes.old.items }
+    requires apart { last ≢ slot }
+    requires before { before_of nodes.old.items slot ≡ last }
+    requires after { after_of nodes.old.items slot ≡ 0 }
+    ensures nodes { nodes.new.items ≡ linked_to (linked_to nodes.old.items last slot) slot 0 }
+    ensures capacity { vec_capacity nodes.new ≡ vec_capacity nodes.old }
+{
+    let nodes = nodes.as_mut_slice();
+    nodes[usize::from(last)].after = slot;
+    nodes[usize::from(ENDS)].before = slot;
 }

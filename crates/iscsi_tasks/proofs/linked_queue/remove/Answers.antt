@@ -11,8 +11,8 @@ next_ordered-ordered-requires c =
     let at = stands c.args.slot c.args.chain.now.slots c.requires.there in
     grind (arith, common_steps, IsPastNone, moved_off, past_none)
 
-pub without-requires : goal.without-requires
-without-requires c =
+pub note_left-requires : goal.note_left-requires
+note_left-requires c =
     let at = stands c.args.slot c.args.chain.now.slots c.requires.there in
     one_head c.requires.marked at.place at.inside c.args.slot c.after-next.result at.there (c.after-next.ensures at.place at.inside at.there) BLANK c.at.result.now.task.attr
     (ap (λ (m : Member). m.task.attr) (c.at.ensures at.place BLANK at.inside at.there))
@@ -21,7 +21,7 @@ pub returns-clause-marked : goal.returns-clause-marked
 returns-clause-marked c =
     let at = stands c.args.slot c.args.chain.now.slots c.requires.there in
     let state = c.remove.ensures at.place at.inside at.there in
-    subst (λ (m : Marks). IsMarked m c.remove.new.self.slots c.remove.new.self.members) (sym c.without.ensures)
+    subst (λ (m : Marks). IsMarked m c.remove.new.self.slots c.remove.new.self.members) (sym c.note_left.ensures)
     (subst (λ (v : Chained). IsMarked (left_by c.args.marks.now c.args.slot c.after-next.result c.at.result.now.task.attr c.next_ordered-ordered.result) v.slots v.members) (sym state)
     (marked_left c.requires.marked at.place at.inside c.args.slot c.after-next.result at.there (c.after-next.ensures at.place at.inside at.there) BLANK c.at.result.now.task.attr c.next_ordered-ordered.result
     (ap (λ (m : Member). m.task.attr) (c.at.ensures at.place BLANK at.inside at.there))

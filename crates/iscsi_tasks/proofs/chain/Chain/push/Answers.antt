@@ -1,8 +1,7 @@
 use Rattle.std.proofs.Common.{◌≡◌, ◌∙◌, ◌<◌, ◌+◌, ◌++◌, ◌∷◌, [], ℕ, List, length, map, get_or, ap, sym, subst, arith}
 use Rattle.std.proofs.lemmas.List.{get_or_default}
 use Rattle.iscsi_tasks.proofs.Names.{common_steps, Member, Node, Chained, chained, BLANK_NODE, before_of, member_at, order_in, IsChained}
-use Rattle.iscsi_tasks.proofs.ChainedLemmas.{few, long, free_inside, slot_fresh, last_fresh, entered_in, chained_with, members_with, order_with, apart}
-use Rattle.iscsi_tasks.proofs.ChainLemmas.{length_linked}
+use Rattle.iscsi_tasks.proofs.ChainedLemmas.{few, long, free_inside, slot_fresh, slot_new, last_fresh, last_other, entered_in, chained_with, members_with, order_with, apart}
 use Rattle.iscsi_tasks.proofs.chain.Chain.push.Goals as goal
 
 -- the last slot, as it was read
@@ -15,26 +14,23 @@ few_yet is v view l = let a = long is in let b = ap (λ (w : Chained). length w.
 pub take-slot-requires : goal.take-slot-requires
 take-slot-requires c = grind (arith, common_steps, free_inside c.self.invariant, few c.self.invariant)
 
-pub link-requires : goal.link-requires
-link-requires c =
-    grind (arith, common_steps, last_is c.self.invariant c.from.result c.index.result.now c.from.ensures c.index.ensures, last_fresh c.self.invariant (few_yet c.self.invariant c.args.self.now c.self.view_is c.requires) c.take-slot.ensures.taken, few_yet c.self.invariant c.args.self.now c.self.view_is c.requires, slot_fresh c.self.invariant (few_yet c.self.invariant c.args.self.now c.self.view_is c.requires) c.take-slot.ensures.taken)
-
-pub link-requires-2-clause-first : goal.link-requires-2-clause-first
-link-requires-2-clause-first c =
-    let there = slot_fresh c.self.invariant (few_yet c.self.invariant c.args.self.now c.self.view_is c.requires) c.take-slot.ensures.taken in
-    let same = ap length c.link.ensures.nodes ∙ length_linked c.take-slot.new.nodes.items c.index.result.now.before c.take-slot.result in
-    omega (arith, there, same)
+pub link_last-requires : goal.link_last-requires
+link_last-requires c =
+    let yet = few_yet c.self.invariant c.args.self.now c.self.view_is c.requires in
+    let taken = c.take-slot.ensures.taken in
+    let last = last_is c.self.invariant c.from.result c.index.result.now c.from.ensures c.index.ensures in
+    grind (arith, common_steps, last, last_fresh c.self.invariant yet taken, slot_fresh c.self.invariant yet taken, last_other c.self.invariant yet taken, slot_new c.self.invariant yet taken)
 
 -- the nodes, once the member entered
-nodes_are : (c : goal.After-self-1) → c.link-2.new.nodes.items ≡ entered_in c.self.inside.nodes.items c.take-slot.new.nodes.items c.take-slot.result
+nodes_are : (c : goal.After-self-1) → c.link_last.new.nodes.items ≡ entered_in c.self.inside.nodes.items c.take-slot.new.nodes.items c.take-slot.result
 nodes_are c = grind (arith, common_steps, last_is)
 
 pub invariant_of-self : goal.invariant_of-self
 invariant_of-self c =
     let yet = few_yet c.self.invariant c.args.self.now c.self.view_is c.requires in
     let i = c.self.inside in
-    subst (λ ns. IsChained ns c.link-2.new.nodes.cap c.take-slot.new.free (i.len + 1) i.room) (sym (nodes_are c))
-    (subst (λ n. IsChained (entered_in i.nodes.items c.take-slot.new.nodes.items c.take-slot.result) n c.take-slot.new.free (i.len + 1) i.room) (sym (c.link-2.ensures.capacity ∙ c.link.ensures.capacity ∙ c.take-slot.ensures.capacity))
+    subst (λ ns. IsChained ns c.link_last.new.nodes.cap c.take-slot.new.free (i.len + 1) i.room) (sym (nodes_are c))
+    (subst (λ n. IsChained (entered_in i.nodes.items c.take-slot.new.nodes.items c.take-slot.result) n c.take-slot.new.free (i.len + 1) i.room) (sym (c.link_last.ensures.capacity ∙ c.take-slot.ensures.capacity))
     (chained_with c.self.invariant yet c.take-slot.ensures.taken))
 
 pub returns-clause-state : goal.returns-clause-state
