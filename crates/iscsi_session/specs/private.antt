@@ -1,6 +1,5 @@
 -- Bookkeeping by what a session keeps, for contracts within the crate and for the crates above it.
 pub mod Standing
-pub mod Codes
 pub mod Invariant
 pub mod Steps
 pub mod Deeds

@@ -2,15 +2,11 @@
 //! An event goes in, and its effects come out, in order.
 #![tactic(auto)]
 
-mod closing;
 mod fault;
-mod function;
+mod kind;
 mod log;
-mod opcode;
 mod options;
-mod reason;
 mod report;
-mod response;
 mod session;
 
 pub use fault::SessionFault;

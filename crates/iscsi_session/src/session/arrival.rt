@@ -15,7 +15,7 @@ ghost use Rattle.iscsi_session.specs.private.Standing.{Agrees, Settled, is_held}
 ghost use Rattle.iscsi_session.specs.private.Steps.{KeepsPace, after_effect, Takes, Runs, Handles, HasNoMore, with_offered, owed};
 ghost use Rattle.iscsi_session.specs.private.Deeds.{executed, turn_taken, comes_next};
 
-use crate::opcode::kind_of;
+use crate::kind::kind_of;
 use crate::session::Session;
 use iscsi_rules::{Kind, Why};
 use iscsi_sinks::EffectSink;

@@ -2,26 +2,24 @@
 
 ghost use Rattle.std.specs.Prelude.{true, Some, None, ◌≡◌, ◌<◌, length};
 ghost use Rattle.iscsi_wire.specs.Fields.{connection_of, is_immediate, function as function_of};
+ghost use Rattle.iscsi_wire.specs.Codes.{reason_code, response_code, logout_response_code};
 ghost use Rattle.iscsi_rules.specs.rules.Settings.{is_known as known_in};
 ghost use Rattle.iscsi_rules.specs.rules.Execution.{unit_named as unit_of_lun};
 ghost use Rattle.iscsi_rules.specs.rules.Management.{may_wait as may_wait_named, is_supported as supported_at};
 ghost use Rattle.iscsi_rules.specs.rules.Deeds.{command_deed, abort_deed, query_deed, unit_deed, function_deed, logout_deed, nop_deed};
-ghost use Rattle.iscsi_session.specs.private.Codes.{reason_code, response_code, logout_response_code};
 ghost use Rattle.iscsi_session.specs.private.Steps.{is_tag_kept, is_crowded_by};
 ghost use Rattle.iscsi_session.specs.private.Deeds.{refusal_by, tagged_in, missing_by, facts_by, deed_by, managed_by, waits_by, arrival_by};
 
-use crate::closing::{LogoutReason, LogoutResponse};
-use crate::function::Function;
-use crate::opcode::Opcode;
-use crate::reason::Reason;
-use crate::response::Response;
 use crate::session::Session;
 use crate::session::sets::{is_full, unit_named};
 use crate::session::waiting::MOST;
 use iscsi_commands::Live;
 use iscsi_rules::{Answer, Deed};
 use iscsi_window::Place;
-use iscsi_wire::{NO_TAG, Request, distance};
+use iscsi_wire::{
+    Function, FunctionResponse, LogoutReason, LogoutResponse, NO_TAG, Opcode, RejectReason,
+    Request, distance,
+};
 
 /// The greatest ATTR that names a task attribute (RFC 7143 section 11.3.1).
 const GREATEST_ATTR: u8 = 3;
@@ -42,7 +40,7 @@ impl Session {
             Opcode::TaskManagement => self.decide_management(request),
             Opcode::Logout => self.decide_logout(request),
             Opcode::NopOut => decide_nop(request),
-            Opcode::Text => rejected(Reason::NotSupported),
+            Opcode::Text => rejected(RejectReason::NotSupported),
             // Of the others SCSI Commands alone come here.
             Opcode::ScsiCommand | Opcode::DataOut | Opcode::Snack | Opcode::Unknown => {
                 self.decide_command(request)
@@ -60,16 +58,16 @@ impl Session {
     {
         let itt = request.itt();
         if itt == NO_TAG || request.attr() > GREATEST_ATTR {
-            return rejected(Reason::InvalidField);
+            return rejected(RejectReason::InvalidField);
         }
         if self.is_tag_live(itt) {
-            return rejected(Reason::TaskInProgress);
+            return rejected(RejectReason::TaskInProgress);
         }
         let Some(unit) = unit_named(request, self.sets.len()) else {
             return Deed::Reply(Answer::NoUnit);
         };
         if self.is_crowded(request) {
-            rejected(Reason::TooManyImmediate)
+            rejected(RejectReason::TooManyImmediate)
         } else if is_full(&self.sets[usize::from(unit)], self.depth) {
             Deed::Reply(Answer::Full)
         } else {
@@ -120,11 +118,11 @@ impl Session {
         let ahead = distance(self.window.exp(), request.cmd_sn());
         let room = self.window.size() - self.window.unfinished();
         if ahead > i64::from(room) {
-            responds(Response::Rejected)
+            responds(FunctionResponse::Rejected)
         } else if ahead <= 0 {
             self.decide_function(request)
         } else if MOST <= self.waiting.count_on(request.conn()) {
-            rejected(Reason::TooManyImmediate)
+            rejected(RejectReason::TooManyImmediate)
         } else {
             Deed::Wait
         }
@@ -148,18 +146,18 @@ impl Session {
         ensures { result ≡ refusal_by self.now request.now }
     {
         if request.itt() == NO_TAG {
-            return Some(Answer::Reject(Reason::InvalidField as u8));
+            return Some(Answer::Reject(RejectReason::InvalidField.code()));
         }
         let response = if matches!(Function::of(request), Function::TaskReassign) {
-            Response::NoReassignment
+            FunctionResponse::NoReassignment
         } else if !is_supported(self.level, request) {
-            Response::NotSupported
+            FunctionResponse::NotSupported
         } else if unit_named(request, self.sets.len()).is_none() {
-            Response::NoUnit
+            FunctionResponse::NoUnit
         } else {
             return None;
         };
-        Some(Answer::Respond(response as u8))
+        Some(Answer::Respond(response.code()))
     }
 
     /// What a function does that isn't refused.
@@ -210,7 +208,7 @@ impl Session {
         } else if self.is_missing(request) {
             Deed::Void
         } else {
-            responds(Response::NoTask)
+            responds(FunctionResponse::NoTask)
         }
     }
 
@@ -245,7 +243,7 @@ impl Session {
         ensures { result ≡ logout_deed (facts_by self.now request.now) request.now }
     {
         if request.itt() == NO_TAG {
-            return rejected(Reason::InvalidField);
+            return rejected(RejectReason::InvalidField);
         }
         match LogoutReason::of(request) {
             LogoutReason::CloseSession => Deed::CloseSession,
@@ -257,7 +255,7 @@ impl Session {
                 }
             }
             LogoutReason::RemoveForRecovery => parts(LogoutResponse::NoRecovery),
-            LogoutReason::Unknown => rejected(Reason::InvalidField),
+            LogoutReason::Unknown => rejected(RejectReason::InvalidField),
         }
     }
 }
@@ -281,33 +279,33 @@ fn query(there: bool) -> Deed
     ensures { result ≡ query_deed there }
 {
     if there {
-        responds(Response::Succeeded)
+        responds(FunctionResponse::Succeeded)
     } else {
-        responds(Response::Complete)
+        responds(FunctionResponse::Complete)
     }
 }
 
 /// It is rejected.
 #[inline(always)]
-fn rejected(reason: Reason) -> Deed
+fn rejected(reason: RejectReason) -> Deed
     ensures { result ≡ Deed.Reply (Answer.Reject (reason_code reason)) }
 {
-    Deed::Reply(Answer::Reject(reason as u8))
+    Deed::Reply(Answer::Reject(reason.code()))
 }
 
 /// A function is answered.
 #[inline(always)]
-fn responds(response: Response) -> Deed
+fn responds(response: FunctionResponse) -> Deed
     ensures { result ≡ Deed.Reply (Answer.Respond (response_code response)) }
 {
-    Deed::Reply(Answer::Respond(response as u8))
+    Deed::Reply(Answer::Respond(response.code()))
 }
 
 /// A Logout Request is answered that closes nothing.
 fn parts(response: LogoutResponse) -> Deed
     ensures { result ≡ Deed.Reply (Answer.LogOut (logout_response_code response)) }
 {
-    Deed::Reply(Answer::LogOut(response as u8))
+    Deed::Reply(Answer::LogOut(response.code()))
 }
 
 /// Whether a function waits for lower numbers where it is immediate: one over a whole set does.

@@ -11,8 +11,6 @@ ghost use Rattle.iscsi_session.specs.private.Standing.{is_held};
 ghost use Rattle.iscsi_session.specs.private.Steps.{counted_on, after_effect, Takes, set_at, is_tag_kept, is_set_full, immediate_in, replied, request_answered, number_by, event_by, started, command_entered, owed};
 ghost use Rattle.iscsi_session.specs.private.Deeds.{Fits, IsReady, most_emptied, deed_by, position_by, carried, executed};
 
-use crate::opcode::Opcode;
-use crate::reason::Reason;
 use crate::session::leaving::Leaving;
 use crate::session::management::COMPLETE;
 use crate::session::sets::CHECK_CONDITION;
@@ -23,7 +21,7 @@ use iscsi_rules::{Answer, Deed};
 use iscsi_sinks::EffectSink;
 use iscsi_tasks::{Attr, Cover, Task};
 use iscsi_window::EventWindow;
-use iscsi_wire::{Reply, Request, Sense, distance};
+use iscsi_wire::{Opcode, RejectReason, Reply, Request, Sense, distance};
 
 /// The status TASK SET FULL.
 const TASK_SET_FULL: u8 = 0x28;
@@ -62,7 +60,7 @@ impl Session {
         ensures done { Takes S.has S.capacity (request_answered self.old request.now (Answer.Reject 5)) self.new out.old out.new }
         ensures len { S.len out.new ≤ S.len out.old + 1 }
     {
-        let answer = Answer::Reject(Reason::NotSupported as u8);
+        let answer = Answer::Reject(RejectReason::NotSupported.code());
         self.answer(request, answer, out);
     }
 

@@ -6,13 +6,12 @@ ghost use Rattle.iscsi_window.specs.Windows.{is_asked};
 ghost use Rattle.iscsi_session.specs.private.Standing.{is_held};
 ghost use Rattle.iscsi_session.specs.private.Steps.{Continues, is_among_open, Takes, units_of, all_told, all_commands_left, cover_of as cover_named, covers_of, is_clear_below, all_emptied, waiting_then, session_closes, conns_closed, logged_out, owed};
 
-use crate::closing::LogoutResponse;
 use crate::session::Session;
 use crate::session::leaving::Leaving;
 use iscsi_rules::Answer;
 use iscsi_sinks::EffectSink;
 use iscsi_tasks::Cover;
-use iscsi_wire::Request;
+use iscsi_wire::{LogoutResponse, Request};
 use std::alloc::Global;
 
 impl Session {

@@ -9,16 +9,15 @@ ghost use Rattle.iscsi_session.specs.private.Standing.{is_held};
 ghost use Rattle.iscsi_session.specs.private.Steps.{KeepsPace, Takes, covers_by, aborted, number_voided, number_emptied, owed};
 ghost use Rattle.iscsi_session.specs.private.Deeds.{arrival_by, Fits, IsReady, most_emptied, next_waiting, function_taken, done_at_once, immediate_taken};
 
-use crate::response::Response;
 use crate::session::Session;
 use crate::session::leaving::Leaving;
 use crate::session::waiting::Waiting;
 use iscsi_rules::{Answer, Deed};
 use iscsi_sinks::EffectSink;
-use iscsi_wire::Request;
+use iscsi_wire::{FunctionResponse, Request};
 
 /// A function is complete.
-pub(crate) const COMPLETE: Answer = Answer::Respond(Response::Complete as u8);
+pub(crate) const COMPLETE: Answer = Answer::Respond(FunctionResponse::Complete as u8);
 
 impl Session {
     /// An immediate request executes, or is a function that waits.

@@ -2,10 +2,10 @@ use Rattle.std.proofs.Common.{◌≡◌, ◌==◌, ◌∙◌, ⊎_elim, cond, Bo
 use Rattle.std.proofs.lemmas.Bool.{false≢true, eqb-true}
 use Rattle.iscsi_wire.specs.declared.request.Request.{Request}
 use Rattle.iscsi_wire.specs.Fields.{opcode}
+use Rattle.iscsi_wire.specs.declared.opcode.Opcode.{Opcode}
+use Rattle.iscsi_wire.specs.declared.opcode.Opcode.TheVariants.{NopOut, ScsiCommand, TaskManagement, Text, DataOut, Logout, Snack, Unknown}
+use Rattle.iscsi_wire.specs.Codes.{opcode_named}
 use Rattle.iscsi_rules.specs.rules.Deeds.{command_deed}
-use Rattle.iscsi_session.specs.declared.opcode.Opcode.{Opcode}
-use Rattle.iscsi_session.specs.declared.opcode.Opcode.TheVariants.{NopOut, ScsiCommand, TaskManagement, Text, DataOut, Logout, Snack, Unknown}
-use Rattle.iscsi_session.specs.private.Codes.{opcode_named}
 use Rattle.iscsi_session.specs.private.Standing.{Core}
 use Rattle.iscsi_session.specs.private.Deeds.{facts_by, deed_by}
 use Rattle.iscsi_session.proofs.session.Session.decide.Goals as goal

@@ -1,18 +1,18 @@
 //! What a Logout Request asks for, and how it is answered.
 
 ghost use Rattle.std.specs.Prelude.{◌≡◌};
-ghost use Rattle.iscsi_session.specs.private.Codes.{logout_reason_named};
+ghost use Rattle.iscsi_wire.specs.Codes.{logout_reason_named, logout_response_code};
 
-use iscsi_wire::Request;
+use crate::request::Request;
 
-/// What a Logout Request asks for (RFC 7143 section 11.14.1).
-#[derive(Clone, Copy)]
+/// What a Logout Request asks for, seven bits of it (RFC 7143 section 11.14.1).
+#[derive(Clone, Copy, Debug, PartialEq, Eq)]
 pub enum LogoutReason {
-    /// Close the session.
+    /// Close the session: 0.
     CloseSession,
-    /// Close the connection.
+    /// Close the connection: 1.
     CloseConn,
-    /// Remove the connection for recovery.
+    /// Remove the connection for recovery: 2.
     RemoveForRecovery,
     /// Something else.
     Unknown,
@@ -20,7 +20,8 @@ pub enum LogoutReason {
 
 impl LogoutReason {
     /// That of a Logout Request.
-    pub(crate) fn of(request: &Request) -> LogoutReason
+    #[inline(always)]
+    pub fn of(request: &Request) -> LogoutReason
         ensures { result ≡ logout_reason_named request.now }
     {
         match request.reason() {
@@ -33,7 +34,7 @@ impl LogoutReason {
 }
 
 /// The response to a Logout Request (RFC 7143 section 11.15.1).
-#[derive(Clone, Copy)]
+#[derive(Clone, Copy, Debug, PartialEq, Eq)]
 pub enum LogoutResponse {
     /// The connection or the session is closed.
     Closed = 0,
@@ -41,4 +42,14 @@ pub enum LogoutResponse {
     NoConn = 1,
     /// Connection recovery isn't supported.
     NoRecovery = 2,
+}
+
+impl LogoutResponse {
+    /// Its code, byte 2 of the response.
+    #[inline(always)]
+    pub fn code(self) -> u8
+        ensures { result ≡ logout_response_code self }
+    {
+        self as u8
+    }
 }

@@ -1,19 +1,19 @@
--- The codes of requests by their names. For private contracts alone.
+-- The codes of requests and replies by their names (RFC 7143 sections 11.2.1.2, 11.5.1, 11.6.1, 11.14.1, 11.15.1 and 11.17.1, RFC 7144).
 use Rattle.std.specs.Prelude.{ℕ, ◌==◌, if◌then◌else◌}
 use Rattle.iscsi_wire.specs.declared.request.Request.{Request}
 use Rattle.iscsi_wire.specs.Fields.{opcode, function}
-use Rattle.iscsi_session.specs.declared.opcode.Opcode.{Opcode}
-use Rattle.iscsi_session.specs.declared.opcode.Opcode.TheVariants.{NopOut, ScsiCommand, TaskManagement, Text, DataOut, Logout, Snack, Unknown}
-use Rattle.iscsi_session.specs.declared.function.Function.{Function}
-use Rattle.iscsi_session.specs.declared.function.Function.TheVariants.{AbortTask, AbortTaskSet, ClearTaskSet, LogicalUnitReset, TaskReassign, QueryTask, QueryTaskSet, Unsupported}
-use Rattle.iscsi_session.specs.declared.closing.LogoutReason.{LogoutReason}
-use Rattle.iscsi_session.specs.declared.closing.LogoutReason.TheVariants.{CloseSession, CloseConn, RemoveForRecovery, Unknown as UnknownReason}
-use Rattle.iscsi_session.specs.declared.closing.LogoutResponse.{LogoutResponse}
-use Rattle.iscsi_session.specs.declared.closing.LogoutResponse.TheVariants.{Closed, NoConn, NoRecovery}
-use Rattle.iscsi_session.specs.declared.reason.Reason.{Reason}
-use Rattle.iscsi_session.specs.declared.reason.Reason.TheVariants.{NotSupported as CommandNotSupported, TooManyImmediate, TaskInProgress, InvalidField}
-use Rattle.iscsi_session.specs.declared.response.Response.{Response}
-use Rattle.iscsi_session.specs.declared.response.Response.TheVariants.{Complete, NoTask, NoUnit, NoReassignment, NotSupported, Succeeded, Rejected}
+use Rattle.iscsi_wire.specs.declared.opcode.Opcode.{Opcode}
+use Rattle.iscsi_wire.specs.declared.opcode.Opcode.TheVariants.{NopOut, ScsiCommand, TaskManagement, Text, DataOut, Logout, Snack, Unknown}
+use Rattle.iscsi_wire.specs.declared.function.Function.{Function}
+use Rattle.iscsi_wire.specs.declared.function.Function.TheVariants.{AbortTask, AbortTaskSet, ClearTaskSet, LogicalUnitReset, TaskReassign, QueryTask, QueryTaskSet, Unsupported}
+use Rattle.iscsi_wire.specs.declared.logout.LogoutReason.{LogoutReason}
+use Rattle.iscsi_wire.specs.declared.logout.LogoutReason.TheVariants.{CloseSession, CloseConn, RemoveForRecovery, Unknown as UnknownReason}
+use Rattle.iscsi_wire.specs.declared.logout.LogoutResponse.{LogoutResponse}
+use Rattle.iscsi_wire.specs.declared.logout.LogoutResponse.TheVariants.{Closed, NoConn, NoRecovery}
+use Rattle.iscsi_wire.specs.declared.reject.RejectReason.{RejectReason}
+use Rattle.iscsi_wire.specs.declared.reject.RejectReason.TheVariants.{NotSupported as CommandNotSupported, TooManyImmediate, TaskInProgress, InvalidField}
+use Rattle.iscsi_wire.specs.declared.function.FunctionResponse.{FunctionResponse}
+use Rattle.iscsi_wire.specs.declared.function.FunctionResponse.TheVariants.{Complete, NoTask, NoUnit, NoReassignment, NotSupported, Succeeded, Rejected}
 
 -- ---- what comes
 
@@ -48,7 +48,7 @@ logout_reason_named r =
 
 -- ---- what goes out
 
-abbrev pub response_code : Response → ℕ
+abbrev pub response_code : FunctionResponse → ℕ
 response_code Complete = 0
 response_code NoTask = 1
 response_code NoUnit = 2
@@ -57,7 +57,7 @@ response_code NotSupported = 5
 response_code Succeeded = 7
 response_code Rejected = 255
 
-abbrev pub reason_code : Reason → ℕ
+abbrev pub reason_code : RejectReason → ℕ
 reason_code CommandNotSupported = 5
 reason_code TooManyImmediate = 6
 reason_code TaskInProgress = 7
