@@ -7,8 +7,8 @@ use Rattle.iscsi_tasks.specs.Sets.{is_free_among, looked_at, after_moment, next_
 use Rattle.iscsi_rules.specs.declared.effect.Effect.TheVariants.{Enable, Ignore}
 use Rattle.iscsi_rules.specs.rules.Settings.{Setting, is_known}
 use Rattle.iscsi_rules.specs.rules.Trace.{Command, Mark, Trace, live, live_in, was_free, has, entered, leaves_ticket, is_among, first_of, sent_on, Arrival, Admits, Ignores, after_items, waiting, is_received, received}
-use Rattle.iscsi_session.specs.private.Standing.{task_of, member_of, set_of, open_of, kept, is_regular, CommandsAgree, SetsAgree, stat_sn_on, RepliesAgree, Core, WaitingAgrees, WindowAgrees, is_regular_request, Agrees, Settled}
-use Rattle.iscsi_session.specs.private.Steps.{as_given, enable_effects, enable_effect, find_ticket, count_reply, Step, Handles, numbers_by}
+use Rattle.iscsi_session.specs.private.Standing.{task_of, member_of, set_of, open_of, kept, is_regular, CommandsAgree, SetsAgree, stat_sn_on, RepliesAgree, Core, WaitingAgrees, WindowAgrees, IsRegularRequest, Lasting, Agrees, Settled}
+use Rattle.iscsi_session.specs.private.Steps.{as_given, enable_effects, enable_effect, find_ticket, count_reply, Step, Appends, Handles, numbers_by}
 use Rattle.iscsi_rules.proofs.general.BoolLemmas.{and_parts, or_comm}
 use Rattle.iscsi_rules.proofs.general.ListLemmas.{list_all-filter, all_of_filter, filter-map, map-map, map_all, is_known-cids, count_by-push}
 use Rattle.iscsi_rules.proofs.promises.MomentLemmas.{enables}
@@ -269,7 +269,7 @@ pub units_live : (o : Setting) (lives : List Live) (n : ℕ) (t : Trace) → Com
 units_live o lives n t a = weaker (is_regular o) (λ c. nat_lt c.unit o.units) (live t) (λ c h. (and_parts _ _ h).0) (regular_live o lives n t a)
 
 pub settled_max : (o : Setting) (s : Core) (t : Trace) → Settled o s t → max_of o t ≡ number_expected s.window + length s.window.places - 1 - s.window.unfinished
-settled_max o s t h = omega (arith, settled_expected o s t h, h.agrees.unfinished, h.agrees.window.size)
+settled_max o s t h = omega (arith, settled_expected o s t h, h.agrees.lasts.unfinished, h.agrees.window.size)
 
 pub settled_numbers : (o : Setting) (s : Core) (t : Trace) → Settled o s t → numbers_by s ≡ numbers_of o t
 settled_numbers o s t h = cc (settled_expected o s t h, settled_max o s t h)
@@ -282,11 +282,10 @@ pub record Stepped (o : Setting) (x : Step) (t : Trace) (items : List (List Mark
   pub receives : HasOneMore (received t) (received (after_items items t))
 
 -- and what becomes of a session that takes it
-pub handled : {S : Type 0} (has : S → List ℕ → List Effect → Type 0) (o : Setting) (x : Step) (t : Trace) (items : List (List Mark)) (now : Core) (out out' : S) → Stepped o x t items → now ≡ x.core
-    → ((text : List ℕ) (es : List Effect) → has out text es → has out' text (es ++ x.effects)) → Handles has o t items HasOneMore now out out'
+pub handled : {S : Type 0} (has : S → List ℕ → List Effect → Type 0) (o : Setting) (x : Step) (t : Trace) (items : List (List Mark)) (now : Core) (out out' : S) → Stepped o x t items → now ≡ x.core → Appends has x.effects out out' → Handles has o t items HasOneMore now out out'
 handled has o x t items now out out' h core effects = record {
   settled = rw core h.settled;
-  effects = λ text es was. subst (λ more. has out' text (es ++ more)) h.effects_are (effects text es was);
+  effects = subst (λ more. Appends has more out out') h.effects_are effects;
   receives = h.receives;
 }
 
@@ -296,29 +295,15 @@ step_ignored s why = record { core = s; effects = Ignore why ∷ [] }
 
 -- ---- an item by which no command enters or leaves, and nothing closes
 
--- what such an item leaves as it is, beside the window, the connections and what waits
-pub record Lasting (o : Setting) (s : Core) (t : Trace) : Type 0 where
-  pub events : s.events ≡ o.events
-  pub commands : CommandsAgree o s.live s.entered t
-  pub sets : SetsAgree o s.sets t
-  pub depth : s.depth ≡ o.depth
-  pub unfinished_is : s.window.unfinished ≡ unfinished t
-  pub enabled : EnabledSoFar o t
-  pub level : s.level ≡ o.level
-  pub open_is : s.open_conns ≡ open_of o t
-
-pub lasting : (o : Setting) (s : Core) (t : Trace) → Agrees o s t → Lasting o s t
-lasting o s t a = record { events = a.events; commands = a.commands; sets = a.sets; depth = a.depth; unfinished_is = a.unfinished; enabled = a.enabled; level = a.level; open_is = a.open_conns }
-
 pub Agrees-untouched : (o : Setting) (s : Core) (t : Trace) (item : List Mark) (w : Arrived) (conns : List (ℕ × ℕ)) (waits : List Waiting) → Untouched item → ClosesNone item → Lasting o s t → w.unfinished ≡ s.window.unfinished
     → WindowAgrees o w (item ∷ t) → RepliesAgree o conns (item ∷ t) → WaitingAgrees o waits (item ∷ t) → Agrees o (record s { window = w; conns = conns; waiting = waits }) (item ∷ t)
 Agrees-untouched o s t item w conns waits u closes a same window replies waiting =
-    search (CommandsAgree-untouched o s.live s.entered t item u a.commands, SetsAgree-untouched o s.sets t item u a.sets, same ∙ a.unfinished_is ∙ sym (unfinished-untouched item t u), EnabledSoFar-untouched o item t u a.enabled, a.open_is ∙ sym (open_of-same o item t closes))
+    search (CommandsAgree-untouched o s.live s.entered t item u a.commands, SetsAgree-untouched o s.sets t item u a.sets, same ∙ a.unfinished ∙ sym (unfinished-untouched item t u), EnabledSoFar-untouched o item t u a.enabled, a.open_conns ∙ sym (open_of-same o item t closes))
 
 -- nor does it receive or send anything
 pub Agrees-waits : (o : Setting) (s : Core) (t : Trace) (item : List Mark) (waits : List Waiting) → IsQuiet item → Untouched item → ClosesNone item → filter_map sent_on item ≡ [] → Agrees o s t → WaitingAgrees o waits (item ∷ t) → Agrees o (record s { waiting = waits }) (item ∷ t)
 Agrees-waits o s t item waits q u closes sends h w =
-    Agrees-untouched o s t item s.window s.conns waits u closes (lasting o s t h) refl (WindowAgrees-quiet o s.window t item q h.window) (RepliesAgree-quiet o s.conns t item sends h.replies) w
+    Agrees-untouched o s t item s.window s.conns waits u closes h.lasts refl (WindowAgrees-quiet o s.window t item q h.window) (RepliesAgree-quiet o s.conns t item sends h.replies) w
 
 -- ---- an ignored event
 
@@ -334,8 +319,8 @@ Stepped-ignored o s t why h = record {
 
 -- ---- an admission
 
-pub Agrees-admitted : (o : Setting) (s : Core) (t : Trace) (a : Arrival) → Agrees o s t → number_expected s.window ≤ a.number → a.number < number_expected s.window + room_of s.window → is_received t a.number ≡ false → is_regular_request o a.request ≡ true → wire (cmd_sn a.request) ≡ wire a.number
+pub Agrees-admitted : (o : Setting) (s : Core) (t : Trace) (a : Arrival) → Agrees o s t → number_expected s.window ≤ a.number → a.number < number_expected s.window + room_of s.window → is_received t a.number ≡ false → IsRegularRequest o a.number a.request
     → Agrees o (record s { window = with_held s.window a }) ((Admits a ∷ []) ∷ t)
-Agrees-admitted o s t a h low high new regular shows =
-    Agrees-untouched o s t (Admits a ∷ []) (with_held s.window a) s.conns s.waiting (untouched-admits a) (record { session = refl; conns = λ c. refl }) (lasting o s t h) refl
-    (WindowAgrees-admitted o s.window t a h.window low high new regular shows) (RepliesAgree-quiet o s.conns t (Admits a ∷ []) refl h.replies) (record { list = h.waiting.list; may = h.waiting.may; known = h.waiting.known })
+Agrees-admitted o s t a h low high new regular =
+    Agrees-untouched o s t (Admits a ∷ []) (with_held s.window a) s.conns s.waiting (untouched-admits a) (record { session = refl; conns = λ c. refl }) h.lasts refl
+    (WindowAgrees-admitted o s.window t a h.window low high new regular) (RepliesAgree-quiet o s.conns t (Admits a ∷ []) refl h.replies) (record { list = h.waiting.list; may = h.waiting.may; known = h.waiting.known })

@@ -10,16 +10,18 @@ use Rattle.iscsi_window.specs.Windows.{HasRoom, IsInside, place_in, Arrived, num
 use Rattle.iscsi_tasks.specs.declared.task.Task.{Task}
 use Rattle.iscsi_tasks.specs.declared.cover.Cover.TheVariants.{All as AllOfThem, Below}
 use Rattle.iscsi_tasks.specs.Sets.{is_covered}
+use Rattle.iscsi_rules.specs.declared.deed.Answer.TheVariants.{Respond}
+use Rattle.iscsi_rules.specs.declared.effect.Effect.TheVariants.{Immediate}
 use Rattle.iscsi_rules.specs.declared.deed.Answer.{Answer}
 use Rattle.iscsi_rules.specs.declared.deed.Deed.{Deed}
 use Rattle.iscsi_rules.specs.declared.deed.Deed.TheVariants.{Nothing, Wait, Reply, Enter, Void, Empty, Abort, AbortEarlier, AbortAll, CloseConn, CloseSession}
 use Rattle.iscsi_rules.specs.rules.Settings.{is_known}
-use Rattle.iscsi_rules.specs.rules.Execution.{unit_named}
+use Rattle.iscsi_rules.specs.rules.Execution.{unit_named, reply_of}
 use Rattle.iscsi_rules.specs.rules.Management.{may_wait}
 use Rattle.iscsi_rules.specs.rules.Deeds.{Facts, of_unit, function_deed}
 use Rattle.iscsi_session.specs.private.Standing.{Core, is_held}
-use Rattle.iscsi_session.specs.private.Steps.{set_at, is_numbered, is_gone, covers_ticket, aborted, KeepsPace, completed}
-use Rattle.iscsi_session.specs.private.Deeds.{refusal_by, live_by, held_by, missing_by, facts_by, deed_by, waits_by, arrival_by, Fits, IsReady, most_emptied, carried, position_by, executed, turn_taken, next_position, function_taken, done_at_once, immediate_taken}
+use Rattle.iscsi_session.specs.private.Steps.{set_at, is_numbered, is_gone, covers_ticket, after_effect, left_answered, KeepsPace, completed}
+use Rattle.iscsi_session.specs.private.Deeds.{refusal_by, missing_by, facts_by, deed_by, waits_by, arrival_by, Fits, IsReady, most_emptied, carried, position_by, executed, turn_taken, next_position, function_taken, immediate_taken}
 use Rattle.iscsi_rules.proofs.general.BoolLemmas.{and_first, and_second}
 use Rattle.iscsi_rules.proofs.general.ListLemmas.{fewer_counted, filter-shorter}
 use Rattle.iscsi_rules.proofs.items.DeedTable.{named_below, Befits, befits_function, befits_deed, through_function}
@@ -38,8 +40,8 @@ fits : (s : Core) (r : Request) (d : Deed) → Befits (facts_by s r) r d → Fit
 fits s r Wait b = absurd b
 fits s r (Enter unit) b = grind (arith, nat_tests, named_below, of_named)
 fits s r Void b = b.1
-fits s r (Empty unit sn) b = (named_below (length s.sets) r unit b.1, of_named (length s.sets) r unit None (held_by s r) b.1 ∙ b.2)
-fits s r (Abort unit ticket) b = (named_below (length s.sets) r unit b.1, of_named (length s.sets) r unit None (live_by s r) b.1 ∙ b.2)
+fits s r (Empty unit sn) b = grind (arith, nat_tests, named_below, of_named)
+fits s r (Abort unit ticket) b = grind (arith, nat_tests, named_below, of_named)
 fits s r (AbortEarlier unit) b = named_below (length s.sets) r unit b.0
 fits s r (AbortAll unit) b = named_below (length s.sets) r unit b
 fits s r _ b = tt
@@ -104,16 +106,16 @@ begins r _ = 0
 pub begins_one : (r : Request) (d : Deed) → begins r d ≤ 1
 begins_one r d = grind arith
 
-aborted_stays : (s : Core) (r : Request) (unit : ℕ) (covers : Task → Bool) → Stays 0 s (aborted s r unit covers).core
-aborted_stays s r unit covers = omega (arith, fewer_counted is_numbered (λ l. not (is_gone covers (set_at s unit) l.ticket)) s.live)
+left_stays : (s : Core) (r : Request) (unit : ℕ) (covers : Task → Bool) → Stays 0 s (left_answered s unit covers (connection_of r) (reply_of r (Respond 0))).core
+left_stays s r unit covers = omega (arith, fewer_counted is_numbered (λ l. not (is_gone covers (set_at s unit) l.ticket)) s.live)
 
 pub carried_stays : (s : Core) (r : Request) (number : ℤ) (event : ℕ) (d : Deed) → Fits s r d → Stays (begins r d) s (carried s r number event d).core
 carried_stays s r number event (Enter unit) fits = grind arith
 carried_stays s r number event Void fits = omega (arith, voided_changes s.window (ref_cmd_sn r) (missing_parts s r fits).1)
 carried_stays s r number event (Empty unit sn) fits = omega (arith, emptied_changes s.window sn)
-carried_stays s r number event (Abort unit ticket) fits = aborted_stays s r unit (covers_ticket ticket)
-carried_stays s r number event (AbortEarlier unit) fits = aborted_stays s r unit (is_covered (Below number event))
-carried_stays s r number event (AbortAll unit) fits = aborted_stays s r unit (is_covered AllOfThem)
+carried_stays s r number event (Abort unit ticket) fits = left_stays s r unit (covers_ticket ticket)
+carried_stays s r number event (AbortEarlier unit) fits = left_stays s r unit (is_covered (Below number event))
+carried_stays s r number event (AbortAll unit) fits = left_stays s r unit (is_covered AllOfThem)
 carried_stays s r number event (CloseConn closing) fits = (logged_out_parts s r (Some closing)).stays
 carried_stays s r number event CloseSession fits = (logged_out_parts s r None).stays
 carried_stays s r number event _ fits = omega arith
@@ -161,12 +163,12 @@ pub executed_counted : (s : Core) (r : Request) (event : ℕ) → is_immediate r
 executed_counted s r event numbered = carried_counted s r (position_by s r) event (deed_by s r) (fits_deed s r) numbered
 
 -- an immediate one that doesn't wait begins none of the numbered commands
-pub at_once_stays : (s : Core) (r : Request) (d : Deed) → Fits s r d → is_immediate r ≡ true → Stays 0 s (done_at_once s r d).core
+pub at_once_stays : (s : Core) (r : Request) (d : Deed) → Fits s r d → is_immediate r ≡ true → Stays 0 s (carried s r (position_by s r) (s.taken - 1) d).core
 at_once_stays s r d fits immediate =
     let none : begins r d ≡ 0 = grind (arith, nat_tests) in
     omega (arith, carried_stays s r (position_by s r) (s.taken - 1) d fits, none)
 
-pub immediate_is : (s : Core) (r : Request) (d : Deed) → (d ≡ Wait → ⊥) → immediate_taken s r d ≡ done_at_once s r d
+pub immediate_is : (s : Core) (r : Request) (d : Deed) → (d ≡ Wait → ⊥) → immediate_taken s r d ≡ after_effect (Immediate r) (carried s r (position_by s r) (s.taken - 1) d)
 immediate_is s r d other = grind (arith, nat_tests)
 
 -- it takes out no more than is held
@@ -184,8 +186,8 @@ pub record Same (s s' : Core) : Type 0 where
 pub immediate_same : (s : Core) (r : Request) → Same s (immediate_taken s r (arrival_by s r)).core
 immediate_same s r =
     let d : Deed = arrival_by s r in
-    let by_deed : (d : Deed) → Stays 1 s (done_at_once s r d).core → Same s (immediate_taken s r d).core = λ d h. grind (arith, nat_tests, stays_expected) in
-    by_deed d (one_more s (done_at_once s r d).core r d (carried_stays s r (position_by s r) (s.taken - 1) d (fits_arrival s r)))
+    let by_deed : (d : Deed) → Stays 1 s (carried s r (position_by s r) (s.taken - 1) d).core → Same s (immediate_taken s r d).core = λ d h. grind (arith, nat_tests, stays_expected) in
+    by_deed d (one_more s _ r d (carried_stays s r (position_by s r) (s.taken - 1) d (fits_arrival s r)))
 
 -- ---- a completion
 

@@ -175,7 +175,6 @@ module _ (t t' : Trace) (scope : Option ℕ) (v : Emptied t t' (λ n. is_taken s
         undelivered = λ k u. v.delivered_is k ∙ h.undelivered k u;
         unemptied = λ k gone. let before = sym (same_received k) ∙ gone in rw (v.emptied_is k, unreceived_unheld t k before) (h.unemptied k before);
         requests = λ k b found. h.requests k b (sym (v.admitted_is k) ∙ found);
-        numbers = λ k b found. h.numbers k b (sym (v.admitted_is k) ∙ found);
         delivered = v.delivers_is ∙ h.delivered ∙ same_range t t' (number_of_first o.first) (e - number_of_first o.first) (λ k l u. sym (same_request k (h.past k (omega (arith, h.first, l, u)))));
         few = omega (arith, h.few, long);
         free = λ k big. rw (get_or-map (emptied_place scope) w.places k None, h.free k (omega (arith, big, long)));

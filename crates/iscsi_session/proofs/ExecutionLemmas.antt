@@ -5,27 +5,27 @@ use Rattle.std.proofs.lemmas.List.{append-nil, length-map, get_or-set_same, set-
 use Rattle.iscsi_wire.specs.declared.request.Request.{Request}
 use Rattle.iscsi_wire.specs.declared.reply.Reply.{Reply}
 use Rattle.iscsi_wire.specs.Fields.{connection_of, is_immediate, itt}
-use Rattle.iscsi_window.specs.Windows.{Arrived, number_expected, at_place, advanced_if, with_unfinished}
+use Rattle.iscsi_window.specs.Windows.{Arrived, number_expected, at_place, turned_on, with_unfinished}
 use Rattle.iscsi_tasks.specs.Sets.{opened, Members}
 use Rattle.iscsi_rules.specs.declared.effect.Effect.{Effect}
 use Rattle.iscsi_rules.specs.rules.Settings.{Setting, is_known}
 use Rattle.iscsi_rules.specs.rules.Trace.{Arrival, Command, Mark, Enters, Sends, Trace, waiting, waiting_by, enters, leaves_ticket, sent_on, entered, live, live_in, Delivers, Leaves, is_among, are_apart}
-use Rattle.iscsi_rules.specs.rules.Execution.{unfinished, is_crowded, is_full, reply_on, next_command}
+use Rattle.iscsi_rules.specs.rules.Execution.{unfinished, is_crowded, is_full, reply_of, reply_on, next_command}
 use Rattle.iscsi_rules.specs.rules.Run.{effects_of_mark, effects_of_item, newly_enabled, stat_sn_of}
-use Rattle.iscsi_session.specs.private.Standing.{Core, kept, is_regular, task_of, member_of, WindowAgrees, RepliesAgree, SetsAgree, WaitingAgrees, Agrees, set_of, CommandsAgree}
-use Rattle.iscsi_session.specs.private.Steps.{count_reply, Step, unchanged, after_effect, is_set_full, is_immediate_on, is_crowded_by, replied, new_live, number_by, event_by, new_task, started, command_entered, set_staying, covered_tickets, set_at, as_given, all_given, enable_effects, is_numbered, is_gone, staying, leave_each, has_covered, left_answered, aborted}
+use Rattle.iscsi_session.specs.private.Standing.{Core, kept, is_regular, task_of, member_of, WindowAgrees, RepliesAgree, SetsAgree, WaitingAgrees, Lasting, Agrees, set_of, CommandsAgree}
+use Rattle.iscsi_session.specs.private.Steps.{count_reply, Step, unchanged, after_effect, is_set_full, is_immediate_on, is_crowded_by, replied, new_live, number_by, event_by, new_task, started, command_entered, set_staying, covered_tickets, set_at, as_given, all_given, enable_effects, is_numbered, is_gone, staying, leave_each, has_covered, left_answered}
 use Rattle.iscsi_rules.proofs.general.BoolLemmas.{and_both, and_parts, not_true, and_comm, alike, alike_same}
-use Rattle.iscsi_session.proofs.AgreeLemmas.{open_of-same, RepliesAgree-quiet, RepliesAgree-sent, EnabledSoFar-entered, live-entered, CommandsAgree-entered, Lasting, Agrees-untouched, SetEntry, SetsAgree-entered, set_of-same, noted_given, noted_effects, CommandsAgree-left, set-changed, units_live}
+use Rattle.iscsi_session.proofs.AgreeLemmas.{open_of-same, RepliesAgree-quiet, RepliesAgree-sent, EnabledSoFar-entered, live-entered, CommandsAgree-entered, Agrees-untouched, SetEntry, SetsAgree-entered, set_of-same, noted_given, noted_effects, CommandsAgree-left, set-changed, units_live}
 use Rattle.iscsi_rules.proofs.general.ListLemmas.{count_by-map, count_by-push, list_any-map, list_all-filter, any_filter, any_same, fewer_counted, map_all, filter-map, map-map, none_out}
 use Rattle.iscsi_rules.proofs.traces.DeliveryLemmas.{IsQuiet}
-use Rattle.iscsi_session.proofs.WindowParts.{Turned, WindowAgrees-started, Next, turned_window, WindowAgrees-turned}
+use Rattle.iscsi_session.proofs.WindowParts.{Turned, WindowAgrees-started, Next, WindowAgrees-turned}
 use Rattle.iscsi_rules.proofs.traces.NewlyLemmas.{never_free, Untouched, newly-untouched, filter_all, filter-twice, is_here, all_here, new_in, new_in-none}
 use Rattle.iscsi_rules.proofs.items.ClosingItems.{ClosesNone, closes-more}
 use Rattle.iscsi_rules.proofs.items.CommandItems.{EntersOne, LeavesSome, live_in-left, live_in-left_elsewhere, are_all_in, among_passing, leaving-calm, leaving-closes, leaving-enters, leaving-sends, leaving-shown, leaving-tickets, quiet-leaving}
 use Rattle.iscsi_rules.proofs.items.EmptyingMarks.{quiet_none, quiet_sends, quiet_enters}
 use Rattle.iscsi_window.specs.declared.held_request.HeldRequest.{HeldRequest}
 use Rattle.iscsi_rules.specs.declared.effect.Effect.TheVariants.{Deliver, Leave, Send}
-use Rattle.iscsi_session.specs.private.Deeds.{turn_of, turn_taken}
+use Rattle.iscsi_rules.specs.declared.deed.Answer.TheVariants.{Respond}
 use Rattle.iscsi_rules.proofs.traces.HeldLemmas.{held-number, admitted_of_held}
 use Rattle.std.specs.List.{filter_map}
 use Rattle.iscsi_wire.specs.declared.reply.Reply.TheVariants.{Task as TaskReply}
@@ -114,8 +114,8 @@ module _ (o : Setting) (s : Core) (t : Trace) (m : Mark) (e : Effect) (a : Arriv
       let commands : CommandsAgree o (s.live ++ new_live s a.request unit ∷ []) (s.entered + 1) (item ∷ t) = rw live_is (CommandsAgree-entered o s.live s.entered t item c b.lasts.commands en regular) in
       let replies : RepliesAgree o s.conns (item ∷ t) = RepliesAgree-quiet o s.conns t item (cc b.sends_no) b.replies in
       let enabled = EnabledSoFar-entered o s.live s.entered item t c b.lasts.commands en inside (never_free c t (b.lasts.commands.fresh c.ticket (omega (arith, en.ticket)))) b.lasts.enabled in
-      let open_is = b.lasts.open_is ∙ sym (open_of-same o item t (closes-more m ms b.closes_no (search))) in (
-        search (window, replies, commands, entry.agrees, starts ∙ ap (λ n. n + cond (not (is_immediate a.request)) 1 0) b.lasts.unfinished_is ∙ sym lives, enabled, open_is),
+      let open_is = b.lasts.open_conns ∙ sym (open_of-same o item t (closes-more m ms b.closes_no (search))) in (
+        search (window, replies, commands, entry.agrees, starts ∙ ap (λ n. n + cond (not (is_immediate a.request)) 1 0) b.lasts.unfinished ∙ sym lives, enabled, open_is),
         cc (entry.effects, count, b.shows),
       )
 
@@ -124,25 +124,21 @@ module _ (o : Setting) (s : Core) (t : Trace) (m : Mark) (e : Effect) (a : Arriv
 -- ---- the state after a turn
 
 abbrev pub turned_core : Core → Core
-turned_core s = record s { window = turned_window s.window }
-
-pub turned_is : (s : Core) (q : Option HeldRequest) → at_place s.window 0 ≡ Some q → turn_taken s (Some q) ≡ turn_of (turned_core s) q
-turned_is s q h = ap (λ p. turn_of (record s { window = advanced_if s.window p }) q) h
+turned_core s = record s { window = turned_on s.window }
 
 -- a request that is held is numbered
 pub numbered_held : (o : Setting) (s : Core) (t : Trace) (r : HeldRequest) (h : Agrees o s t) → (x : Next s.window t r) → is_immediate x.arrival.request ≡ false
-numbered_held o s t r h x = not_true _ (and_parts _ _ (h.window.requests (number_expected s.window) x.arrival (admitted_of_held t (number_expected s.window) x.arrival x.held_is))).0
+numbered_held o s t r h x = (h.window.requests (number_expected s.window) x.arrival (admitted_of_held t (number_expected s.window) x.arrival x.held_is)).numbered
 
 -- the request of the turn, as it begins to execute
 pub turn-begun : (o : Setting) (s : Core) (t : Trace) (r : HeldRequest) (h : Agrees o s t) → at_place s.window 0 ≡ Some (Some r) → (x : Next s.window t r) → Begun o (turned_core s) t (Delivers x.arrival) (Deliver x.arrival.request) x.arrival
 turn-begun o s t r h place x =
     let a : Arrival = x.arrival in
     let e : ℕ = number_expected s.window in
-    let regular = and_parts _ _ (h.window.requests e a (admitted_of_held t e a x.held_is)) in
     let number : a.number ≡ e = held-number t e a x.held_is in
-    let known : is_known (connection_of a.request) o.conns ≡ true = regular.1 in
-    let turns : (ms : List Mark) → IsQuiet ms → Turned o (turned_window s.window) ((Delivers a ∷ ms) ∷ t) = λ ms q. WindowAgrees-turned o s.window t r ms h.window place x q in
-    let agrees : (ms : List Mark) → IsQuiet ms → WindowAgrees o (turned_window s.window) ((Delivers a ∷ ms) ∷ t) = λ ms q. (turns ms q).agrees in
+    let known = (h.window.requests e a (admitted_of_held t e a x.held_is)).known in
+    let turns : (ms : List Mark) → IsQuiet ms → Turned o (turned_on s.window) ((Delivers a ∷ ms) ∷ t) = λ ms q. WindowAgrees-turned o s.window t r ms h.window place x q in
+    let agrees : (ms : List Mark) → IsQuiet ms → WindowAgrees o (turned_on s.window) ((Delivers a ∷ ms) ∷ t) = λ ms q. (turns ms q).agrees in
     search (turns, agrees, known)
 
 -- ==== commands of a unit leave together, and the function that took them out is answered
@@ -263,24 +259,26 @@ module _ (o : Setting) (s : Core) (t : Trace) (item : List Mark) (unit : ℕ) (c
   pub leaving-agrees : Agrees o (left_answered s unit covers conn reply).core (item ∷ t)
   leaving-agrees =
       let fewer = fewer_counted is_numbered (λ l. not (out l.ticket)) s.live in record {
-        events = b.lasts.events;
+        lasts = record {
+          events = b.lasts.events;
+          depth = b.lasts.depth;
+          level = b.lasts.level;
+          commands = commands;
+          sets = rw (left_is, set-set) (set-changed o s.sets t item unit (all_given (set_staying covers old)) b.lasts.sets b.inside left.given elsewhere);
+          unfinished = omega (arith, numbered_live o s.live s.entered t b.lasts.commands, numbered_live o rest s.entered (item ∷ t) commands, b.lasts.unfinished);
+          enabled = EnabledSoFar-left o item t out b.leaves (units_live o rest s.entered (item ∷ t) commands) b.lasts.enabled;
+          open_conns = b.lasts.open_conns ∙ sym (open_of-same o item t b.closes);
+        };
         window = WindowAgrees-fewer o s.window (item ∷ t) (s.window.unfinished + count_by is_numbered rest - count_by is_numbered s.live) (omega (arith, fewer)) b.window;
         replies = RepliesAgree-sent o s.conns t item conn b.sends b.known b.replies;
-        commands = commands;
-        sets = rw (left_is, set-set) (set-changed o s.sets t item unit (all_given (set_staying covers old)) b.lasts.sets b.inside left.given elsewhere);
-        depth = b.lasts.depth;
-        unfinished = omega (arith, numbered_live o s.live s.entered t b.lasts.commands, numbered_live o rest s.entered (item ∷ t) commands, b.lasts.unfinished_is);
-        enabled = EnabledSoFar-left o item t out b.leaves (units_live o rest s.entered (item ∷ t) commands) b.lasts.enabled;
-        level = b.lasts.level;
         waiting = b.waits;
-        open_conns = b.lasts.open_is ∙ sym (open_of-same o item t b.closes);
       }
 
   pub leaving-effects : (left_answered s unit covers conn reply).effects ≡ map (λ (c : Command). Leave c.ticket c.unit) gone ++ (Send conn (stat_sn_of o t conn) reply ∷ enables (newly_enabled o t item))
   leaving-effects = rw (leaving_shown o t old unit list_is covers, b.replies.stat_sns conn b.known, left_is, left.effects, ← newly-one o item t unit b.inside elsewhere)
 
 -- a function takes them out
-pub leaving-item : (o : Setting) (s : Core) (t : Trace) (m : Mark) (e : Effect) (a : Arrival) → Begun o s t m e a → (unit : ℕ) → unit < o.units → (covers : Task → Bool) → Follows o t (leaving_item o t m a unit covers) (after_effect e (aborted s a.request unit covers))
+pub leaving-item : (o : Setting) (s : Core) (t : Trace) (m : Mark) (e : Effect) (a : Arrival) → Begun o s t m e a → (unit : ℕ) → unit < o.units → (covers : Task → Bool) → Follows o t (leaving_item o t m a unit covers) (after_effect e (left_answered s unit covers (connection_of a.request) (reply_of a.request (Respond 0))))
 leaving-item o s t m e a b unit inside covers =
     let item : List Mark = leaving_item o t m a unit covers in
     let conn : ℕ = connection_of a.request in

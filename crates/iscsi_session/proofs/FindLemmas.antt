@@ -7,7 +7,7 @@ use Rattle.iscsi_window.specs.declared.held_request.HeldRequest.{HeldRequest}
 use Rattle.iscsi_wire.specs.declared.request.Request.{Request}
 use Rattle.iscsi_wire.specs.Serial.{lift, wire}
 use Rattle.iscsi_wire.specs.Fields.{itt, lun, unit_of, connection_of, is_immediate, rtt, cmd_sn}
-use Rattle.iscsi_window.specs.Windows.{Arrived, number_expected, is_unit, holds_command, find_held, at_place}
+use Rattle.iscsi_window.specs.Windows.{Arrived, number_expected, is_unit, holds_command, find_held, at_place, turned_on}
 use Rattle.iscsi_commands.specs.declared.live.Live.{Live}
 use Rattle.iscsi_rules.specs.rules.Settings.{Setting, is_known}
 use Rattle.iscsi_rules.specs.rules.Trace.{Arrival, Command, Trace, first_of, held, held_among, live, Mark, Delivers, Executes, waiting}
@@ -21,7 +21,7 @@ use Rattle.iscsi_rules.specs.declared.deed.Deed.{Deed}
 use Rattle.iscsi_rules.specs.rules.Deeds.{facts_of}
 use Rattle.iscsi_rules.specs.rules.Agenda.{arrival_of}
 use Rattle.iscsi_rules.proofs.general.BoolLemmas.{and_parts, not_true}
-use Rattle.iscsi_session.proofs.WindowParts.{Next, turned_window, WindowAgrees-turned, expected_past_next}
+use Rattle.iscsi_session.proofs.WindowParts.{Next, WindowAgrees-turned, expected_past_next}
 use Rattle.iscsi_rules.proofs.general.NumberLemmas.{last_number, within_window}
 use Rattle.iscsi_session.proofs.AgreeLemmas.{settled_expected, settled_max, Agrees-waits}
 use Rattle.iscsi_session.proofs.DeedLemmas.{is_of_number, missing_parts}
@@ -127,18 +127,18 @@ Found-arrived o s index t r h waits =
 
 -- a numbered one, at its turn
 pub Found-turned : (o : Setting) (s : Core) (t : Trace) (r : HeldRequest) → Agrees o s t → at_place s.window 0 ≡ Some (Some r) → (x : Next s.window t r)
-    → Found o (record s { window = turned_window s.window }) ((Delivers x.arrival ∷ []) ∷ t) x.arrival
+    → Found o (record s { window = turned_on s.window }) ((Delivers x.arrival ∷ []) ∷ t) x.arrival
 Found-turned o s t r h place x =
     let a : Arrival = x.arrival in
     let e : ℕ = number_expected s.window in
-    let s' : Core = record s { window = turned_window s.window } in
+    let s' : Core = record s { window = turned_on s.window } in
     let t' : Trace = (Delivers a ∷ []) ∷ t in
     let number : a.number ≡ e = held-number t e a x.held_is in
     let admitted_is = admitted_of_held t e a x.held_is in
-    let regular = and_parts (not (is_immediate a.request)) (is_known (connection_of a.request) o.conns) (h.window.requests e a admitted_is) in
-    let numbered : is_immediate a.request ≡ false = not_true (is_immediate a.request) regular.0 in
+    let regular = h.window.requests e a admitted_is in
+    let numbered : is_immediate a.request ≡ false = regular.numbered in
     let next : a.number + 1 ≡ number_expected s'.window = omega (arith, number) in
-    let shows : wire (cmd_sn a.request) ≡ wire a.number = h.window.numbers e a admitted_is ∙ ap wire (sym number) in
+    let shows : wire (cmd_sn a.request) ≡ wire a.number = regular.shows ∙ ap wire (sym number) in
     let exp = expected_past_next o s'.window t' (WindowAgrees-turned o s.window t r [] h.window place x (search)).agrees in
     let nowhere : (unit : ℕ) → held_command o t' (rtt a.request) unit a.number ≡ None = λ unit. held_command-none o t' (rtt a.request) unit a.number (omega (arith, exp, next)) in
     record {

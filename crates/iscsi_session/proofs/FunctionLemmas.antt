@@ -4,7 +4,7 @@ use Rattle.std.specs.List.{list_any, list_all, filter_map, flat_map}
 use Rattle.iscsi_wire.specs.declared.request.Request.{Request}
 use Rattle.iscsi_wire.specs.Serial.{wire, lift, number_of_first}
 use Rattle.iscsi_wire.specs.Fields.{function, itt, rtt, cid, cmd_sn, connection_of, is_immediate, opcode, ref_cmd_sn}
-use Rattle.iscsi_window.specs.Windows.{number_expected, find_held, number_shown, room_of, at_place, with_place}
+use Rattle.iscsi_window.specs.Windows.{number_expected, find_held, number_shown, room_of, at_place, with_place, turned_on, advanced_if}
 use Rattle.iscsi_commands.specs.declared.live.Live.{Live}
 use Rattle.iscsi_rules.specs.declared.effect.Effect.{Effect}
 use Rattle.iscsi_rules.specs.rules.Settings.{Setting, is_known}
@@ -13,7 +13,7 @@ use Rattle.iscsi_rules.specs.rules.Execution.{unit_named, exp_of, max_of, reply_
 use Rattle.iscsi_rules.specs.rules.Management.{live_with_tag, held_command, may_wait, waiting_on, answer, is_before, refusal}
 use Rattle.iscsi_rules.specs.rules.Deeds.{Facts, function_deed, deed_of, of_unit, facts_of, if_found, deed_marks}
 use Rattle.iscsi_session.specs.private.Standing.{Core, kept, CommandsAgree, SetsAgree, task_of, WindowAgrees, arrival_waiting, WaitingAgrees, Agrees, Settled}
-use Rattle.iscsi_session.specs.private.Deeds.{facts_by, refusal_by, deed_by, waits_by, arrival_by, Fits, position_by, carried, executed, turn_of, next_waiting, next_position, function_taken, immediate_taken}
+use Rattle.iscsi_session.specs.private.Deeds.{facts_by, refusal_by, deed_by, waits_by, arrival_by, Fits, position_by, carried, executed, turn_taken, next_waiting, next_position, function_taken, immediate_taken}
 use Rattle.iscsi_rules.proofs.general.BoolLemmas.{and_true, and_parts}
 use Rattle.iscsi_rules.proofs.general.ListLemmas.{list_any-map, any_filter, any_same, count_by-map, list_all-filter, find-passes, find-found, filter-map}
 use Rattle.iscsi_rules.proofs.traces.NewlyLemmas.{Untouched, live_in-untouched, newly-untouched}
@@ -37,7 +37,7 @@ use Rattle.iscsi_rules.specs.rules.Run.{effects_of_mark}
 use Rattle.iscsi_rules.proofs.traces.TraceLemmas.{filter-same}
 use Rattle.iscsi_rules.proofs.traces.DeliveryLemmas.{IsQuiet, received-quiet, held-quiet}
 use Rattle.iscsi_rules.proofs.traces.HeldLemmas.{held-number, admitted_of_held}
-use Rattle.iscsi_session.proofs.WindowParts.{Next, Turned, turned_window, WindowAgrees-quiet, inside_bounds, WindowAgrees-voided, WindowAgrees-emptied, VoidedAt, voided_at, emptied_at}
+use Rattle.iscsi_session.proofs.WindowParts.{Next, Turned, WindowAgrees-quiet, inside_bounds, WindowAgrees-voided, WindowAgrees-emptied, VoidedAt, voided_at, emptied_at}
 use Rattle.iscsi_rules.proofs.items.ClosingItems.{ClosesNone, closes-more}
 use Rattle.iscsi_rules.proofs.items.ReceivedItems.{no_abort_task, may_immediate}
 use Rattle.iscsi_rules.proofs.general.NumberLemmas.{position_eq, position_lt, wire-lift}
@@ -48,7 +48,7 @@ use Rattle.iscsi_rules.specs.declared.deed.Answer.{Answer}
 use Rattle.iscsi_rules.specs.declared.deed.Answer.TheVariants.{Respond}
 use Rattle.iscsi_rules.specs.declared.deed.Deed.{Deed}
 use Rattle.iscsi_rules.specs.declared.deed.Deed.TheVariants.{Nothing, Wait, Reply, Enter, Void, Empty, Abort, AbortEarlier, AbortAll, CloseConn, CloseSession}
-use Rattle.iscsi_session.specs.private.Steps.{count_reply, and_then, after_effect, waiting_in, request_answered, number_by, event_by, covers_ticket}
+use Rattle.iscsi_session.specs.private.Steps.{count_reply, and_then, after_effect, waiting_in, replied, number_by, event_by, covers_ticket}
 use Rattle.iscsi_rules.proofs.traces.ApartLemmas.{apart-filter}
 use Rattle.iscsi_rules.proofs.items.CommandItems.{ticket_alone}
 use Rattle.iscsi_session.proofs.DeedLemmas.{fits_deed, fits_function, is_of_number, missing_parts, is_whole, whole_function, immediate_is}
@@ -150,7 +150,7 @@ module _ (o : Setting) (s : Core) (t : Trace) (m : Mark) (e : Effect) (a : Arriv
 
   -- the number of a place is taken out of the window or put into it, and the function is answered
   windowed : (k : ℕ) (x : Mark) → Windowed o s t m → WindowAgrees o (with_place s.window k (Some None)) ((m ∷ x ∷ answer a 0) ∷ t) → IsMute a x
-      → Follows o t (m ∷ x ∷ answer a 0) (after_effect e (and_then (record { core = record s { window = with_place s.window k (Some None) }; effects = effects_of_mark o t x }) (λ s'. request_answered s' a.request (Respond 0))))
+      → Follows o t (m ∷ x ∷ answer a 0) (after_effect e (and_then (record { core = record s { window = with_place s.window k (Some None) }; effects = effects_of_mark o t x }) (λ s'. replied s' (connection_of a.request) (reply_of a.request (Respond 0)))))
   windowed k x before window mute =
       let conn : ℕ = connection_of a.request in
       let ms : List Mark = x ∷ answer a 0 in
@@ -222,7 +222,7 @@ module _ (o : Setting) (s : Core) (t : Trace) (m : Mark) (e : Effect) (a : Arriv
   does position event position_is event_is Nothing fits k = nothing_more o s t m e a b
   does position event position_is event_is Wait fits k = nothing_more o s t m e a b
   does position event position_is event_is (Reply x) fits k = answered o s t m e a b (reply_of a.request x)
-  does position event position_is event_is (Enter unit) fits k = enters_unit o s t m e a b k.0 k.1 unit (omega (arith, fits.inside, b.lasts.sets.units))
+  does position event position_is event_is (Enter unit) fits k = enters_unit o s t m e a b k.0 k.1 unit (omega (arith, fits.0, b.lasts.sets.units))
   does position event position_is event_is Void fits k = void_number position event fits k.0 k.1
   does position event position_is event_is (Empty unit sn) fits k = empty_number position event unit sn fits k.0 k.1
   does position event position_is event_is (Abort unit ticket) fits k = abort_one position event unit ticket fits
@@ -255,18 +255,19 @@ executes o s t m e a event b number_is event_is now x w =
 -- ---- at its turn
 
 pub turned-item : (o : Setting) (s : Core) (t : Trace) (r : HeldRequest) → Agrees o s t → at_place s.window 0 ≡ Some (Some r) → (x : Next s.window t r)
-    → Follows o t (item_of o t x.arrival) (turn_of (turned_core s) (Some r))
+    → Follows o t (item_of o t x.arrival) (turn_taken s (Some (Some r)))
 turned-item o s t r h place x =
     let a : Arrival = x.arrival in
     let b = turn-begun o s t r h place x in
     let number : a.number ≡ number_expected s.window = held-number t (number_expected s.window) a x.held_is in
     let numbered : is_immediate a.request ≡ false = numbered_held o s t r h x in
     let same : number_by (turned_core s) a.request ≡ a.number = rw numbered (omega (arith, number)) in
-    let shows = h.window.numbers (number_expected s.window) a (admitted_of_held t (number_expected s.window) a x.held_is) ∙ ap wire (sym number) in
-    let next : a.number + 1 ≡ number_expected (turned_window s.window) = omega (arith, number) in
+    let shows = (h.window.requests (number_expected s.window) a (admitted_of_held t (number_expected s.window) a x.held_is)).shows ∙ ap wire (sym number) in
+    let next : a.number + 1 ≡ number_expected (turned_on s.window) = omega (arith, number) in
     let never = numbered_deed (turned_core s) a.request a.number (deed_by (turned_core s) a.request) numbered next shows (fits_deed (turned_core s) a.request) in
-    subst (λ (q : HeldRequest). Follows o t (item_of o t a) (turn_of (turned_core s) (Some q))) x.request_is
-    (executes o (turned_core s) t (Delivers a) (Deliver a.request) a a.event b same (rw numbered) refl (Found-turned o s t r h place x) (λ said. absurd (false≢true (sym never ∙ said))))
+    subst (λ p. Follows o t (item_of o t a) (after_effect (Deliver r.request) (executed (record s { window = advanced_if s.window p }) r.request r.event))) (sym place)
+    (subst (λ (q : HeldRequest). Follows o t (item_of o t a) (after_effect (Deliver q.request) (executed (turned_core s) q.request q.event))) x.request_is
+    (executes o (turned_core s) t (Delivers a) (Deliver a.request) a a.event b same (rw numbered) refl (Found-turned o s t r h place x) (λ said. absurd (false≢true (sym never ∙ said)))))
 
 -- ---- an immediate request begins to execute
 
@@ -376,7 +377,7 @@ module _ (o : Setting) (s : Core) (index : ℕ) (t : Trace) (r : Request) (h : S
 
   pub immediate-item : Follows o t (immediate_item o t (arrival_of o index t r)) (immediate_taken s r (arrival_by s r))
   immediate-item =
-      let same : refusal o.level (unit_named o.units r) r ≡ refusal_by s r = ap (λ level. refusal level (unit_named o.units r) r) (sym h.agrees.level) ∙ ap (λ units. refusal s.level (unit_named units r) r) (sym h.agrees.sets.units) in
+      let same : refusal o.level (unit_named o.units r) r ≡ refusal_by s r = ap (λ level. refusal level (unit_named o.units r) r) (sym h.agrees.lasts.level) ∙ ap (λ units. refusal s.level (unit_named units r) r) (sym h.agrees.lasts.sets.units) in
       ⊎_elim
       (λ (is : (opcode r == 0x02 && may_wait r) ≡ true). let parts = and_parts (opcode r == 0x02) (may_wait r) is in rw is (by_refusal parts.0 parts.1 _ (refusal_by s r) refl same))
       (λ (is : (opcode r == 0x02 && may_wait r) ≡ false). rw is becomes_now)

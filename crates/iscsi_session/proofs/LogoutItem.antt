@@ -4,9 +4,9 @@ use Rattle.std.proofs.lemmas.Bool.{cases_Bool}
 use Rattle.std.specs.List.{list_any, flat_map, range_with_len, list_all}
 use Rattle.std.proofs.lemmas.List.{get_or-set_same, get_or-set_other, length-map}
 use Rattle.iscsi_tasks.specs.declared.task.Task.{Task}
-use Rattle.iscsi_tasks.specs.Sets.{opened}
+use Rattle.iscsi_tasks.specs.Sets.{opened, is_covered}
 use Rattle.iscsi_session.specs.private.Standing.{Core, Agrees, WindowAgrees, CommandsAgree, arrival_waiting, open_of, task_of}
-use Rattle.iscsi_session.specs.private.Steps.{set_staying, covered_tickets, set_at, is_numbered, is_gone, leave_each, commands_left, all_commands_left, is_among_open, still_open, after_effect, units_of, all_given, enable_effects, covers_of, session_closes, closing_effects, logged_out}
+use Rattle.iscsi_session.specs.private.Steps.{set_staying, covered_tickets, set_at, is_numbered, is_gone, leave_each, commands_left, all_commands_left, is_among_open, still_open, after_effect, units_of, all_given, enable_effects, cover_of, session_closes, logged_out}
 use Rattle.iscsi_rules.proofs.traces.TraceLemmas.{filter-same, filter-true}
 use Rattle.iscsi_rules.proofs.traces.NewlyLemmas.{filter-twice, Untouched, live-untouched, filter_all, filter-none}
 use Rattle.iscsi_rules.proofs.general.ListLemmas.{any_in_range, flat_map_in_range, list_all-filter, list_all-same, list_any-map, any_filter, any_flat_map, filter-flat_map, map-flat_map, filter-map, filtered_among}
@@ -114,7 +114,7 @@ none_stay (c ∷ cids) = none_stay cids
 
 -- ---- the covered commands
 
-covers_asked : (o : Setting) (scope : Option ℕ) (c : Command) → covers_of scope (task_of o c) ≡ is_asked scope (connection_of c.arrival.request)
+covers_asked : (o : Setting) (scope : Option ℕ) (c : Command) → is_covered (cover_of scope) (task_of o c) ≡ is_asked scope (connection_of c.arrival.request)
 covers_asked o scope c = grind arith
 
 -- ---- a connection or the session is closed
@@ -124,7 +124,7 @@ module _ (o : Setting) (s : Core) (t : Trace) (m : Mark) (e : Effect) (a : Arriv
   t₁ = (m ∷ []) ∷ t
 
   abbrev covers : Task → Bool
-  covers = covers_of scope
+  covers = is_covered (cover_of scope)
 
   -- a command of one of these connections
   abbrev asked : Command → Bool
@@ -244,9 +244,9 @@ module _ (o : Setting) (s : Core) (t : Trace) (m : Mark) (e : Effect) (a : Arriv
   -- none stays open but for the one that closes
   last_open : (closing : ℕ) → is_nil (still_open (Some closing) s.open_conns) ≡ is_last_open o t₁ closing
   last_open closing =
-      rw (b.lasts.open_is, filter-twice, last_is o t closing o.conns (λ c known. known)) (list_all-same _ _ o.conns (λ d. rw (closed-same d.0 (m ∷ []) t b.closes_no)))
+      rw (b.lasts.open_conns, filter-twice, last_is o t closing o.conns (λ c known. known)) (list_all-same _ _ o.conns (λ d. rw (closed-same d.0 (m ∷ []) t b.closes_no)))
 
-  closes_are : (x : Option ℕ) → closing_effects x ++ session_closes (still_open x s.open_conns) ≡ closes_shown o t₁ a x
+  closes_are : (x : Option ℕ) → elim x [ Some conn ↦ CloseConn conn ∷ [] | None ↦ [] ] ++ session_closes (still_open x s.open_conns) ≡ closes_shown o t₁ a x
   closes_are x = grind (arith, nat_tests, none_stay, last_open)
 
   -- what the item closes, the closing marks do
@@ -279,20 +279,22 @@ module _ (o : Setting) (s : Core) (t : Trace) (m : Mark) (e : Effect) (a : Arriv
 
   agrees : Agrees o (logged_out s a.request scope).core (item ∷ t)
   agrees = record {
-    events = rw k.same b.lasts.events;
+    lasts = record {
+      events = rw k.same b.lasts.events;
+      depth = rw k.same b.lasts.depth;
+      level = rw k.same b.lasts.level;
+      commands = rw k.same commands;
+      sets = record {
+        units = length-map left.sets all_given ∙ units_same;
+        lists = λ unit inside. rw (get_or-map all_given left.sets unit (opened 0), set_is unit inside) (set_after unit inside).given;
+      };
+      unfinished = rw (unfinished_left covers s (units_of s) (b.lasts.unfinished ∙ sym (numbered_live o s.live s.entered t b.lasts.commands))) (numbered_live o left.live s.entered (item ∷ t) commands);
+      enabled = EnabledSoFar-left o item t out leaves (units_live o left.live s.entered (item ∷ t) commands) b.lasts.enabled;
+      open_conns = rw (k.same, b.lasts.open_conns, open_after) (stays_open scope);
+    };
     window = window;
     replies = rw k.same (RepliesAgree-sent o s.conns t item conn (rw (b.sends_no, grouped, left_sends, emptied_sends) (grind arith)) b.known b.replies);
-    commands = rw k.same commands;
-    sets = record {
-      units = length-map left.sets all_given ∙ units_same;
-      lists = λ unit inside. rw (get_or-map all_given left.sets unit (opened 0), set_is unit inside) (set_after unit inside).given;
-    };
-    depth = rw k.same b.lasts.depth;
-    unfinished = rw (unfinished_left covers s (units_of s) (b.lasts.unfinished_is ∙ sym (numbered_live o s.live s.entered t b.lasts.commands))) (numbered_live o left.live s.entered (item ∷ t) commands);
-    enabled = EnabledSoFar-left o item t out leaves (units_live o left.live s.entered (item ∷ t) commands) b.lasts.enabled;
-    level = rw k.same b.lasts.level;
     waiting = record { list = waits; may = still_all (λ w. may_wait w.request) b.waits.may; known = still_all (λ w. is_known (connection_of w.request) o.conns) b.waits.known };
-    open_conns = rw (k.same, b.lasts.open_is, open_after) (stays_open scope);
   }
 
   shown : e ∷ (logged_out s a.request scope).effects ≡ effects_of_item o t item
@@ -314,4 +316,4 @@ module _ (o : Setting) (s : Core) (t : Trace) (m : Mark) (e : Effect) (a : Arriv
 
   -- the session knows whether the connection is open
   pub open_same : (c : ℕ) → is_among_open c s.open_conns ≡ is_open o began c
-  open_same c = rw (b.lasts.open_is, filtered_among (is_open o t) c (map (λ (d : ℕ × ℕ). d.0) o.conns), list_any-map (λ d. d == c) (λ (d : ℕ × ℕ). d.0) o.conns, closed-same c (m ∷ []) t b.closes_no) (grind arith)
+  open_same c = rw (b.lasts.open_conns, filtered_among (is_open o t) c (map (λ (d : ℕ × ℕ). d.0) o.conns), list_any-map (λ d. d == c) (λ (d : ℕ × ℕ). d.0) o.conns, closed-same c (m ∷ []) t b.closes_no) (grind arith)

@@ -12,7 +12,7 @@ use Rattle.iscsi_tasks.specs.Sets.{Members, entered_to, given_by, opened}
 use Rattle.iscsi_session.specs.declared.session.waiting.Waiting.{Waiting}
 use Rattle.iscsi_rules.specs.rules.Settings.{is_known}
 use Rattle.iscsi_session.specs.private.Standing.{Core, is_held, Match, tickets_of, tickets_in}
-use Rattle.iscsi_session.specs.private.Invariant.{Inner, IsSessionSound}
+use Rattle.iscsi_session.specs.private.Invariant.{IsSessionSound}
 use Rattle.iscsi_session.specs.private.Steps.{waiting_in, command_entered, ungiven, owed, ungiven_in}
 use Rattle.iscsi_rules.proofs.general.ListLemmas.{count_by-map, count_by-push}
 use Rattle.iscsi_rules.proofs.traces.SetLemmas.{ungiven_given}
@@ -63,13 +63,13 @@ pub owed_entered : (s : Core) (r : Request) (unit : ℕ) → unit < length s.set
 owed_entered s r unit inside = grind (arith, nat_tests, ungiven_in-set, ungiven_entered, length_push)
 
 -- few requests are held, few functions wait, and few commands are live
-pub record Few (s : Inner) : Type 0 where
+pub record Few (s : Core) : Type 0 where
   pub held : count_by is_held s.window.places ≤ length s.window.places
   pub waiting : length s.waiting ≤ 4 * length s.conns
   pub live : length s.live ≤ s.window.unfinished + 8 * length s.conns
 
-pub few : {s : Inner} → IsSessionSound s → Few s
-few {s} inv = grind (arith, nat_tests, count_by-le-length, few_waiting, few_live)
+pub few : {s : Core} {immediate : List ℕ} {live_room waiting_room left_room : ℕ} → IsSessionSound s immediate live_room waiting_room left_room → Few s
+few inv = grind (arith, nat_tests, count_by-le-length, few_waiting, few_live)
 
 pub ruleset few_steps = (count_by-le-length, few_waiting, few_live)
 

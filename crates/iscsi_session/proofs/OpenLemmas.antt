@@ -38,17 +38,19 @@ pub Settled-opened : (o : Setting) (room taken : ℕ) → Settled o (record {
 }) []
 Settled-opened o room taken = record {
   agrees = record {
-    events = refl;
+    lasts = record {
+      events = refl;
+      depth = refl;
+      level = refl;
+      commands = record { commands = refl; regular = refl; apart = refl; count_is = refl; fresh = λ k h. refl; unleft = λ k h. refl };
+      sets = grind (arith, nat_tests, length-replicate, set_opened);
+      unfinished = refl;
+      enabled = EnabledSoFar-none o;
+      open_conns = sym (all_open o o.conns (λ cid known. known));
+    };
     window = grind (arith, nat_tests, length-replicate, nothing_at);
     replies = record { cids = refl; stat_sns = λ cid known. first_number cid o.conns };
-    commands = record { commands = refl; regular = refl; apart = refl; count_is = refl; fresh = λ k h. refl; unleft = λ k h. refl };
-    sets = grind (arith, nat_tests, length-replicate, set_opened);
-    depth = refl;
-    unfinished = refl;
-    enabled = EnabledSoFar-none o;
-    level = refl;
     waiting = record { list = refl; may = refl; known = refl };
-    open_conns = sym (all_open o o.conns (λ cid known. known));
   };
   none_due = nothing_at o.window 0;
 }
@@ -67,6 +69,6 @@ bound_is o s h stands =
     let counted : count_by is_held s.window.places ≡ held_count o t =
     count_places is_held (λ n. is_some (held t n)) s.window.places e (λ k lt. ap is_held (a.window.inside k lt) ∙ held_place (e + k))
     ∙ cc (a.window.size, settled_expected o s t stands.settled) in
-    let lives : length s.live ≡ length (live t) = ap length a.commands.commands ∙ length-map (live t) kept in
+    let lives : length s.live ≡ length (live t) = ap length a.lasts.commands.commands ∙ length-map (live t) kept in
     let waits = ap length a.waiting.list ∙ length-map s.waiting (arrival_waiting o.first) in
     omega (arith, counted, lives, waits)

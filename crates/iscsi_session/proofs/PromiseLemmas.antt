@@ -45,7 +45,7 @@ none_above o s t h n above =
 pub Flows-step : (o : Setting) (s s' : Core) (index : ℕ) (t : Trace) (e : Event) → HasOneMore (received t) (received (after_event o index t e)) → Settled o s t → Settled o s' (after_event o index t e) → KeepsPace s.window s'.window → Flows o t (after_event o index t e)
 Flows-step o s s' index t e more h h' pace =
     let t' : Trace = after_event o index t e in
-    search (arith, more, none_above o s' t' h', exp_stays o t t' more, settled_expected o s' t' h', settled_max o s t h, settled_max o s' t' h', h.agrees.window.first, h'.agrees.window.first, h'.agrees.window.few, h'.agrees.unfinished, h'.agrees.window.size)
+    search (arith, more, none_above o s' t' h', exp_stays o t t' more, settled_expected o s' t' h', settled_max o s t h, settled_max o s' t' h', h.agrees.window.first, h'.agrees.window.first, h'.agrees.window.few, h'.agrees.lasts.unfinished, h'.agrees.window.size)
 
 pub stands_delivers : (o : Setting) (s : Core) (h : List Event) → StandsFor o s h → delivered (run_of o h) ≡ executed o h
 stands_delivers o s h stands = grind (arith, nat_tests, log_delivers, settled_expected)

@@ -2,25 +2,24 @@
 use Rattle.std.proofs.Common.{◌≡◌, ℕ, List, [], ◌++◌, refl, ap, sym, ◌∙◌, subst, append_assoc}
 use Rattle.std.proofs.lemmas.List.{append-nil}
 use Rattle.iscsi_rules.specs.declared.effect.Effect.{Effect}
-use Rattle.iscsi_session.specs.private.Steps.{Continues}
+use Rattle.iscsi_session.specs.private.Steps.{Appends, Continues}
 
-module _ {S : Type 0} (has : S → List ℕ → List Effect → Type 0) where
+module _ {S : Type 0} {has : S → List ℕ → List Effect → Type 0} where
   -- none was
-  pub started : (whole : List Effect) (out : S) → Continues has whole whole out out
-  started whole out = record { done = []; effects = λ text es was. subst (has out text) (sym (append-nil es)) was; both = refl }
+  pub started : {whole : List Effect} {out : S} → Continues has whole whole out out
+  started {out = out} = record { done = []; effects = λ text es was. subst (has out text) (sym (append-nil es)) was; both = refl }
 
   -- some more are
-  pub continued : (whole rest next rest' : List Effect) (out out' out'' : S) → Continues has whole rest out out' → rest ≡ next ++ rest'
-      → ((text : List ℕ) (es : List Effect) → has out' text es → has out'' text (es ++ next)) → Continues has whole rest' out out''
-  continued whole rest next rest' out out' out'' c is more = record {
+  pub continued : {whole rest rest' : List Effect} (next : List Effect) {out out' out'' : S} → Continues has whole rest out out' → rest ≡ next ++ rest' → Appends has next out' out'' → Continues has whole rest' out out''
+  continued {rest' = rest'} next {out'' = out''} c is more = record {
     done = c.done ++ next;
     effects = λ text es was. subst (has out'' text) (append_assoc es c.done next) (more text (es ++ c.done) (c.effects text es was));
     both = append_assoc c.done next rest' ∙ ap (λ l. c.done ++ l) (sym is) ∙ c.both;
   }
 
-  pub joined : (whole rest rest' : List Effect) (out out' out'' : S) → Continues has whole rest out out' → Continues has rest rest' out' out'' → Continues has whole rest' out out''
-  joined whole rest rest' out out' out'' c d = continued whole rest d.done rest' out out' out'' c (sym d.both) d.effects
+  pub joined : {whole rest rest' : List Effect} {out out' out'' : S} → Continues has whole rest out out' → Continues has rest rest' out' out'' → Continues has whole rest' out out''
+  joined c d = continued d.done c (sym d.both) d.effects
 
   -- all were
-  pub ended : (whole rest : List Effect) (out out' : S) → Continues has whole rest out out' → rest ≡ [] → (text : List ℕ) (es : List Effect) → has out text es → has out' text (es ++ whole)
-  ended whole rest out out' c none = λ text es was. subst (λ l. has out' text (es ++ l)) (sym (append-nil c.done) ∙ ap (λ l. c.done ++ l) (sym none) ∙ c.both) (c.effects text es was)
+  pub ended : {whole rest : List Effect} {out out' : S} → Continues has whole rest out out' → rest ≡ [] → Appends has whole out out'
+  ended {out = out} {out' = out'} c none = subst (λ l. Appends has l out out') (sym (append-nil c.done) ∙ ap (λ l. c.done ++ l) (sym none) ∙ c.both) c.effects

@@ -9,9 +9,9 @@ use Rattle.iscsi_commands.specs.declared.live.Live.{Live}
 use Rattle.iscsi_session.specs.declared.session.waiting.Waiting.{Waiting}
 use Rattle.iscsi_rules.specs.rules.Settings.{is_known}
 use Rattle.iscsi_rules.specs.rules.Management.{may_wait}
-use Rattle.iscsi_session.specs.private.Standing.{is_place_known, Match, AreRoomy}
+use Rattle.iscsi_session.specs.private.Standing.{Core, is_place_known, Match, AreRoomy}
 use Rattle.iscsi_session.specs.private.Steps.{count_reply, AreCounted, is_numbered, set_staying, is_gone, staying, finished_by}
-use Rattle.iscsi_session.specs.private.Invariant.{Inner, IsWindowSound, AreCommandsSound, AreFunctionsSound, IsSessionSound}
+use Rattle.iscsi_session.specs.private.Invariant.{IsWindowSound, AreCommandsSound, AreFunctionsSound, IsSessionSound}
 use Rattle.iscsi_rules.proofs.general.ListLemmas.{count_by-push, list_all-filter, fewer_counted}
 use Rattle.iscsi_session.proofs.ListLemmas.{list_all-push, are_known-replied, are_places_known-replied}
 use Rattle.iscsi_rules.proofs.traces.TraceLemmas.{weaker}
@@ -24,15 +24,6 @@ use Rattle.iscsi_tasks.specs.declared.task.Task.{Task}
 use Rattle.iscsi_rules.proofs.general.PlaceLemmas.{written}
 
 -- ---- the window
-
--- it has become another, with as many places and as many commands in execution
-pub window_sound : {s : Inner} → IsSessionSound s → {w : Arrived} → w.unfinished ≡ s.window.unfinished → length w.places ≡ length s.window.places
-    → IsWindowSound w s.entered s.taken s.conns → IsSessionSound (record s { window = w })
-window_sound {s} inv {w} unfinished long sound = grind (arith, nat_tests)
-
--- it has stayed the same
-pub same_sound : {s : Inner} → IsSessionSound s → {w : Arrived} → w ≡ s.window → IsSessionSound (record s { window = w })
-same_sound inv same = rw same inv
 
 -- so many requests fewer are held, and so many numbers more received
 pub changed_sound : {old new : Arrived} {fewer more count taken : ℕ} {conns : List (ℕ × ℕ)} → IsWindowSound old count taken conns → Changed old new fewer more
@@ -50,24 +41,6 @@ advanced_sound {conns = conns} sound a is = rw is (search (arith, a.known conns 
 
 -- ---- the commands
 
--- a command has entered or left: the window counts it, and the room is no less
-pub commands_sound : {s : Inner} → IsSessionSound s → {w : Arrived} {count : ℕ} {live : List Live} {immediate : List ℕ} {sets : List Members} {live_room : ℕ} → IsWindowSound w count s.taken s.conns
-    → AreCommandsSound w.unfinished count s.conns immediate sets live → w.places ≡ s.window.places → length sets ≡ length s.sets → AreRoomy s.depth live_room sets → s.live_room ≤ live_room
-    → IsSessionSound (record s { window = w; entered = count; live = live; immediate = immediate; sets = sets; live_room = live_room })
-commands_sound inv window commands places units roomy more_live = search (arith, ap length places)
-
--- the same, where the connections are written as others that are the same
-pub commands_sound_on : {s : Inner} → IsSessionSound s → {w : Arrived} {count : ℕ} {live : List Live} {immediate : List ℕ} {sets : List Members} {live_room : ℕ} {conns : List (ℕ × ℕ)} → conns ≡ s.conns
-    → IsWindowSound w count s.taken s.conns → AreCommandsSound w.unfinished count s.conns immediate sets live → w.places ≡ s.window.places → length sets ≡ length s.sets → AreRoomy s.depth live_room sets → s.live_room ≤ live_room
-    → IsSessionSound (record s { window = w; conns = conns; entered = count; live = live; immediate = immediate; sets = sets; live_room = live_room })
-commands_sound_on inv same window commands places units roomy more_live = rw same (commands_sound inv window commands places units roomy more_live)
-
--- the sets have become others, of the same commands
-pub sets_sound : {s : Inner} → IsSessionSound s → {sets new : List Members} → sets ≡ new → length new ≡ length s.sets → Match new s.live → AreRoomy s.depth s.live_room new → IsSessionSound (record s { sets = sets })
-sets_sound {s} inv is long match roomy =
-    let c = inv.commands in
-    rw is (commands_sound inv inv.window (record { numbered = c.numbered; known = c.known; in_sets = match; ascending = c.ascending; within = rw long c.within; counted = c.counted }) refl long roomy (omega arith))
-
 -- one more, of the next ticket, has entered
 pub entered_sound : {unfinished now count : ℕ} {conns : List (ℕ × ℕ)} {immediate counts : List ℕ} {sets new : List Members} {live entered : List Live} → AreCommandsSound unfinished count conns immediate sets live
     → (l : Live) → entered ≡ live ++ l ∷ [] → l.ticket ≡ count + 1 → l.unit < length sets → is_known l.conn conns ≡ true → count_by is_numbered live + cond (not l.immediate) 1 0 ≤ now
@@ -82,55 +55,73 @@ pub kept_sound : {unfinished now count : ℕ} {conns : List (ℕ × ℕ)} {immed
 kept_sound {count = count} {conns = conns} {counts = counts} {sets = sets} {new = new} {live = live} c p is numbered long match counted =
     grind (arith, nat_tests, list_all-filter, ascending-kept)
 
--- ---- the functions that wait
-
--- they have become others
-pub functions_sound : {s : Inner} → IsSessionSound s → {waiting : List Waiting} {room : ℕ} → AreFunctionsSound s.taken s.conns waiting → s.waiting_room ≤ room → IsSessionSound (record s { waiting = waiting; waiting_room = room })
-functions_sound inv sound more = search arith
-
--- some of them don't wait any longer
-pub fewer_sound : {s : Inner} → IsSessionSound s → (stays : Waiting → Bool) → {waiting : List Waiting} {room : ℕ} → waiting ≡ filter stays s.waiting → s.waiting_room ≤ room → IsSessionSound (record s { waiting = waiting; waiting_room = room })
-fewer_sound {s} inv stays rest more =
-    let f = inv.functions in
-    functions_sound inv (rw rest (record {
-      before = list_all-filter stays (λ (w : Waiting). nat_lt w.event s.taken) s.waiting f.before;
-      known = list_all-filter stays (λ (w : Waiting). is_known (connection_of w.request) s.conns) s.waiting f.known;
-      may = list_all-filter stays (λ (w : Waiting). may_wait w.request) s.waiting f.may;
-      few = λ cid. omega (arith, f.few cid, fewer_counted (λ (w : Waiting). connection_of w.request == cid) stays s.waiting);
-    })) more
-
--- ---- an event and a reply
-
--- one event more was taken
-pub taken_sound : {s : Inner} → IsSessionSound s → s.taken < s.events → IsSessionSound (record s { taken = s.taken + 1 })
-taken_sound {s} inv one = grind (arith, nat_tests, weaker, later_event)
-
--- a reply went out on a connection
-pub replied_sound : {s : Inner} → IsSessionSound s → (cid : ℕ) {conns : List (ℕ × ℕ)} → conns ≡ count_reply cid s.conns → IsSessionSound (record s { conns = conns })
-replied_sound {s} inv cid is =
-    rw is (search (
-      arith,
-      length-replied cid s.conns,
-      are_places_known-replied cid s.window.places s.conns inv.window.known,
-      are_known-replied (λ (l : Live). l.conn) cid s.live s.conns inv.commands.known,
-      AreCounted-replied cid s.immediate s.conns s.live inv.commands.counted,
-      are_known-replied (λ (v : Waiting). connection_of v.request) cid s.waiting s.conns inv.functions.known,
-    ))
-
--- ==== what holds of every session holds on, where covered commands of a unit left
-
 -- the sets, once the set of the unit was written
 pub sets_written : (unit n : ℕ) (covers : Task → Bool) (old sets : List Members) → n ≡ length old → sets ≡ set old unit (set_staying covers (get_or old unit (opened 0)))
     → take n (sets ++ drop (length sets) old) ≡ set old unit (set_staying covers (get_or old unit (opened 0)))
 sets_written unit n covers old sets long is = written n sets old (rw is (length-set old unit (set_staying covers (get_or old unit (opened 0))))) long ∙ is
 
-pub left_sound : {s : Inner} → IsSessionSound s → (unit : ℕ) (covers : Task → Bool) → unit < length s.sets → {immediate : List ℕ} → AreCounted immediate s.conns (staying covers (get_or s.sets unit (opened 0)) s.live)
-    → IsSessionSound (record s { window = finished_by s.window s.live (staying covers (get_or s.sets unit (opened 0)) s.live); live = staying covers (get_or s.sets unit (opened 0)) s.live; immediate = immediate; sets = set s.sets unit (set_staying covers (get_or s.sets unit (opened 0))) })
-left_sound {s} inv unit covers inside counted =
-    let stays : Live → Bool = λ l. not (is_gone covers (get_or s.sets unit (opened 0)) l.ticket) in
-    let long : length (set s.sets unit (set_staying covers (get_or s.sets unit (opened 0)))) ≡ length s.sets = length-set s.sets unit (set_staying covers (get_or s.sets unit (opened 0))) in
-    let fewer = fewer_counted is_numbered stays s.live in
-    let depth_same : (set_staying covers (get_or s.sets unit (opened 0))).depth ≡ (get_or s.sets unit (opened 0)).depth = grind (arith, nat_tests) in
-    commands_sound inv (places_sound inv.window refl refl (omega (arith, inv.window.fits, fewer)) inv.window.entered)
-    (kept_sound inv.commands stays refl (omega (arith, fewer, inv.commands.numbered)) long (Match-staying s.sets s.live unit covers inside inv.commands.in_sets inv.commands.ascending) counted)
-    refl long (roomy_set s.depth s.live_room s.sets unit (set_staying covers (get_or s.sets unit (opened 0))) inside inv.sets depth_same) (omega arith)
+-- ---- the whole
+
+module _ {s : Core} {immediate : List ℕ} {live_room waiting_room left_room : ℕ} (inv : IsSessionSound s immediate live_room waiting_room left_room) where
+  -- the window has become another, with as many places and as many commands in execution
+  pub window_sound : {w : Arrived} → w.unfinished ≡ s.window.unfinished → length w.places ≡ length s.window.places → IsWindowSound w s.entered s.taken s.conns → IsSessionSound (record s { window = w }) immediate live_room waiting_room left_room
+  window_sound unfinished long sound = grind (arith, nat_tests)
+
+  -- it has stayed the same
+  pub same_sound : {w : Arrived} → w ≡ s.window → IsSessionSound (record s { window = w }) immediate live_room waiting_room left_room
+  same_sound same = rw same inv
+
+  -- a command has entered or left: the window counts it, and the room is no less
+  pub commands_sound : {w : Arrived} {count : ℕ} {live : List Live} {counts : List ℕ} {sets : List Members} {room : ℕ} → IsWindowSound w count s.taken s.conns → AreCommandsSound w.unfinished count s.conns counts sets live
+      → w.places ≡ s.window.places → length sets ≡ length s.sets → AreRoomy s.depth room sets → live_room ≤ room → IsSessionSound (record s { window = w; entered = count; live = live; sets = sets }) counts room waiting_room left_room
+  commands_sound window commands places units roomy more_live = search (arith, ap length places)
+
+  -- the sets have become others, of the same commands
+  pub sets_sound : {sets new : List Members} → sets ≡ new → length new ≡ length s.sets → Match new s.live → AreRoomy s.depth live_room new → IsSessionSound (record s { sets = sets }) immediate live_room waiting_room left_room
+  sets_sound is long match roomy =
+      let c = inv.commands in
+      rw is (commands_sound inv.window (record { numbered = c.numbered; known = c.known; in_sets = match; ascending = c.ascending; within = rw long c.within; counted = c.counted }) refl long roomy (omega arith))
+
+  -- the functions that wait have become others
+  pub functions_sound : {waiting : List Waiting} {room : ℕ} → AreFunctionsSound s.taken s.conns waiting → waiting_room ≤ room → IsSessionSound (record s { waiting = waiting }) immediate live_room room left_room
+  functions_sound sound more = search arith
+
+  -- some of them don't wait any longer
+  pub fewer_sound : (stays : Waiting → Bool) {waiting : List Waiting} {room : ℕ} → waiting ≡ filter stays s.waiting → waiting_room ≤ room → IsSessionSound (record s { waiting = waiting }) immediate live_room room left_room
+  fewer_sound stays rest more =
+      let f = inv.functions in
+      functions_sound (rw rest (record {
+        before = list_all-filter stays (λ (w : Waiting). nat_lt w.event s.taken) s.waiting f.before;
+        known = list_all-filter stays (λ (w : Waiting). is_known (connection_of w.request) s.conns) s.waiting f.known;
+        may = list_all-filter stays (λ (w : Waiting). may_wait w.request) s.waiting f.may;
+        few = λ cid. omega (arith, f.few cid, fewer_counted (λ (w : Waiting). connection_of w.request == cid) stays s.waiting);
+      })) more
+
+  -- one event more was taken
+  pub taken_sound : s.taken < s.events → IsSessionSound (record s { taken = s.taken + 1 }) immediate live_room waiting_room left_room
+  taken_sound one = grind (arith, nat_tests, weaker, later_event)
+
+  -- a reply went out on a connection
+  pub replied_sound : (cid : ℕ) {conns : List (ℕ × ℕ)} → conns ≡ count_reply cid s.conns → IsSessionSound (record s { conns = conns }) immediate live_room waiting_room left_room
+  replied_sound cid is =
+      rw is (search (
+        arith,
+        length-replied cid s.conns,
+        are_places_known-replied cid s.window.places s.conns inv.window.known,
+        are_known-replied (λ (l : Live). l.conn) cid s.live s.conns inv.commands.known,
+        AreCounted-replied cid immediate s.conns s.live inv.commands.counted,
+        are_known-replied (λ (v : Waiting). connection_of v.request) cid s.waiting s.conns inv.functions.known,
+      ))
+
+  -- covered commands of a unit left
+  pub left_sound : (unit : ℕ) (covers : Task → Bool) → unit < length s.sets → {counts : List ℕ} → AreCounted counts s.conns (staying covers (get_or s.sets unit (opened 0)) s.live)
+      → IsSessionSound (record s { window = finished_by s.window s.live (staying covers (get_or s.sets unit (opened 0)) s.live); live = staying covers (get_or s.sets unit (opened 0)) s.live; sets = set s.sets unit (set_staying covers (get_or s.sets unit (opened 0))) }) counts live_room waiting_room left_room
+  left_sound unit covers inside counted =
+      let old : Members = get_or s.sets unit (opened 0) in
+      let stays : Live → Bool = λ l. not (is_gone covers old l.ticket) in
+      let long : length (set s.sets unit (set_staying covers old)) ≡ length s.sets = length-set s.sets unit (set_staying covers old) in
+      let fewer = fewer_counted is_numbered stays s.live in
+      let depth_same : (set_staying covers old).depth ≡ old.depth = grind (arith, nat_tests) in
+      commands_sound (places_sound inv.window refl refl (omega (arith, inv.window.fits, fewer)) inv.window.entered)
+      (kept_sound inv.commands stays refl (omega (arith, fewer, inv.commands.numbered)) long (Match-staying s.sets s.live unit covers inside inv.commands.in_sets inv.commands.ascending) counted)
+      refl long (roomy_set s.depth live_room s.sets unit (set_staying covers old) inside inv.sets depth_same) (omega arith)

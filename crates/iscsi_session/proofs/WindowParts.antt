@@ -6,11 +6,11 @@ use Rattle.iscsi_wire.specs.Serial.{number_of_first, wire, lift}
 use Rattle.iscsi_rules.specs.rules.Settings.{Setting}
 use Rattle.iscsi_rules.specs.rules.Trace.{Arrival, Mark, Admits, Delivers, Trace, shown, received, contains, is_received, is_delivered, is_emptied, held, admits_at, admitted, Voids, Empties, first_of, delivers_number}
 use Rattle.iscsi_rules.specs.promises.Executed.{request_at, executed_below, delivers}
-use Rattle.iscsi_session.specs.private.Standing.{held_of, place_of, is_regular_request, WindowAgrees}
+use Rattle.iscsi_session.specs.private.Standing.{held_of, place_of, IsRegularRequest, WindowAgrees}
 use Rattle.std.proofs.lemmas.Bool.{cases_lt, cases_eq, eqb-true}
 use Rattle.std.proofs.lemmas.Grind.{elements, get_or-set_at}
 use Rattle.iscsi_wire.specs.Fields.{cmd_sn}
-use Rattle.iscsi_window.specs.Windows.{Arrived, number_expected, room_of, at_place, with_place, with_unfinished, IsInside, place_in, is_received_at, voided, emptied}
+use Rattle.iscsi_window.specs.Windows.{Arrived, number_expected, room_of, at_place, with_place, with_unfinished, turned_on, IsInside, place_in, is_received_at, voided, emptied}
 use Rattle.iscsi_rules.specs.rules.Execution.{exp_of}
 use Rattle.iscsi_rules.proofs.general.BoolLemmas.{or_none, or_second, or_false}
 use Rattle.iscsi_rules.proofs.general.Missing.{expected_is, expected_low, expected_gone}
@@ -57,7 +57,6 @@ WindowAgrees-quiet o w t item q a = record {
   undelivered = λ n high. cc (q.delivers_no n, a.undelivered n high);
   unemptied = λ n gone. let before : is_received t n ≡ false = cc (received-quiet item t q) in cc (q.empties_no n, a.unemptied n before);
   requests = λ n b found. a.requests n b (cc (admitted-quiet item t n q));
-  numbers = λ n b found. a.numbers n b (cc (admitted-quiet item t n q));
   delivered = delivered-quiet item t q ∙ a.delivered ∙ sym (executed_below-quiet o item t (number_expected w) q);
   few = a.few;
   free = a.free;
@@ -75,9 +74,9 @@ place_of-other t a n apart = cc (received-admits t a n, or_false (is_received t 
 place_of-here : (t : Trace) (a : Arrival) → is_received t a.number ≡ false → is_delivered t a.number ≡ false → is_emptied t a.number ≡ false → place_of ((Admits a ∷ []) ∷ t) a.number ≡ Some (Some (held_of a))
 place_of-here t a new undelivered unemptied = grind (arith, nat_tests, received-admits, or_second, eq-eqb, held-here)
 
-pub WindowAgrees-admitted : (o : Setting) (w : Arrived) (t : Trace) (a : Arrival) → WindowAgrees o w t → number_expected w ≤ a.number → a.number < number_expected w + room_of w → is_received t a.number ≡ false → is_regular_request o a.request ≡ true → wire (cmd_sn a.request) ≡ wire a.number
+pub WindowAgrees-admitted : (o : Setting) (w : Arrived) (t : Trace) (a : Arrival) → WindowAgrees o w t → number_expected w ≤ a.number → a.number < number_expected w + room_of w → is_received t a.number ≡ false → IsRegularRequest o a.number a.request
     → WindowAgrees o (with_held w a) ((Admits a ∷ []) ∷ t)
-WindowAgrees-admitted o w t a h low high new regular shows =
+WindowAgrees-admitted o w t a h low high new regular =
     let e : ℕ = number_expected w in
     let k₀ : ℕ = a.number - e in
     let t' : Trace = (Admits a ∷ []) ∷ t in
@@ -99,8 +98,7 @@ WindowAgrees-admitted o w t a h low high new regular shows =
       past = λ n before. held-admits t a n (apart n (omega arith)) ∙ h.past n before;
       undelivered = h.undelivered;
       unemptied = λ n gone. h.unemptied n (or_none (is_received t n) (a.number == n) (sym (received-admits t a n) ∙ gone)).0;
-      requests = λ n b found. ⊎_elim (λ before. h.requests n b before) (λ this. rw (← this) regular) (admitted-cases t a n b found);
-      numbers = λ n b found. ⊎_elim (λ before. h.numbers n b before) (λ this. cc (shows, admitted-number t' n b found)) (admitted-cases t a n b found);
+      requests = λ n b found. ⊎_elim (λ before. h.requests n b before) (λ this. subst (λ m. IsRegularRequest o m b.request) (admitted-number t' n b found) (subst (λ (c : Arrival). IsRegularRequest o c.number c.request) this regular)) (admitted-cases t a n b found);
       delivered = grind (arith, nat_tests, append-nil, same_range, request_at-admits, apart);
       few = omega (arith, h.few, long);
       free = λ k big. get_or-set_other w.places k₀ k x None (omega (arith, long, h.few)) ∙ h.free k (omega (arith, long));
@@ -125,10 +123,6 @@ next_request o w t r a h =
     let facts = some_held (is_received t e) (held t e) r (sym (ap (place_of t) at) ∙ sym (a.inside 0 (has_first w.places (Some r) h)) ∙ h) in
     record { arrival = facts.1.0; held_is = facts.1.1.0; request_is = facts.1.1.1; received_is = facts.0 }
 
--- the window after a turn: it has turned the number, and its last place is free
-abbrev pub turned_window : Arrived → Arrived
-turned_window w = record w { turned = w.turned + 1; places = drop 1 w.places ++ None ∷ [] }
-
 pub record Turned (o : Setting) (w : Arrived) (t : Trace) : Type 0 where
   pub agrees : WindowAgrees o w t
   pub not_full : w.unfinished < length w.places
@@ -149,7 +143,7 @@ record Turns (o : Setting) (w : Arrived) (t t' : Trace) : Type 0 where
 shifted : (old : List (Option (Option HeldRequest))) (k : ℕ) → k + 1 < length old → get_or (drop 1 old ++ None ∷ []) k None ≡ get_or old (k + 1) None
 shifted old k lt = grind (arith, elements)
 
-turned : (o : Setting) (w : Arrived) (t t' : Trace) (x : Option HeldRequest) → WindowAgrees o w t → at_place w 0 ≡ Some x → Turns o w t t' → Turned o (turned_window w) t'
+turned : (o : Setting) (w : Arrived) (t t' : Trace) (x : Option HeldRequest) → WindowAgrees o w t → at_place w 0 ≡ Some x → Turns o w t t' → Turned o (turned_on w) t'
 turned o w t t' x h place s =
     let e : ℕ = number_expected w in
     let old : List (Option (Option HeldRequest)) = w.places in
@@ -167,7 +161,7 @@ turned o w t t' x h place s =
         size = long ∙ h.size;
         below = λ n l u. received_is n ∙ ⊎_elim (λ here. ap (is_received t) here ∙ s.here) (λ other. h.below n l (omega arith)) (cases_eq n e);
         inside = λ k lt.
-            let n : ℕ = number_expected (turned_window w) + k in
+            let n : ℕ = number_expected (turned_on w) + k in
             let at : e + (k + 1) ≡ n = omega arith in
             ⊎_elim (λ inner. cc (shifted old k inner, h.inside (k + 1) inner, received_is n, s.held_is n (omega arith)))
             (λ last. cc (last_none (drop 1 old) k (omega arith), received_is n, h.above n (omega arith)))
@@ -177,8 +171,7 @@ turned o w t t' x h place s =
         undelivered = λ n u. s.delivered_is n (omega arith) ∙ h.undelivered n (omega arith);
         unemptied = λ n gone. s.emptied_is n ∙ h.unemptied n (sym (received_is n) ∙ gone);
         requests = λ n b found. h.requests n b (sym (s.admitted_is n) ∙ found);
-        numbers = λ n b found. h.numbers n b (sym (s.admitted_is n) ∙ found);
-        delivered = s.delivered ∙ ap (executed_below o t') (let z : e + 1 ≡ number_expected (turned_window w) = omega arith in z);
+        delivered = s.delivered ∙ ap (executed_below o t') (let z : e + 1 ≡ number_expected (turned_on w) = omega arith in z);
         few = omega (arith, long, h.few);
         free = λ k big. free k (omega (arith, long, big));
       };
@@ -187,7 +180,7 @@ turned o w t t' x h place s =
     }
 
 pub WindowAgrees-turned : (o : Setting) (w : Arrived) (t : Trace) (r : HeldRequest) (ms : List Mark) → WindowAgrees o w t → at_place w 0 ≡ Some (Some r) → (x : Next w t r) → IsQuiet ms
-    → Turned o (turned_window w) ((Delivers x.arrival ∷ ms) ∷ t)
+    → Turned o (turned_on w) ((Delivers x.arrival ∷ ms) ∷ t)
 WindowAgrees-turned o w t r ms h place x q =
     let a : Arrival = x.arrival in
     let e : ℕ = number_expected w in
@@ -226,7 +219,7 @@ passed_at o w t h place =
     grind arith
 
 -- a number that nothing is held at is passed
-pub WindowAgrees-passed : (o : Setting) (w : Arrived) (t : Trace) → WindowAgrees o w t → at_place w 0 ≡ Some None → WindowAgrees o (turned_window w) t
+pub WindowAgrees-passed : (o : Setting) (w : Arrived) (t : Trace) → WindowAgrees o w t → at_place w 0 ≡ Some None → WindowAgrees o (turned_on w) t
 WindowAgrees-passed o w t h place =
     let e : ℕ = number_expected w in
     let p : Passed w t = passed_at o w t h place in
@@ -275,7 +268,6 @@ WindowAgrees-clears o w item t n h v low high =
       undelivered = λ k u. rw (v.delivers_no k, h.undelivered k u);
       unemptied = grind (arith, nat_tests, or_none);
       requests = λ k b found. h.requests k b (sym (ap first_of (v.admitted_is k)) ∙ found);
-      numbers = λ k b found. h.numbers k b (sym (ap first_of (v.admitted_is k)) ∙ found);
       delivered = rw (v.delivers_none, append-nil, h.delivered)
           (same_range t (item ∷ t) (number_of_first o.first) (e - number_of_first o.first) (λ k l u. sym (v.requested k (apart k (λ same. omega (arith, same, u, low))))));
       few = omega (arith, h.few, long);

@@ -124,14 +124,12 @@ impl Model for Session {
       entered = s.entered;
       taken = s.taken;
       live = s.live.items;
-      immediate = s.connections.immediate;
       sets = s.sets.items;
       depth = s.depth;
+      level = s.level;
       waiting = s.waiting.items;
-      live_room = s.live.room;
-      waiting_room = s.waiting.room;
-      left_room = vec_capacity s.left;
-    }) };
+      open_conns = s.connections.open_conns;
+    }) s.connections.immediate s.live.room s.waiting.room (vec_capacity s.left) };
 }
 
 impl Session {

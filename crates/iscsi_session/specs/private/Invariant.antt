@@ -1,6 +1,6 @@
 -- What holds of every session, whatever it has taken.
-use Rattle.std.specs.Prelude.{◌≡◌, ℕ, ◌+◌, ◌*◌, ◌^◌, ◌<◌, ◌≤◌, true, List, length, All, count_by, is_some, nat_lt}
-use Rattle.std.specs.List.{list_all, AllPairs}
+use Rattle.std.specs.Prelude.{◌≡◌, ℕ, ◌+◌, ◌*◌, ◌^◌, ◌<◌, ◌≤◌, true, List, length, count_by, is_some, nat_lt}
+use Rattle.std.specs.List.{list_all}
 use Rattle.iscsi_wire.specs.Fields.{connection_of}
 use Rattle.iscsi_window.specs.Received.{Arrived}
 use Rattle.iscsi_tasks.specs.Sets.{Members}
@@ -8,24 +8,8 @@ use Rattle.iscsi_commands.specs.declared.live.Live.{Live}
 use Rattle.iscsi_session.specs.declared.session.waiting.Waiting.{Waiting}
 use Rattle.iscsi_rules.specs.rules.Settings.{is_known}
 use Rattle.iscsi_rules.specs.rules.Management.{may_wait}
-use Rattle.iscsi_session.specs.private.Standing.{are_known, is_place_known, Match, AreRoomy, are_ascending, are_within}
+use Rattle.iscsi_session.specs.private.Standing.{Core, are_known, is_place_known, Match, AreRoomy, are_ascending, are_within}
 use Rattle.iscsi_session.specs.private.Steps.{is_numbered, AreCounted, waiting_in}
-
--- what the invariant speaks of: the fields that callers see as `Core`, those behind them, and the containers' rooms
-pub record Inner : Type 0 where
-  pub window : Arrived
-  pub events : ℕ
-  pub conns : List (ℕ × ℕ)
-  pub entered : ℕ
-  pub taken : ℕ
-  pub live : List Live
-  pub immediate : List ℕ  -- the count of immediate commands, for each connection
-  pub sets : List Members
-  pub depth : ℕ
-  pub waiting : List Waiting
-  pub live_room : ℕ  -- how many elements each of these has memory for
-  pub waiting_room : ℕ
-  pub left_room : ℕ
 
 -- the window, and the requests that it holds
 pub record IsWindowSound (w : Arrived) (count taken : ℕ) (conns : List (ℕ × ℕ)) : Type 0 where
@@ -51,11 +35,6 @@ pub record AreFunctionsSound (taken : ℕ) (conns : List (ℕ × ℕ)) (waiting 
   pub may : list_all (λ w. may_wait w.request) waiting ≡ true  -- is one that may wait
   pub few : (cid : ℕ) → waiting_in waiting cid ≤ 4  -- and is one of few on its connection
 
--- the functions that wait, as their list keeps them
-pub record IsWaitlistSound (functions : List Waiting) (next_turn : ℕ) : Type 0 where
-  pub none_before : All (λ w. next_turn ≤ w.turn) functions  -- none waits for a turn below the next one
-  pub in_order : AllPairs (λ a b. a.event < b.event) functions  -- each arrived after those before it
-
 -- the containers' rooms, by the numbers of places and connections
 pub record HasRooms (places conns live_room waiting_room left_room : ℕ) : Type 0 where
   pub live : places + 8 * conns ≤ live_room  -- for a command at each place, and the immediate ones of each connection
@@ -69,11 +48,12 @@ pub record IsWithinLimits (count most cids sets : ℕ) : Type 0 where
   pub conns : cids ≤ 64
   pub units : sets ≤ 256
 
--- what holds of every session
-pub record IsSessionSound (s : Inner) : Type 0 where
+-- what holds of every session, with the count of immediate commands of each connection, and how many elements the containers
+-- have memory for
+pub record IsSessionSound (s : Core) (immediate : List ℕ) (live_room waiting_room left_room : ℕ) : Type 0 where
   pub window : IsWindowSound s.window s.entered s.taken s.conns
-  pub commands : AreCommandsSound s.window.unfinished s.entered s.conns s.immediate s.sets s.live
+  pub commands : AreCommandsSound s.window.unfinished s.entered s.conns immediate s.sets s.live
   pub functions : AreFunctionsSound s.taken s.conns s.waiting
-  pub sets : AreRoomy s.depth s.live_room s.sets
-  pub rooms : HasRooms (length s.window.places) (length s.conns) s.live_room s.waiting_room s.left_room
+  pub sets : AreRoomy s.depth live_room s.sets
+  pub rooms : HasRooms (length s.window.places) (length s.conns) live_room waiting_room left_room
   pub limits : IsWithinLimits s.taken s.events (length s.conns) (length s.sets)

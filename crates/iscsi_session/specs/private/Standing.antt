@@ -59,9 +59,11 @@ kept c = record { ticket = c.ticket; unit = c.unit; conn = connection_of c.arriv
 abbrev pub are_known : List Live → List (ℕ × ℕ) → Bool
 are_known lives conns = list_all (λ l. is_known l.conn conns) lives
 
--- the request is numbered, and came on a connection of the session
-abbrev pub is_regular_request : Setting → Request → Bool
-is_regular_request o r = not (is_immediate r) && is_known (connection_of r) o.conns
+-- a request of this number came on a connection of the session, and carries the number
+pub record IsRegularRequest (o : Setting) (n : ℕ) (r : Request) : Type 0 where
+  pub numbered : is_immediate r ≡ false
+  pub known : is_known (connection_of r) o.conns ≡ true
+  pub shows : wire (cmd_sn r) ≡ wire n
 
 -- the command is in a unit of the session, and came on one of its connections
 abbrev pub is_regular : Setting → Command → Bool
@@ -125,9 +127,7 @@ pub record WindowAgrees (o : Setting) (w : Arrived) (t : Trace) : Type 0 where
   pub undelivered : (n : ℕ) → number_expected w ≤ n → is_delivered t n ≡ false
   -- what was taken out was received
   pub unemptied : (n : ℕ) → is_received t n ≡ false → is_emptied t n ≡ false
-  pub requests : (n : ℕ) (a : Arrival) → admitted t n ≡ Some a → is_regular_request o a.request ≡ true
-  -- an admitted request carries its number
-  pub numbers : (n : ℕ) (a : Arrival) → admitted t n ≡ Some a → wire (cmd_sn a.request) ≡ wire n
+  pub requests : (n : ℕ) (a : Arrival) → admitted t n ≡ Some a → IsRegularRequest o n a.request
   pub delivered : shown delivers t ≡ executed_below o t (number_expected w)
   -- a live numbered command takes a place at the window's end
   pub few : w.unfinished ≤ length w.places
@@ -167,18 +167,22 @@ pub record SetsAgree (o : Setting) (sets : List Members) (t : Trace) : Type 0 wh
   pub units : length sets ≡ o.units
   pub lists : (unit : ℕ) → unit < o.units → (slice_index_or sets unit (opened 0)).list ≡ set_of o t unit
 
-pub record Agrees (o : Setting) (s : Core) (t : Trace) : Type 0 where
+-- its commands, and what its options fix
+pub record Lasting (o : Setting) (s : Core) (t : Trace) : Type 0 where
   pub events : s.events ≡ o.events
-  pub window : WindowAgrees o s.window t
-  pub replies : RepliesAgree o s.conns t
+  pub depth : s.depth ≡ o.depth
+  pub level : s.level ≡ o.level
   pub commands : CommandsAgree o s.live s.entered t
   pub sets : SetsAgree o s.sets t
-  pub depth : s.depth ≡ o.depth
   pub unfinished : s.window.unfinished ≡ unfinished t
   pub enabled : EnabledSoFar o t  -- what was given is what the rule enables
-  pub level : s.level ≡ o.level
-  pub waiting : WaitingAgrees o s.waiting t
   pub open_conns : s.open_conns ≡ open_of o t
+
+pub record Agrees (o : Setting) (s : Core) (t : Trace) : Type 0 where
+  pub lasts : Lasting o s t
+  pub window : WindowAgrees o s.window t
+  pub replies : RepliesAgree o s.conns t
+  pub waiting : WaitingAgrees o s.waiting t
 
 -- and nothing is due
 pub record Settled (o : Setting) (s : Core) (t : Trace) : Type 0 where

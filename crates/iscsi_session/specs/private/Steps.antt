@@ -7,7 +7,7 @@ use Rattle.iscsi_wire.specs.declared.reply.Reply.TheVariants.{Scsi}
 use Rattle.iscsi_wire.specs.Serial.{wire, lift, number_of_first}
 use Rattle.iscsi_wire.specs.Fields.{connection_of, is_immediate, cmd_sn, attr_code, itt}
 use Rattle.iscsi_window.specs.declared.held_request.HeldRequest.{HeldRequest}
-use Rattle.iscsi_window.specs.Windows.{Arrived, number_expected, number_last, offered_in, with_unfinished, place_in, is_received_at, voided, emptied, is_asked, holds_from}
+use Rattle.iscsi_window.specs.Windows.{Arrived, number_expected, number_last, offered_in, with_unfinished, place_in, is_received_at, voided, is_asked, holds_from}
 use Rattle.iscsi_tasks.specs.declared.task.Task.{Task}
 use Rattle.iscsi_tasks.specs.declared.member.Member.{Member}
 use Rattle.iscsi_tasks.specs.declared.cover.Cover.{Cover}
@@ -24,8 +24,7 @@ use Rattle.iscsi_rules.specs.declared.effect.Effect.TheVariants.{Enter, Enable, 
 use Rattle.iscsi_rules.specs.declared.effect.Numbers.{Numbers}
 use Rattle.iscsi_rules.specs.declared.event.Event.{Event}
 use Rattle.iscsi_rules.specs.declared.event.Event.TheVariants.{Arrive, Done}
-use Rattle.iscsi_rules.specs.declared.deed.Answer.{Answer}
-use Rattle.iscsi_rules.specs.declared.deed.Answer.TheVariants.{Respond, LogOut}
+use Rattle.iscsi_rules.specs.declared.deed.Answer.TheVariants.{LogOut}
 use Rattle.iscsi_rules.specs.rules.Settings.{Setting, is_known}
 use Rattle.iscsi_rules.specs.rules.Trace.{Mark, Trace, after_items, received}
 use Rattle.iscsi_rules.specs.rules.Run.{effects_of}
@@ -67,36 +66,32 @@ and_then x next = record { core = (next x.core).core; effects = x.effects ++ (ne
 abbrev pub after_effect : Effect → Step → Step
 after_effect e x = record { core = x.core; effects = e ∷ x.effects }
 
--- these effects were appended to what stood there before, and there is as much room as before
-pub record Appends {S : Type 0} (has : S → List ℕ → List Effect → Type 0) (capacity : S → ℕ) (effects : List Effect) (out out' : S) : Type 0 where
-  pub items : (text : List ℕ) (es : List Effect) → has out text es → has out' text (es ++ effects)
-  pub room : capacity out' ≡ capacity out
+-- these effects were appended to what stood there before
+abbrev pub Appends : {S : Type 0} → (S → List ℕ → List Effect → Type 0) → List Effect → S → S → Type 0
+Appends has effects out out' = (text : List ℕ) (es : List Effect) → has out text es → has out' text (es ++ effects)
 
--- the step was taken
+-- the step was taken, and there is as much room as before
 pub record Takes {S : Type 0} (has : S → List ℕ → List Effect → Type 0) (capacity : S → ℕ) (step : Step) (now : Core) (out out' : S) : Type 0 where
   pub core : now ≡ step.core
-  pub effects : (text : List ℕ) (es : List Effect) → has out text es → has out' text (es ++ step.effects)
+  pub effects : Appends has step.effects out out'
   pub room : capacity out' ≡ capacity out
 
 -- of these effects some were appended, and the rest is still to be
 pub record Continues {S : Type 0} (has : S → List ℕ → List Effect → Type 0) (whole rest : List Effect) (out out' : S) : Type 0 where
   pub done : List Effect
-  pub effects : (text : List ℕ) (es : List Effect) → has out text es → has out' text (es ++ done)
+  pub effects : Appends has done out out'
   pub both : done ++ rest ≡ whole
 
 -- what some items lead to: their effects were appended
 pub record Runs {S : Type 0} (has : S → List ℕ → List Effect → Type 0) (o : Setting) (t : Trace) (items : List (List Mark)) (s : Core) (out out' : S) : Type 0 where
   pub agrees : Agrees o s (after_items items t)
-  pub effects : (text : List ℕ) (es : List Effect) → has out text es → has out' text (es ++ effects_of o t items)
+  pub effects : Appends has (effects_of o t items) out out'
 
 -- and nothing is due any more. So many numbers may be received by them
 pub record Handles {S : Type 0} (has : S → List ℕ → List Effect → Type 0) (o : Setting) (t : Trace) (items : List (List Mark)) (Receives : List ℕ → List ℕ → Type 0) (s : Core) (out out' : S) : Type 0 where
   pub settled : Settled o s (after_items items t)
-  pub effects : (text : List ℕ) (es : List Effect) → has out text es → has out' text (es ++ effects_of o t items)
+  pub effects : Appends has (effects_of o t items) out out'
   pub receives : Receives (received t) (received (after_items items t))
-
-abbrev pub HasNoMore : List ℕ → List ℕ → Type 0
-HasNoMore ns ns' = ns' ≡ ns
 
 -- ---- task sets
 
@@ -169,9 +164,6 @@ with_offered s r = record s { window = offered_in s.window r (s.taken - 1) }
 -- a reply goes out on a connection
 abbrev pub replied : Core → ℕ → Reply → Step
 replied s conn reply = record { core = record s { conns = count_reply conn s.conns }; effects = Send conn (stat_sn_on conn s.conns) reply ∷ [] }
-
-abbrev pub request_answered : Core → Request → Answer → Step
-request_answered s r answer = replied s (connection_of r) (reply_of r answer)
 
 -- ---- a command enters
 
@@ -264,11 +256,6 @@ abbrev pub covers_by : Leaving → Task → Bool
 covers_by (One ticket) = covers_ticket ticket
 covers_by (Covered cover) = is_covered cover
 
--- the sets, once this command left its own, if there is one
-abbrev pub sets_left : List Members → Option Live → List Members
-sets_left sets None = sets
-sets_left sets (Some l) = slice_set sets l.unit (set_staying (covers_ticket l.ticket) (slice_index_or sets l.unit (opened_set 0)))
-
 -- some command of the set is covered
 abbrev pub has_covered : (Task → Bool) → Members → Bool
 has_covered covers set = list_any (λ m. covers m.task) set.list
@@ -282,12 +269,6 @@ abbrev pub completed : Core → Option Live → ℕ → Step
 completed s None status = record { core = s; effects = Ignore Stale ∷ [] }
 completed s (Some l) status = left_answered s l.unit (covers_ticket l.ticket) l.conn (Scsi l.itt status (sense_of_status status))
 
--- ---- task management
-
--- commands leave, and the function is answered
-abbrev pub aborted : Core → Request → ℕ → (Task → Bool) → Step
-aborted s r unit covers = left_answered s unit covers (connection_of r) (reply_of r (Respond 0))
-
 -- a number is received without a request, if it wasn't received before
 abbrev pub number_voided : Core → ℕ → Step
 number_voided s w = record {
@@ -295,18 +276,11 @@ number_voided s w = record {
   effects = if is_received_at s.window (place_in s.window w) then [] else Void (wire w) ∷ [];
 }
 
--- the request that is held for this number is taken out
-abbrev pub number_emptied : Core → ℕ → Step
-number_emptied s sn = record { core = record s { window = emptied s.window sn }; effects = Empty sn ∷ [] }
-
 -- ---- a Logout: all is taken out, or what is of one connection
 
 abbrev pub cover_of : Option ℕ → Cover
 cover_of None = AllOfThem
 cover_of (Some conn) = OfConn conn
-
-abbrev pub covers_of : Option ℕ → Task → Bool
-covers_of scope = is_covered (cover_of scope)
 
 abbrev pub emptied_place : Option ℕ → Option (Option HeldRequest) → Option (Option HeldRequest)
 emptied_place scope p = if holds_from scope p then Some None else p
@@ -336,22 +310,18 @@ abbrev pub session_closes : List ℕ → List Effect
 session_closes [] = CloseSession ∷ []
 session_closes (conn ∷ conns) = []
 
-abbrev pub closing_effects : Option ℕ → List Effect
-closing_effects None = []
-closing_effects (Some conn) = CloseConn conn ∷ []
-
 abbrev pub conns_closed : Core → Option ℕ → Step
 conns_closed s scope = let left = still_open scope s.open_conns in record {
   core = record s { open_conns = left; waiting = waiting_then left s.waiting };
-  effects = closing_effects scope ++ session_closes left;
+  effects = elim scope [ Some conn ↦ CloseConn conn ∷ [] | None ↦ [] ] ++ session_closes left;
 }
 
 -- what is live, is held or waits is taken out, the request is answered, and the connection or the session is closed
 abbrev pub logged_out : Core → Request → Option ℕ → Step
 logged_out s r scope =
-    and_then (all_commands_left s (units_of s) (covers_of scope)) (λ s'.
+    and_then (all_commands_left s (units_of s) (is_covered (cover_of scope))) (λ s'.
     and_then (all_emptied s' scope) (λ s'.
-    and_then (request_answered (record s' { waiting = filter (λ w. not (is_asked scope (connection_of w.request))) s'.waiting }) r (LogOut 0)) (λ s'.
+    and_then (replied (record s' { waiting = filter (λ w. not (is_asked scope (connection_of w.request))) s'.waiting }) (connection_of r) (reply_of r (LogOut 0))) (λ s'.
     and_then (conns_closed s' scope) all_told)))
 
 -- ---- how many effects may be to come

@@ -12,7 +12,7 @@ ghost use Rattle.iscsi_rules.specs.rules.Execution.{exp_of};
 ghost use Rattle.iscsi_rules.specs.rules.Agenda.{arrival, arrival_open, arrival_of, numbered};
 ghost use Rattle.iscsi_rules.specs.rules.Items.{agenda, functions_at};
 ghost use Rattle.iscsi_session.specs.private.Standing.{Agrees, Settled, is_held};
-ghost use Rattle.iscsi_session.specs.private.Steps.{KeepsPace, after_effect, Takes, Runs, Handles, HasNoMore, with_offered, owed};
+ghost use Rattle.iscsi_session.specs.private.Steps.{KeepsPace, after_effect, Takes, Runs, Handles, with_offered, owed};
 ghost use Rattle.iscsi_session.specs.private.Deeds.{executed, turn_taken, comes_next};
 
 use crate::kind::kind_of;
@@ -169,7 +169,7 @@ impl Session {
             + 6 * (count_by is_held self.old.window.places + length self.old.waiting) ≤ S.capacity out.old }
         ensures items { (o : Setting) (t : Trace) → Agrees o self.old t →
             Handles S.has o t (agenda o (number_expected self.old.window) (exp_of o t - number_expected self.old.window) t)
-            HasNoMore self.new out.old out.new }
+            (λ ns ns'. ns' ≡ ns) self.new out.old out.new }
         ensures taken { self.new.taken ≡ self.old.taken }
         ensures pace { KeepsPace self.old.window self.new.window }
         ensures spent { S.len out.new ≤ S.len out.old + owed self.old.live self.old.sets

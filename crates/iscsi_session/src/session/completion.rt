@@ -1,10 +1,11 @@
 //! The completion of a command by its unit.
 
-ghost use Rattle.std.specs.Prelude.{IfSome, MatchOption, ℕ, ◌≡◌, ◌==◌, ◌&&◌, ◌+◌, ◌<◌, ◌≤◌, true, false, if◌then◌else◌, length, nat_lt, vec_len, vec_capacity};
+ghost use Rattle.std.specs.Prelude.{IfSome, MatchOption, ℕ, ◌≡◌, ◌==◌, ◌&&◌, ◌+◌, ◌<◌, ◌≤◌, true, false, if◌then◌else◌, length, nat_lt, slice_index_or, slice_set, vec_len, vec_capacity};
 ghost use Rattle.std.specs.List.{list_all};
 ghost use Rattle.iscsi_rules.specs.rules.Settings.{is_known as known_in};
+ghost use Rattle.iscsi_tasks.specs.Sets.{opened};
 ghost use Rattle.iscsi_rules.specs.rules.Execution.{sense_of_status};
-ghost use Rattle.iscsi_session.specs.private.Steps.{counted_on, unchanged, Takes, enabled_in, finished, commands_left, covers_ticket, sets_left, completed, owed};
+ghost use Rattle.iscsi_session.specs.private.Steps.{counted_on, unchanged, Takes, enabled_in, finished, commands_left, set_staying, covers_ticket, completed, owed};
 
 use crate::session::Session;
 use crate::session::leaving::end_command;
@@ -81,7 +82,8 @@ impl Session {
 fn take_enabled(sets: &mut [LinkedTaskSet], live: &LiveCommands, ticket: u64) -> Option<Live>
     requires units { list_all (λ l. nat_lt l.unit (length sets.old)) live.now.items ≡ true }
     ensures command { result ≡ enabled_in sets.old live.now.items ticket }
-    ensures sets { sets.new ≡ sets_left sets.old result }
+    ensures sets { MatchOption result (sets.new ≡ sets.old) (λ l. sets.new ≡ slice_set sets.old l.unit
+        (set_staying (covers_ticket l.ticket) (slice_index_or sets.old l.unit (opened 0)))) }
 {
     let Placed { command, slot } = live.find_placed(ticket)?;
     let set = &mut sets[usize::from(command.unit)];

@@ -8,7 +8,7 @@ ghost use Rattle.iscsi_rules.specs.declared.effect.Effect.{Effect};
 ghost use Rattle.iscsi_rules.specs.rules.Settings.{is_known as known_in};
 ghost use Rattle.iscsi_rules.specs.rules.Execution.{MOST_IMMEDIATE, attr_of as attr_named, reply_of};
 ghost use Rattle.iscsi_session.specs.private.Standing.{is_held};
-ghost use Rattle.iscsi_session.specs.private.Steps.{counted_on, after_effect, Takes, set_at, is_tag_kept, is_set_full, immediate_in, replied, request_answered, number_by, event_by, started, command_entered, owed};
+ghost use Rattle.iscsi_session.specs.private.Steps.{counted_on, after_effect, Takes, set_at, is_tag_kept, is_set_full, immediate_in, replied, number_by, event_by, started, command_entered, owed};
 ghost use Rattle.iscsi_session.specs.private.Deeds.{Fits, IsReady, most_emptied, deed_by, position_by, carried, executed};
 
 use crate::session::leaving::Leaving;
@@ -57,7 +57,7 @@ impl Session {
     /// Rejects a request for its opcode.
     pub(crate) fn reject_opcode<S: EffectSink>(&mut self, request: &Request, out: &mut S)
         requires room { S.len out.old + 1 ≤ S.capacity out.old }
-        ensures done { Takes S.has S.capacity (request_answered self.old request.now (Answer.Reject 5)) self.new out.old out.new }
+        ensures done { Takes S.has S.capacity (replied self.old (connection_of request.now) (reply_of request.now (Answer.Reject 5))) self.new out.old out.new }
         ensures len { S.len out.new ≤ S.len out.old + 1 }
     {
         let answer = Answer::Reject(RejectReason::NotSupported.code());
@@ -180,7 +180,7 @@ impl Session {
     #[inline(always)]
     pub(crate) fn answer<S: EffectSink>(&mut self, request: &Request, answer: Answer, out: &mut S)
         requires room { S.len out.old + 1 ≤ S.capacity out.old }
-        ensures done { Takes S.has S.capacity (request_answered self.old request.now answer) self.new out.old out.new }
+        ensures done { Takes S.has S.capacity (replied self.old (connection_of request.now) (reply_of request.now answer)) self.new out.old out.new }
         ensures len { S.len out.new ≤ S.len out.old + 1 }
     {
         match answer {
@@ -193,7 +193,7 @@ impl Session {
     #[inline(never)]
     fn respond<S: EffectSink>(&mut self, request: &Request, response: u8, out: &mut S)
         requires room { S.len out.old + 1 ≤ S.capacity out.old }
-        ensures done { Takes S.has S.capacity (request_answered self.old request.now (Answer.Respond response)) self.new out.old out.new }
+        ensures done { Takes S.has S.capacity (replied self.old (connection_of request.now) (reply_of request.now (Answer.Respond response))) self.new out.old out.new }
         ensures len { S.len out.new ≤ S.len out.old + 1 }
     {
         let itt = request.itt();
@@ -204,7 +204,7 @@ impl Session {
     #[inline(never)]
     fn answer_otherwise<S: EffectSink>(&mut self, request: &Request, answer: Answer, out: &mut S)
         requires room { S.len out.old + 1 ≤ S.capacity out.old }
-        ensures done { Takes S.has S.capacity (request_answered self.old request.now answer) self.new out.old out.new }
+        ensures done { Takes S.has S.capacity (replied self.old (connection_of request.now) (reply_of request.now answer)) self.new out.old out.new }
         ensures len { S.len out.new ≤ S.len out.old + 1 }
     {
         self.reply(request.conn(), reply_to(request, answer), out);

@@ -134,7 +134,8 @@ fn end_all<S: EffectSink>(
     ensures connections { connections.new ≡ record connections.old { immediate = connections.new.immediate } }
     ensures counted { AreCounted connections.new.immediate connections.old.conns live.new.items }
     ensures live_capacity { live.new.room ≡ live.old.room }
-    ensures effects { Appends S.has S.capacity (leave_each unit tickets.now) out.old out.new }
+    ensures effects { Appends S.has (leave_each unit tickets.now) out.old out.new }
+    ensures capacity { S.capacity out.new ≡ S.capacity out.old }
     ensures spent { S.len out.new + length live.new.items ≤ S.len out.old + length live.old.items }
 {
     for k in 0..tickets.len() {

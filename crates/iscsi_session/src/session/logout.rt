@@ -3,8 +3,9 @@
 ghost use Rattle.std.specs.Prelude.{not, filter, ◌≡◌, ◌+◌, ◌≤◌, ◌<◌, ◌++◌, length, true, count_by, vec_len, vec_capacity};
 ghost use Rattle.iscsi_wire.specs.Fields.{connection_of};
 ghost use Rattle.iscsi_window.specs.Windows.{is_asked};
+ghost use Rattle.iscsi_tasks.specs.Sets.{is_covered};
 ghost use Rattle.iscsi_session.specs.private.Standing.{is_held};
-ghost use Rattle.iscsi_session.specs.private.Steps.{Continues, is_among_open, Takes, units_of, all_told, all_commands_left, cover_of as cover_named, covers_of, is_clear_below, all_emptied, waiting_then, session_closes, conns_closed, logged_out, owed};
+ghost use Rattle.iscsi_session.specs.private.Steps.{Continues, is_among_open, Takes, units_of, all_told, all_commands_left, cover_of as cover_named, is_clear_below, all_emptied, waiting_then, session_closes, conns_closed, logged_out, owed};
 
 use crate::session::Session;
 use crate::session::leaving::Leaving;
@@ -49,7 +50,7 @@ impl Session {
     /// The live commands of a connection, or of all for None, leave: units ascending, the oldest first.
     fn leave_all<S: EffectSink>(&mut self, scope: Option<u16>, out: &mut S)
         requires room { S.len out.old + owed self.old.live self.old.sets ≤ S.capacity out.old }
-        ensures done { Takes S.has S.capacity (all_commands_left self.old (units_of self.old) (covers_of scope)) self.new out.old
+        ensures done { Takes S.has S.capacity (all_commands_left self.old (units_of self.old) (is_covered (cover_named scope))) self.new out.old
             out.new }
         ensures spent { S.len out.new + owed self.new.live self.new.sets ≤ S.len out.old
             + owed self.old.live self.old.sets }

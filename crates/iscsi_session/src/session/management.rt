@@ -1,13 +1,15 @@
 //! Task management (RFC 7143 sections 4.2.3 and 11.5, SAM-5 section 7).
 
-ghost use Rattle.std.specs.Prelude.{◌-◌, ◌≡◌, ◌+◌, ◌*◌, ◌≤◌, ◌<◌, true, false, length, nat_lt, count_by, is_some, vec_len, vec_capacity, if◌then◌else◌};
+ghost use Rattle.std.specs.Prelude.{[], ◌∷◌, ◌-◌, ◌≡◌, ◌+◌, ◌*◌, ◌≤◌, ◌<◌, true, false, length, nat_lt, count_by, is_some, vec_len, vec_capacity, if◌then◌else◌};
 ghost use Rattle.std.specs.List.{list_all};
 ghost use Rattle.iscsi_wire.specs.Fields.{connection_of, is_immediate};
-ghost use Rattle.iscsi_window.specs.Windows.{IsInside, place_in, held_at};
+ghost use Rattle.iscsi_window.specs.Windows.{IsInside, place_in, held_at, emptied};
+ghost use Rattle.iscsi_rules.specs.declared.effect.Effect.{Effect};
 ghost use Rattle.iscsi_rules.specs.rules.Settings.{is_known as known_in};
+ghost use Rattle.iscsi_rules.specs.rules.Execution.{reply_of};
 ghost use Rattle.iscsi_session.specs.private.Standing.{is_held};
-ghost use Rattle.iscsi_session.specs.private.Steps.{KeepsPace, Takes, covers_by, aborted, number_voided, number_emptied, owed};
-ghost use Rattle.iscsi_session.specs.private.Deeds.{arrival_by, Fits, IsReady, most_emptied, next_waiting, function_taken, done_at_once, immediate_taken};
+ghost use Rattle.iscsi_session.specs.private.Steps.{KeepsPace, after_effect, Takes, covers_by, left_answered, number_voided, owed};
+ghost use Rattle.iscsi_session.specs.private.Deeds.{arrival_by, Fits, IsReady, most_emptied, next_waiting, position_by, carried, function_taken, immediate_taken};
 
 use crate::session::Session;
 use crate::session::leaving::Leaving;
@@ -52,7 +54,8 @@ impl Session {
         requires taken { 0 < self.old.taken }
         requires room { S.len out.old + owed self.old.live self.old.sets + most_emptied self.old deed + 5
             ≤ S.capacity out.old }
-        ensures done { Takes S.has S.capacity (done_at_once self.old request.now deed) self.new out.old out.new }
+        ensures done { Takes S.has S.capacity (after_effect (Effect.Immediate request.now) (carried self.old request.now
+            (position_by self.old request.now) (self.old.taken - 1) deed)) self.new out.old out.new }
         ensures spent { S.len out.new + owed self.new.live self.new.sets + count_by is_held self.new.window.places
             ≤ S.len out.old + owed self.old.live self.old.sets + count_by is_held self.old.window.places + 5 }
     {
@@ -115,7 +118,8 @@ impl Session {
     )
         requires unit { unit < length self.old.sets }
         requires room { S.len out.old + owed self.old.live self.old.sets + 1 ≤ S.capacity out.old }
-        ensures done { Takes S.has S.capacity (aborted self.old request.now unit (covers_by leaving)) self.new out.old out.new }
+        ensures done { Takes S.has S.capacity (left_answered self.old unit (covers_by leaving) (connection_of request.now)
+            (reply_of request.now (Answer.Respond 0))) self.new out.old out.new }
         ensures spent { S.len out.new + owed self.new.live self.new.sets ≤ S.len out.old
             + owed self.old.live self.old.sets + 1 }
     {
@@ -128,7 +132,7 @@ impl Session {
     #[inline(never)]
     pub(crate) fn empty_number<S: EffectSink>(&mut self, sn: u32, out: &mut S)
         requires room { S.len out.old + 1 ≤ S.capacity out.old }
-        ensures done { Takes S.has S.capacity (number_emptied self.old sn) self.new out.old out.new }
+        ensures done { Takes S.has S.capacity (record { core = record self.old { window = emptied self.old.window sn }; effects = Effect.Empty sn ∷ [] }) self.new out.old out.new }
         ensures len { S.len out.new ≤ S.len out.old + 1 }
         ensures held { count_by is_held self.new.window.places
             + (if is_some (held_at self.old.window (place_in self.old.window sn)) then 1 else 0)

@@ -59,8 +59,9 @@ pub(crate) fn enter<S: EffectSink>(
     requires room { S.len out.old + 1 ≤ S.capacity out.old }
     ensures sets { sets.new ≡ slice_set sets.old unit
         (given_by (entered_to (slice_index_or sets.old unit (opened 0)) task)) }
-    ensures effects { Appends S.has S.capacity (enable_effect unit
+    ensures effects { Appends S.has (enable_effect unit
         (next_in (entered_to (slice_index_or sets.old unit (opened 0)) task).list)) out.old out.new }
+    ensures capacity { S.capacity out.new ≡ S.capacity out.old }
     ensures spent { S.len out.new ≤ S.len out.old + 1 }
 {
     let set = &mut sets[usize::from(unit)];
@@ -78,7 +79,8 @@ pub(crate) fn announce<S: EffectSink>(sets: &mut [LinkedTaskSet], unit: u16, out
     requires room { S.len out.old + count_by is_new (slice_index_or sets.old unit (opened 0)).list
         ≤ S.capacity out.old }
     ensures sets { sets.new ≡ slice_set sets.old unit (all_given (slice_index_or sets.old unit (opened 0))) }
-    ensures effects { Appends S.has S.capacity (enable_effects unit (slice_index_or sets.old unit (opened 0)).list) out.old out.new }
+    ensures effects { Appends S.has (enable_effects unit (slice_index_or sets.old unit (opened 0)).list) out.old out.new }
+    ensures capacity { S.capacity out.new ≡ S.capacity out.old }
     ensures spent { S.len out.new ≤ S.len out.old + count_by is_new (slice_index_or sets.old unit (opened 0)).list }
 {
     let set = &mut sets[usize::from(unit)];
@@ -91,7 +93,8 @@ pub(crate) fn announce<S: EffectSink>(sets: &mut [LinkedTaskSet], unit: u16, out
 fn enable_new<S: EffectSink>(set: &mut LinkedTaskSet, unit: u16, out: &mut S)
     requires room { S.len out.old + count_by is_new set.old.list ≤ S.capacity out.old }
     ensures set { set.new ≡ all_given set.old }
-    ensures effects { Appends S.has S.capacity (enable_effects unit set.old.list) out.old out.new }
+    ensures effects { Appends S.has (enable_effects unit set.old.list) out.old out.new }
+    ensures capacity { S.capacity out.new ≡ S.capacity out.old }
     ensures spent { S.len out.new ≤ S.len out.old + count_by is_new set.old.list }
 {
     while let Some(ticket) = set.next_new() {

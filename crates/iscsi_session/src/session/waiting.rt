@@ -43,13 +43,16 @@ impl Model for Waitlist {
     ghost use Rattle.std.specs.VecDeque.{deque_capacity};
     ghost use Rattle.iscsi_slots.specs.Queued.{Queued, queued};
     ghost use Rattle.iscsi_session.specs.declared.session.waiting.Waiting.{Waiting};
-    ghost use Rattle.iscsi_session.specs.private.Invariant.{IsWaitlistSound};
+    ghost use Rattle.std.specs.Prelude.{◌≤◌, ◌<◌, All};
+    ghost use Rattle.std.specs.List.{AllPairs};
 
     ghost Value = { Queued Waiting };
 
     ghost view = { λ w. queued w.functions.items (deque_capacity w.functions) };
 
-    ghost invariant = { λ w. IsWaitlistSound w.functions.items w.next_turn };
+    // None waits for a turn below the next one, and each arrived after those before it.
+    ghost invariant = { λ w. All (λ f. w.next_turn ≤ f.turn) w.functions.items
+        × AllPairs (λ f g. f.event < g.event) w.functions.items };
 }
 
 impl Waitlist {

@@ -16,7 +16,7 @@ use Rattle.iscsi_rules.proofs.general.PlaceLemmas.{all_none}
 use Rattle.std.proofs.lemmas.List.{length-replicate as so_many}
 
 -- a session that was opened is sound
-opened_sound : (first size events units depth room live_room waiting_room left_room : ℕ) (conns : List (ℕ × ℕ)) → size ≤ 1024 → ((n : ℕ) → n < depth → n < live_room → n < room) → HasRooms size (length conns) live_room waiting_room left_room → IsWithinLimits 0 events (length conns) units
+opened_sound : (first size events units depth level room live_room waiting_room left_room : ℕ) (conns : List (ℕ × ℕ)) (open_conns : List ℕ) → size ≤ 1024 → ((n : ℕ) → n < depth → n < live_room → n < room) → HasRooms size (length conns) live_room waiting_room left_room → IsWithinLimits 0 events (length conns) units
     → IsSessionSound (record {
       window = opened first size;
       events = events;
@@ -24,15 +24,13 @@ opened_sound : (first size events units depth room live_room waiting_room left_r
       entered = 0;
       taken = 0;
       live = [];
-      immediate = replicate (length conns) 0;
       sets = replicate units (opened_set room);
       depth = depth;
+      level = level;
       waiting = [];
-      live_room = live_room;
-      waiting_room = waiting_room;
-      left_room = left_room;
-    })
-opened_sound first size events units depth room live_room waiting_room left_room conns most roomy rooms limits =
+      open_conns = open_conns;
+    }) (replicate (length conns) 0) live_room waiting_room left_room
+opened_sound first size events units depth level room live_room waiting_room left_room conns open_conns most roomy rooms limits =
     let long : length (opened {A = HeldRequest} first size).places ≡ size = so_many size None in
     let sets : length (replicate units (opened_set room)) ≡ units = so_many units (opened_set room) in
     let none = none_counted {A = Option HeldRequest} is_some size refl in
@@ -60,8 +58,8 @@ invariant_of-result c =
     let left_room : c.args.options.window + c.from.result * c.len.result ≤ vec_capacity c.in_ok-ok-3.field-0 = search rules in
     let most : c.args.options.window ≤ 1024 = search rules in
     let connections = c.requires.connections in
-    rw (is, none, c.in_ok-with_room.ensures, c.in_ok-open.ensures, ap (λ (x : Connected). x.conns) connections, ap (λ (x : Connected). x.immediate) connections)
-    (opened_sound c.args.options.first c.args.options.window c.args.options.events c.args.options.units c.args.options.depth _ _ _ _ c.args.options.conns.items most (λ n few fits. grind (arith, c.min.ensures, few, fits))
+    rw (is, none, c.in_ok-with_room.ensures, c.in_ok-open.ensures, connections)
+    (opened_sound c.args.options.first c.args.options.window c.args.options.events c.args.options.units c.args.options.depth _ _ _ _ _ c.args.options.conns.items _ most (λ n few fits. grind (arith, c.min.ensures, few, fits))
     (record {
       live = omega (arith, c.len.ensures, c.args.options.conns.ok.0, ap (λ n. n * c.len.result) c.from.ensures);
       waiting = omega (arith, c.len-2.ensures, c.args.options.conns.ok.0);

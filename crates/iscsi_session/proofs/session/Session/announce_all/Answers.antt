@@ -22,8 +22,7 @@ loop-unit-preserved over c =
     record {
       session = rw (told, given_set s.sets u) inv.session;
       told = rw told (told_more s.sets u (omega (arith, lt, inv.units)) inv.told);
-      effects = continued over.S.EffectSink.has (all_told c.args.self.now).effects (told_from s u (end - u)) (enable_effects u (set_at s u).list) (told_from c.announce_enabled.new.self (u + 1) (end - (u + 1))) c.args.out.now c.loop-unit.out c.announce_enabled.new.out inv.effects
-          (rw (range_step u end lt, told, told_later s.sets u (all_given (set_at s u)) (end - (u + 1)) (u + 1) (omega arith)) refl) c.announce_enabled.ensures.done.effects;
+      effects = continued (enable_effects u (set_at s u).list) inv.effects (rw (range_step u end lt, told, told_later s.sets u (all_given (set_at s u)) (end - (u + 1)) (u + 1) (omega arith)) refl) c.announce_enabled.ensures.done.effects;
       units = rw (told, length-set) inv.units;
       spent = omega (arith, c.announce_enabled.ensures.spent, inv.spent);
       capacity = c.announce_enabled.ensures.done.room ∙ inv.capacity;
@@ -37,6 +36,6 @@ returns-clause-done over c =
     let none : range_with_len u (end - u) ≡ [] = ap (range_with_len u) (let z : end - u ≡ 0 = omega (arith, c.loop-unit-test.false) in z) in
     record {
       core = rw (told_all c.loop-unit.self.sets (λ k lt. inv.told k (omega (arith, lt, inv.units, c.loop-unit-test.false)))) at inv.session;
-      effects = ended over.S.EffectSink.has (all_told c.args.self.now).effects (told_from c.loop-unit.self u (end - u)) c.args.out.now c.loop-unit.out inv.effects (rw none refl);
+      effects = ended inv.effects (rw none refl);
       room = inv.capacity;
     }

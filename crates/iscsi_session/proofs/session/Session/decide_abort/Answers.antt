@@ -2,7 +2,7 @@ use Rattle.std.proofs.Common.{◌≡◌, None, option_map, ap, arith}
 use Rattle.iscsi_wire.specs.Fields.{rtt}
 use Rattle.iscsi_commands.specs.declared.live.Live.{Live}
 use Rattle.iscsi_rules.specs.rules.Deeds.{of_unit}
-use Rattle.iscsi_session.specs.private.Deeds.{tagged_in, live_by, facts_by}
+use Rattle.iscsi_session.specs.private.Deeds.{tagged_in, facts_by}
 use Rattle.iscsi_session.proofs.session.Session.decide_abort.Goals as goal
 use Rattle.iscsi_session.proofs.session.Session.decide_abort.Goals.{After-find_held}
 use Rattle.std.proofs.lemmas.Bool.Decides.{nat_tests}
@@ -13,7 +13,7 @@ held_is c = grind (arith, nat_tests)
 
 untagged : (c : After-find_held) → (facts_by c.args.self.now c.args.request.now).live ≡ None
 untagged c =
-    let live : (facts_by c.args.self.now c.args.request.now).live ≡ option_map (λ (l : Live). l.ticket) (tagged_in c.args.self.now (rtt c.args.request.now) c.args.unit) = ap (λ x. of_unit x None (live_by c.args.self.now c.args.request.now)) c.requires.named in
+    let live : (facts_by c.args.self.now c.args.request.now).live ≡ option_map (λ (l : Live). l.ticket) (tagged_in c.args.self.now (rtt c.args.request.now) c.args.unit) = ap (λ x. of_unit x None (λ unit. option_map (λ (l : Live). l.ticket) (tagged_in c.args.self.now (rtt c.args.request.now) unit))) c.requires.named in
     grind (arith, nat_tests)
 
 pub returns-in-Some-find_held : goal.returns-in-Some-find_held

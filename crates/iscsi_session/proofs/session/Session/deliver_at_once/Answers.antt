@@ -4,9 +4,10 @@ use Rattle.iscsi_wire.specs.Fields.{connection_of}
 use Rattle.iscsi_window.specs.Windows.{Arrived}
 use Rattle.iscsi_rules.specs.rules.Settings.{is_known}
 use Rattle.iscsi_session.specs.contracts.session.Session.{the_view}
+use Rattle.iscsi_rules.specs.declared.effect.Effect.TheVariants.{Deliver}
 use Rattle.iscsi_session.specs.private.Standing.{Core}
-use Rattle.iscsi_session.specs.private.Steps.{Takes, with_offered}
-use Rattle.iscsi_session.specs.private.Deeds.{turn_of, turn_taken, comes_next}
+use Rattle.iscsi_session.specs.private.Steps.{Takes, after_effect, with_offered}
+use Rattle.iscsi_session.specs.private.Deeds.{turn_taken, executed, comes_next}
 use Rattle.iscsi_session.proofs.WindowLemmas.{held_now, comes_alone, Delivered, delivered, grown_sound}
 use Rattle.iscsi_session.proofs.ManageLemmas.{turned_counts}
 use Rattle.iscsi_session.proofs.SoundLemmas.{window_sound, advanced_sound}
@@ -28,7 +29,7 @@ returns-clause-done over c =
     let s : Core = the_view c.self.inside in
     let r : Request = c.args.request.now in
     subst (λ (v : Core). Takes over.S.EffectSink.has over.S.EffectSink.capacity (turn_taken (with_offered v r) (Some (Some (held_now v r)))) c.deliver.new.self c.args.out.now c.deliver.new.out) c.self.view_is
-    (subst (λ (v : Arrived). Takes over.S.EffectSink.has over.S.EffectSink.capacity (turn_of (record s { window = v }) (Some (held_now s r))) c.deliver.new.self c.args.out.now c.deliver.new.out) (c.pass.ensures.state (s.taken - 1)) c.deliver.ensures.done)
+    (subst (λ (v : Arrived). Takes over.S.EffectSink.has over.S.EffectSink.capacity (after_effect (Deliver r) (executed (record s { window = v }) r (s.taken - 1))) c.deliver.new.self c.args.out.now c.deliver.new.out) (c.pass.ensures.state (s.taken - 1)) c.deliver.ensures.done)
 
 pub deliver-requires-clause-counted : goal.deliver-requires-clause-counted
 deliver-requires-clause-counted over c = grind (arith, turned_counts c.args.request.now c.self.view_is c.requires.next c.pass.ensures.state)

@@ -2,9 +2,10 @@ use Rattle.std.proofs.Common.{◌≡◌, ◌∙◌, false, Some, ap, sym, subst,
 use Rattle.iscsi_wire.specs.Fields.{is_immediate}
 use Rattle.iscsi_window.specs.Windows.{Arrived}
 use Rattle.iscsi_session.specs.contracts.session.Session.{the_view}
+use Rattle.iscsi_rules.specs.declared.effect.Effect.TheVariants.{Deliver}
 use Rattle.iscsi_session.specs.private.Standing.{Core, is_held}
-use Rattle.iscsi_session.specs.private.Steps.{Takes}
-use Rattle.iscsi_session.specs.private.Deeds.{turn_of}
+use Rattle.iscsi_session.specs.private.Steps.{Takes, after_effect}
+use Rattle.iscsi_session.specs.private.Deeds.{executed}
 use Rattle.iscsi_rules.proofs.general.BoolLemmas.{and_first, not_true}
 use Rattle.iscsi_session.proofs.WindowLemmas.{Advanced, advanced_at}
 use Rattle.iscsi_session.proofs.DeedLemmas.{executed_counted}
@@ -24,7 +25,7 @@ pub returns-in-Some-held-clause-done : goal.returns-in-Some-held-clause-done
 returns-in-Some-held-clause-done over c =
     let s : Core = the_view c.self.inside in
     let n = turned over (goal.at.returns-in-Some-held-clause-done over c).In-Some-held in
-    rw (← c.self.view_is, n.here) (subst (λ (v : Arrived). Takes over.S.EffectSink.has over.S.EffectSink.capacity (turn_of (record s { window = v }) (Some c.in-Some-held.field-0)) c.deliver_apart.new.self c.args.out.now c.deliver_apart.new.out) c.advance.ensures.state c.deliver_apart.ensures.done)
+    rw (← c.self.view_is, n.here) (subst (λ (v : Arrived). Takes over.S.EffectSink.has over.S.EffectSink.capacity (after_effect (Deliver c.in-Some-held.field-0.request) (executed (record s { window = v }) c.in-Some-held.field-0.request c.in-Some-held.field-0.event)) c.deliver_apart.new.self c.args.out.now c.deliver_apart.new.out) c.advance.ensures.state c.deliver_apart.ensures.done)
 
 pub returns-in-Some-held-clause-spent : goal.returns-in-Some-held-clause-spent
 returns-in-Some-held-clause-spent over c =

@@ -14,7 +14,7 @@ none over c = grind (arith, nat_tests, dropped_all)
 pub returns-clause-done : goal.returns-clause-done
 returns-clause-done over c = record {
   core = rw (none over c).rest at c.loop-ahead.invariant.session;
-  effects = ended over.S.EffectSink.has (all_emptied c.args.self.now c.args.scope).effects (all_emptied c.loop-ahead.self c.args.scope).effects c.args.out.now c.loop-ahead.out c.loop-ahead.invariant.effects (none over c).effects;
+  effects = ended c.loop-ahead.invariant.effects (none over c).effects;
   room = c.loop-ahead.invariant.capacity;
 }
 
@@ -24,7 +24,7 @@ loop-ahead-preserved over c =
     let x = c.empty_at.ensures in
     record {
       session = x.session ∙ inv.session;
-      effects = joined over.S.EffectSink.has (all_emptied c.args.self.now c.args.scope).effects (all_emptied c.loop-ahead.self c.args.scope).effects (all_emptied c.empty_at.new.self c.args.scope).effects c.args.out.now c.loop-ahead.out c.empty_at.new.out inv.effects x.effects;
+      effects = joined inv.effects x.effects;
       clear = x.lowest;
       long = x.long ∙ inv.long;
       spent = omega (arith, x.spent, inv.spent);

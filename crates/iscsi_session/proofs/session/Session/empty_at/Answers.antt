@@ -43,8 +43,7 @@ returns over c =
     let t = taken over (goal.at.returns over c).In-Some in
     record {
       session = rw (← c.self.view_is, t.is, t.left.rest);
-      effects = rw (← c.self.view_is, t.is) (continued over.S.EffectSink.has (all_emptied (the_view c.self.inside) c.args.scope).effects (all_emptied (the_view c.self.inside) c.args.scope).effects (Empty c.in-Some.sn ∷ []) _ c.args.out.now c.args.out.now c.put_empty.new.self
-          (started over.S.EffectSink.has _ c.args.out.now) (t.left.effects ∙ rw t.number refl) c.put_empty.ensures.has);
+      effects = rw (← c.self.view_is, t.is) (continued (Empty c.in-Some.sn ∷ []) started (t.left.effects ∙ rw t.number refl) c.put_empty.ensures.has);
       lowest = rw t.is t.left.clear;
       long = rw (← c.self.view_is, t.is, length-set);
       spent = rw (← c.self.view_is) (omega (arith, t.left.held, ap (λ (v : Arrived). count_by is_held v.places) t.is, c.put_empty.ensures.len));

@@ -11,10 +11,11 @@ use Rattle.iscsi_tasks.specs.Sets.{Members, opened, entered_to, given_by}
 use Rattle.iscsi_commands.specs.declared.live.Live.{Live}
 use Rattle.iscsi_connections.specs.Connected.{Connected}
 use Rattle.iscsi_session.specs.private.Standing.{Core}
+use Rattle.iscsi_session.specs.private.Invariant.{IsWindowSound}
 use Rattle.iscsi_session.specs.private.Steps.{new_live, new_task, started}
 use Rattle.iscsi_session.proofs.CountLemmas.{AreCounted-entered, room_for_one}
 use Rattle.iscsi_session.proofs.KeptLemmas.{Match-entered, roomy_set, few_in}
-use Rattle.iscsi_session.proofs.SoundLemmas.{places_sound, commands_sound_on, entered_sound}
+use Rattle.iscsi_session.proofs.SoundLemmas.{places_sound, commands_sound, entered_sound}
 use Rattle.iscsi_session.proofs.session.Session.enter.Given.{Over}
 use Rattle.iscsi_session.proofs.session.Session.enter.Goals as goal
 use Rattle.iscsi_session.proofs.session.Session.enter.Goals.{After-deref_mut, After-enter-slot, After-push}
@@ -79,8 +80,9 @@ invariant_of-self over c =
     let commands = entered_sound inv.commands l (lives_are over p) next inside (rw (← c.self.view_is) at c.requires.known) (omega (arith, inv.commands.numbered, w.1.1.0)) long
     (rw now (Match-entered old c.self.inside.live.items l (new_task c.args.self.now r) inv.commands.in_sets inside refl))
     (AreCounted-entered c.self.inside.connections.immediate c.begin.new.connections.immediate conns c.self.inside.live.items l inv.commands.counted c.begin.ensures.long c.begin.ensures.counted (rw (← c.self.view_is) at c.requires.few)) in
-    commands_sound_on inv (ap (λ (x : Connected). x.conns) c.begin.ensures.connections) (places_sound inv.window w.1.0 w.0 w.1.1.1 (omega (arith, rw (← c.self.view_is) at c.requires.counted))) commands w.1.0 long
-    (rw (now, room) (roomy_set _ _ old c.args.unit _ inside inv.sets refl)) (omega (arith, room))
+    let window : IsWindowSound c.begin.new.window (c.self.inside.entered + 1) c.self.inside.taken conns = places_sound inv.window w.1.0 w.0 w.1.1.1 (omega (arith, rw (← c.self.view_is) at c.requires.counted)) in
+    let more : c.self.inside.live.room ≤ c.push.new.self.room = omega (arith, room) in
+    rw c.begin.ensures.connections (commands_sound inv window commands w.1.0 long (rw (now, room) (roomy_set _ _ old c.args.unit _ inside inv.sets refl)) more)
 
 pub returns-clause-done : goal.returns-clause-done
 returns-clause-done over c =
@@ -90,5 +92,5 @@ returns-clause-done over c =
     record {
       core = rw (sets_now over e, sets_are over e, lives_are over p, c.begin.ensures.connections, c.begin.ensures.window, ← c.self.view_is);
       effects = grind (arith, nat_tests, append_assoc);
-      room = c.enter-slot.ensures.effects.room ∙ c.put_enter.ensures.capacity;
+      room = c.enter-slot.ensures.capacity ∙ c.put_enter.ensures.capacity;
     }

@@ -6,7 +6,7 @@ use Rattle.iscsi_rules.specs.rules.Trace.{Mark, after_items}
 use Rattle.iscsi_rules.specs.rules.Run.{effects_of}
 use Rattle.iscsi_session.specs.private.Standing.{Agrees, Core}
 use Rattle.iscsi_session.specs.private.Deeds.{next_waiting, function_taken}
-use Rattle.iscsi_session.proofs.AgendaLemmas.{functions-on, functions-done}
+use Rattle.iscsi_session.proofs.AgendaLemmas.{functions-on, functions-end}
 use Rattle.iscsi_session.proofs.DeedLemmas.{function_stays, pace-function}
 use Rattle.iscsi_session.proofs.session.Session.execute_all_waiting.Goals as goal
 use Rattle.iscsi_rules.proofs.general.ListLemmas.{is_none}
@@ -19,8 +19,7 @@ loop-preserved over c =
     let x = c.execute_next_waiting.ensures.done in
     let h = function_stays s (next_waiting s) in
     record {
-      due = λ o t a. functions-on over.S.EffectSink.has over.S.EffectSink.capacity o t c.args.out.now (functions_at o (number_expected c.args.self.now.window) t) s c.execute_next_waiting.new.self c.loop.out c.execute_next_waiting.new.out (next_waiting s) refl
-          (sym c.execute_next_waiting.ensures.answer ∙ c.loop-test.true) (inv.due o t a) x;
+      due = λ o t a. functions-on (next_waiting s) refl (sym c.execute_next_waiting.ensures.answer ∙ c.loop-test.true) (inv.due o t a) x;
       places = c.execute_next_waiting.ensures.places ∙ inv.places;
       turned = ap (λ (v : Core). v.window.turned) x.core ∙ h.turned ∙ inv.turned;
       first = ap (λ (v : Core). v.window.first) x.core ∙ h.first ∙ inv.first;
@@ -32,15 +31,4 @@ loop-preserved over c =
 
 -- the last call executes none
 pub returns-clause-items : goal.returns-clause-items
-returns-clause-items over c = λ o t a.
-    let s : Core = c.loop.self in
-    let x = c.execute_next_waiting.ensures.done in
-    let none : next_waiting s ≡ None = is_none (next_waiting s) (sym c.execute_next_waiting.ensures.answer ∙ c.loop-test.false) in
-    let done = functions-done over.S.EffectSink.has o t c.args.out.now (functions_at o (number_expected c.args.self.now.window) t) s c.loop.out none (c.loop.invariant.due o t a) in
-    let core : s ≡ c.execute_next_waiting.new.self = sym (x.core ∙ ap (λ y. (function_taken s y).core) none) in
-    let whole : List (List Mark) = functions_at o (number_expected c.args.self.now.window) t in
-    record {
-      agrees = subst (λ v. Agrees o v (after_items whole t)) core done.agrees;
-      effects = λ text es was. subst (over.S.EffectSink.has c.execute_next_waiting.new.out text) (ap (λ y. (es ++ effects_of o t whole) ++ (function_taken s y).effects) none ∙ append-nil (es ++ effects_of o t whole))
-          (x.effects text (es ++ effects_of o t whole) (done.effects text es was));
-    }
+returns-clause-items over c = λ o t a. functions-end (is_none (next_waiting c.loop.self) (sym c.execute_next_waiting.ensures.answer ∙ c.loop-test.false)) (c.loop.invariant.due o t a) c.execute_next_waiting.ensures.done

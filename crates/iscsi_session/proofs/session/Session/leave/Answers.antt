@@ -44,6 +44,6 @@ returns over c =
     let covers = covers_by c.args.leaving.now in
     let d = (goal.at.returns over c).After-deref in
     record {
-      done = record { core = rw (← c.self.view_is, c.end_all.ensures.connections, window_is over c, live_are over c, sets_are over d); effects = rw (← c.self.view_is) (rw (tickets_are over d) at c.end_all.ensures.effects.items); room = c.end_all.ensures.effects.room };
+      done = record { core = rw (← c.self.view_is, c.end_all.ensures.connections, window_is over c, live_are over c, sets_are over d); effects = rw (← c.self.view_is) (rw (tickets_are over d) at c.end_all.ensures.effects); room = c.end_all.ensures.capacity };
       spent = omega (arith, c.end_all.ensures.spent, ap ungiven_in (sets_are over d), ungiven_in-staying i.sets.items c.args.unit covers (inside over (goal.at.returns over c).After-deref_mut), ap (λ (x : Core). owed x.live x.sets) c.self.view_is);
     }

@@ -1,9 +1,9 @@
-use Rattle.std.proofs.Common.{subst, ◌≡◌, ◌∙◌, ◌+◌, ◌≤◌, ◌<◌, ◌++◌, true, Some, List, length, get_or, take, drop, ap, sym, arith, length-set, ◌==◌, ◌&&◌, nat_le, nat_lt, ℕ}
+use Rattle.std.proofs.Common.{subst, ◌≡◌, ◌∙◌, ◌+◌, ◌≤◌, ◌<◌, ◌++◌, true, Some, List, length, get_or, set, take, drop, ap, sym, arith, length-set, ◌==◌, ◌&&◌, nat_le, nat_lt, ℕ}
 use Rattle.std.proofs.lemmas.Bool.{ltb-true}
 use Rattle.iscsi_tasks.specs.Sets.{Members, opened}
 use Rattle.iscsi_commands.specs.declared.live.Live.{Live}
 use Rattle.iscsi_session.specs.private.Standing.{Core}
-use Rattle.iscsi_session.specs.private.Steps.{find_ticket, without_ticket, enabled_in, staying, finished_by, covers_ticket, sets_left, has_covered, ungiven_in, owed}
+use Rattle.iscsi_session.specs.private.Steps.{find_ticket, without_ticket, enabled_in, staying, finished_by, covers_ticket, set_staying, has_covered, ungiven_in, owed}
 use Rattle.iscsi_rules.proofs.general.BoolLemmas.{and_second}
 use Rattle.iscsi_rules.proofs.general.ListLemmas.{find-passes}
 use Rattle.iscsi_rules.proofs.general.CountLemmas.{fewer}
@@ -43,7 +43,7 @@ command over c =
     }
 
 -- the sets, once the set of the unit was written
-sets_are : (over : Over) (c : In-Some over) → take c.self.inside.sets.len (c.take_enabled.new.sets ++ drop (length c.take_enabled.new.sets) c.self.inside.sets.items) ≡ sets_left c.self.inside.sets.items (Some c.in-Some.command)
+sets_are : (over : Over) (c : In-Some over) → take c.self.inside.sets.len (c.take_enabled.new.sets ++ drop (length c.take_enabled.new.sets) c.self.inside.sets.items) ≡ set c.self.inside.sets.items c.in-Some.command.unit (set_staying (covers_ticket c.in-Some.command.ticket) (get_or c.self.inside.sets.items c.in-Some.command.unit (opened 0)))
 sets_are over c = sets_written c.in-Some.command.unit c.self.inside.sets.len (covers_ticket c.in-Some.command.ticket) c.self.inside.sets.items c.take_enabled.new.sets c.self.inside.sets.ok.0 (rw (c.in-Some.is, c.deref_mut.ensures.value) at c.take_enabled.ensures.sets)
 
 live_are : (over : Over) (c : After-end_command over) → (f : Found c.self.inside.sets.items c.self.inside.live.items c.in-Some.command) → c.end_command.new.live.items ≡ staying (covers_ticket c.in-Some.command.ticket) (get_or c.self.inside.sets.items c.in-Some.command.unit (opened 0)) c.self.inside.live.items

@@ -11,27 +11,24 @@ use Rattle.iscsi_session.proofs.session.Session.receive_numbered.Goals as goal
 
 pub returns-in-Held-clause-items : goal.returns-in-Held-clause-items
 returns-in-Held-clause-items over c = λ o index t now h.
-    held_handled over.S.EffectSink.has o c.args.self.now c.offer.new.self c.run_agenda-in-Held.new.self index t c.args.request.now c.args.out.now c.run_agenda-in-Held.new.out (offered_known o c.args.self.now index t c.args.request.now h c.requires.regular c.requires.known now)
-    (sym c.offer.ensures.answer ∙ c.in-Held.is) c.offer.ensures.session c.run_agenda-in-Held.ensures.items
+    held_handled over.S.EffectSink.has o c.args.self.now c.offer.new.self c.run_agenda-in-Held.new.self index t c.args.request.now c.args.out.now c.run_agenda-in-Held.new.out (offered_known o c.args.self.now index t c.args.request.now (sym c.offer.ensures.answer ∙ c.in-Held.is) h c.requires.regular c.requires.known now) c.offer.ensures.session c.run_agenda-in-Held.ensures.items
 
 pub returns-in-Outside-clause-items : goal.returns-in-Outside-clause-items
 returns-in-Outside-clause-items over c = λ o index t now h.
-    let x = offered_known o c.args.self.now index t c.args.request.now h c.requires.regular c.requires.known now in
-    let said = sym c.offer.ensures.answer ∙ c.in-Outside.is in
-    handled over.S.EffectSink.has o _ t _ c.offer.new.self c.args.out.now c.put_ignore.new.self (x.outside said) c.offer.ensures.session c.put_ignore.ensures.has
+    let x = offered_known o c.args.self.now index t c.args.request.now (sym c.offer.ensures.answer ∙ c.in-Outside.is) h c.requires.regular c.requires.known now in
+    handled over.S.EffectSink.has o _ t _ c.offer.new.self c.args.out.now c.put_ignore.new.self x c.offer.ensures.session c.put_ignore.ensures.has
 
 pub returns-in-Duplicate-clause-items : goal.returns-in-Duplicate-clause-items
 returns-in-Duplicate-clause-items over c = λ o index t now h.
-    let x = offered_known o c.args.self.now index t c.args.request.now h c.requires.regular c.requires.known now in
-    let said = sym c.offer.ensures.answer ∙ c.in-Duplicate.is in
-    handled over.S.EffectSink.has o _ t _ c.offer.new.self c.args.out.now c.put_ignore-in-Duplicate.new.self (x.known said) c.offer.ensures.session c.put_ignore-in-Duplicate.ensures.has
+    let x = offered_known o c.args.self.now index t c.args.request.now (sym c.offer.ensures.answer ∙ c.in-Duplicate.is) h c.requires.regular c.requires.known now in
+    handled over.S.EffectSink.has o _ t _ c.offer.new.self c.args.out.now c.put_ignore-in-Duplicate.new.self x c.offer.ensures.session c.put_ignore-in-Duplicate.ensures.has
 
 pub returns-then-comes_next-clause-items : goal.returns-then-comes_next-clause-items
 returns-then-comes_next-clause-items over c = λ o index t now h.
     let s : Core = c.args.self.now in
     let r : Request = c.args.request.now in
     let next : comes_next s r ≡ true = sym c.comes_next.ensures ∙ c.if-comes_next.true in
-    held_handled over.S.EffectSink.has o s (with_offered s r) c.run_agenda.new.self index t r c.args.out.now c.run_agenda.new.out (offered_known o s index t r h c.requires.regular c.requires.known now) (comes_first s.window (held_now s r) (comes_alone s r next).1).held refl
+    held_handled over.S.EffectSink.has o s (with_offered s r) c.run_agenda.new.self index t r c.args.out.now c.run_agenda.new.out (offered_known o s index t r (comes_first s.window (held_now s r) (comes_alone s r next).1).held h c.requires.regular c.requires.known now) refl
     (carried_at_once over.S.EffectSink.has over.S.EffectSink.capacity s c.deliver_at_once.new.self c.run_agenda.new.self r c.args.out.now c.deliver_at_once.new.out c.run_agenda.new.out next c.deliver_at_once.ensures.done c.run_agenda.ensures.items)
 
 pub returns-then-comes_next-clause-taken : goal.returns-then-comes_next-clause-taken

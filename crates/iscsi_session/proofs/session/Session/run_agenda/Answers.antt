@@ -1,7 +1,7 @@
 use Rattle.std.proofs.Common.{◌∙◌, ap, sym, refl, arith, count_by}
 use Rattle.iscsi_window.specs.Windows.{at_place}
 use Rattle.iscsi_session.specs.private.Standing.{Core, is_held}
-use Rattle.iscsi_session.proofs.AgendaLemmas.{Due, whole_of, Due-start, Due-functions, turned-one, turns_done}
+use Rattle.iscsi_session.proofs.AgendaLemmas.{whole_of, left_before, begun, Leads-functions, turned-one, turns_done}
 use Rattle.iscsi_session.proofs.DeedLemmas.{same_expected, pace-turned, turned_taken}
 use Rattle.iscsi_session.proofs.session.Session.run_agenda.Goals as goal
 use Rattle.std.proofs.lemmas.Bool.Decides.{nat_tests}
@@ -13,10 +13,7 @@ loop-self-preserved over c =
     let p = at_place s.window 0 in
     let f = c.execute_waiting-in-loop-self.ensures in
     record {
-      due = λ o t out whole d.
-          let due : Due over.S.EffectSink.has o t out whole c.deliver_next.new.self c.deliver_next.new.out =
-          turned-one over.S.EffectSink.has over.S.EffectSink.capacity o t out whole s c.deliver_next.new.self c.loop-self.out c.deliver_next.new.out p refl (sym c.deliver_next.ensures.answer ∙ c.loop-self-test.true) (inv.due o t out whole d) c.deliver_next.ensures.done in
-          Due-functions over.S.EffectSink.has o t out whole c.deliver_next.new.self c.execute_waiting-in-loop-self.new.self c.deliver_next.new.out c.execute_waiting-in-loop-self.new.out due (same_expected c.deliver_next.new.self.window c.execute_waiting-in-loop-self.new.self.window f.first f.turned) f.items;
+      due = λ o t out whole d. Leads-functions (turned-one p refl (sym c.deliver_next.ensures.answer ∙ c.loop-self-test.true) (inv.due o t out whole d) c.deliver_next.ensures.done) (same_expected c.deliver_next.new.self.window c.execute_waiting-in-loop-self.new.self.window f.first f.turned) f.items;
       pace = grind (arith, nat_tests, pace-turned);
       taken = f.taken ∙ ap (λ (v : Core). v.taken) c.deliver_next.ensures.done.core ∙ turned_taken s p ∙ inv.taken;
       spent = omega (arith, c.deliver_next.ensures.spent, c.deliver_next.ensures.waiting, f.spent, ap (count_by is_held) f.places, inv.spent);
@@ -28,5 +25,5 @@ returns-clause-items over c = λ o t a.
     let s : Core = c.args.self.now in
     let f = c.execute_waiting.ensures in
     let out = c.args.out.now in
-    let start = Due-functions over.S.EffectSink.has o t out (whole_of o s t) s c.execute_waiting.new.self out c.execute_waiting.new.out (Due-start over.S.EffectSink.has o s t out a) (same_expected s.window c.execute_waiting.new.self.window f.first f.turned) f.items in
-    turns_done over.S.EffectSink.has over.S.EffectSink.capacity o t out (whole_of o s t) c.loop-self.self c.deliver_next.new.self c.loop-self.out c.deliver_next.new.out (sym c.deliver_next.ensures.answer ∙ c.loop-self-test.false) c.deliver_next.ensures.done (c.loop-self.invariant.due o t out (whole_of o s t) start)
+    let start = Leads-functions (begun over.S.EffectSink.has o s t out (left_before o t s) a) (same_expected s.window c.execute_waiting.new.self.window f.first f.turned) f.items in
+    turns_done (sym c.deliver_next.ensures.answer ∙ c.loop-self-test.false) c.deliver_next.ensures.done (c.loop-self.invariant.due o t out (whole_of o s t) start)

@@ -3,13 +3,13 @@ use Rattle.iscsi_rules.specs.rules.Settings.{Setting}
 use Rattle.iscsi_rules.specs.rules.Trace.{Trace, Mark}
 use Rattle.iscsi_session.specs.private.Standing.{is_held}
 use Rattle.iscsi_session.specs.private.Steps.{KeepsPace, owed}
-use Rattle.iscsi_session.proofs.AgendaLemmas.{DueTurn}
+use Rattle.iscsi_session.proofs.AgendaLemmas.{Leads, left_after}
 use Rattle.iscsi_session.proofs.session.Session.run_agenda.Given as goal
 
 -- what is done of the turns and what is still due are the whole
 abbrev pub invariant-loop-self : goal.invariant-loop-self
 invariant-loop-self over l = record {
-  due : (o : Setting) (t : Trace) (out : over.row.S.Denot) (whole : List (List Mark)) → DueTurn over.S.EffectSink.has o t out whole l.initial.self l.initial.out → DueTurn over.S.EffectSink.has o t out whole l.self l.out;
+  due : (o : Setting) (t : Trace) (out : over.row.S.Denot) (whole : List (List Mark)) → Leads over.S.EffectSink.has o t out whole l.initial.self l.initial.out (left_after o t l.initial.self) → Leads over.S.EffectSink.has o t out whole l.self l.out (left_after o t l.self);
   pace : KeepsPace l.initial.self.window l.self.window;
   taken : l.self.taken ≡ l.initial.self.taken;
   spent : over.S.EffectSink.len l.out + owed l.self.live l.self.sets + 6 * (count_by is_held l.self.window.places + length l.self.waiting) ≤ over.S.EffectSink.len l.initial.out + owed l.initial.self.live l.initial.self.sets + 6 * (count_by is_held l.initial.self.window.places + length l.initial.self.waiting);

@@ -3,7 +3,8 @@ use Rattle.std.proofs.lemmas.Bool.Decides.{nat_tests}
 use Rattle.std.proofs.lemmas.List.Folds.{list_all-append}
 use Rattle.iscsi_slots.specs.Queued.{Queued}
 use Rattle.iscsi_session.specs.declared.session.waiting.Waiting.{Waiting}
-use Rattle.iscsi_session.specs.private.Deeds.{FitsWait}
+use Rattle.iscsi_session.specs.private.Deeds.{Fits}
+use Rattle.iscsi_rules.specs.declared.deed.Deed.TheVariants.{Wait}
 use Rattle.iscsi_session.proofs.ManageLemmas.{Waits, waits_more}
 use Rattle.iscsi_session.proofs.SoundLemmas.{functions_sound}
 use Rattle.iscsi_session.specs.contracts.session.Session.{the_view}
@@ -11,14 +12,14 @@ use Rattle.iscsi_session.proofs.session.Session.wait.Given.{Over}
 use Rattle.iscsi_session.proofs.session.Session.wait.Goals as goal
 use Rattle.iscsi_session.proofs.session.Session.wait.Goals.{After-exp}
 
-waits_later : (over : Over) (c : After-exp over) → FitsWait (the_view c.self.inside) c.args.request.now
+waits_later : (over : Over) (c : After-exp over) → Fits (the_view c.self.inside) c.args.request.now Wait
 waits_later over c = rw (← c.self.view_is) at c.requires.later
 
 -- one function more waits
 waits_one : (over : Over) (c : After-exp over) (w : Waiting) → w.request ≡ c.args.request.now → Waits c.self.inside.connections.conns c.self.inside.waiting.items w
 waits_one over c w is =
     let functions = c.self.invariant.functions in
-    waits_more c.self.inside.connections.conns c.self.inside.waiting.items w functions.few functions.known (rw is (rw (← c.self.view_is) at c.requires.known)) (rw is (waits_later over c).few)
+    waits_more c.self.inside.connections.conns c.self.inside.waiting.items w functions.few functions.known (rw is (rw (← c.self.view_is) at c.requires.known)) (rw is (waits_later over c).2)
 
 pub push-requires-clause-room : goal.push-requires-clause-room
 push-requires-clause-room over c =
@@ -36,6 +37,6 @@ invariant_of-self over c =
     functions_sound inv (record {
       before = rw (items, list_all-append, inv.functions.before, before);
       known = rw items w.known;
-      may = rw (items, list_all-append, inv.functions.may, (waits_later over here).may);
+      may = rw (items, list_all-append, inv.functions.may, (waits_later over here).0);
       few = λ cid. rw items (w.few cid);
     }) (omega (arith, ap (λ (q : Queued Waiting). q.room) c.push.ensures))

@@ -13,7 +13,7 @@ use Rattle.iscsi_session.proofs.session.leaving.end_all.Goals as goal
 use Rattle.std.proofs.lemmas.Bool.Decides.{nat_tests}
 
 pub loop-k-init : goal.loop-k-init
-loop-k-init over c = search (rules, arith, sym (without_none c.args.live.now.items), sym (finished_none c.args.window.now c.args.live.now.items), started over.S.EffectSink.has (leave_each c.args.unit c.args.tickets.now) c.args.out.now)
+loop-k-init over c = search (rules, arith, sym (without_none c.args.live.now.items), sym (finished_none c.args.window.now c.args.live.now.items), started {has = over.S.EffectSink.has} {whole = leave_each c.args.unit c.args.tickets.now} {out = c.args.out.now})
 
 -- the command with the next ticket is still live
 still_live : (over : Over) (c : In-loop-k over) → IsSome (find_ticket (get_or c.args.tickets.now c.loop-k.k 0) c.loop-k.live.items)
@@ -46,7 +46,7 @@ loop-k-preserved over c =
       ascending = rw c.end.ensures.live (ascending-kept (λ l. not (l.ticket == ticket)) before inv.ascending);
       known = rw c.end.ensures.live (are_known-left ticket before c.args.connections.now.conns inv.known);
       live_capacity = c.end.ensures.capacity ∙ inv.live_capacity;
-      effects = continued over.S.EffectSink.has (leave_each c.args.unit tickets) (leave_each c.args.unit (drop k tickets)) (Leave ticket c.args.unit ∷ []) (leave_each c.args.unit (drop (k + 1) tickets)) c.args.out.now c.loop-k.out c.put_leave.new.self inv.effects (leave_next tickets k 0 inside c.args.unit) c.put_leave.ensures.has;
+      effects = continued (Leave ticket c.args.unit ∷ []) inv.effects (leave_next tickets k 0 inside c.args.unit) c.put_leave.ensures.has;
       spent = omega (arith, ap length c.end.ensures.live, without_shorter ticket before there, inv.spent, c.put_leave.ensures.len);
       capacity = c.put_leave.ensures.capacity ∙ inv.capacity;
     }

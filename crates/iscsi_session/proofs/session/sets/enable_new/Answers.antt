@@ -12,8 +12,7 @@ loop-ticket-preserved over c =
     let g = given_one c.args.unit c.in-Some.ticket c.loop-ticket.set.list (sym c.next_new.ensures.answer ∙ c.in-Some.is) in
     record {
       set = rw (c.next_new.ensures.state, g.same) inv.set;
-      effects = rw c.next_new.ensures.state (continued over.S.EffectSink.has (enable_effects c.args.unit c.args.set.now.list) (enable_effects c.args.unit c.loop-ticket.set.list) (Enable c.in-Some.ticket c.args.unit ∷ [])
-          (enable_effects c.args.unit (given_in c.loop-ticket.set.list)) c.args.out.now c.loop-ticket.out c.put_enable.new.self inv.effects g.effects c.put_enable.ensures.has);
+      effects = rw c.next_new.ensures.state (continued (Enable c.in-Some.ticket c.args.unit ∷ []) inv.effects g.effects c.put_enable.ensures.has);
       spent = rw c.next_new.ensures.state (omega (arith, g.fewer, c.put_enable.ensures.len, inv.spent));
       capacity = c.put_enable.ensures.capacity ∙ inv.capacity;
     }
@@ -22,7 +21,4 @@ pub returns-clause-effects : goal.returns-clause-effects
 returns-clause-effects over c =
     let inv = c.loop-ticket.invariant in
     let g = given_all c.args.unit c.loop-ticket.set.list (sym c.next_new.ensures.answer ∙ c.in_default.is) in
-    record {
-      items = ended over.S.EffectSink.has (enable_effects c.args.unit c.args.set.now.list) (enable_effects c.args.unit c.loop-ticket.set.list) c.args.out.now c.loop-ticket.out inv.effects g.effects;
-      room = inv.capacity;
-    }
+    ended inv.effects g.effects

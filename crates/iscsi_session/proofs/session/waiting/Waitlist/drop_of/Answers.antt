@@ -13,10 +13,7 @@ rest c = filter_same _ _ _ (λ x b f' k. search rules) _ _ c.retain.ensures.filt
 pub invariant_of-self : goal.invariant_of-self
 invariant_of-self c =
     let here = rest (goal.at.invariant_of-self c).After-retain in
-    record {
-      none_before = c.lowest_turn-self-inside.ensures;
-      in_order = rw here (AllPairs-filter (λ (a b : Waiting). a.event < b.event) (λ w. not (is_asked c.args.scope (connection_of w.request))) c.self.inside.functions.items c.self.invariant.in_order);
-    }
+    (c.lowest_turn-self-inside.ensures, rw here (AllPairs-filter (λ (a b : Waiting). a.event < b.event) (λ w. not (is_asked c.args.scope (connection_of w.request))) c.self.inside.functions.items c.self.invariant.1))
 
 pub returns : goal.returns
 returns c = rw (← c.self.view_is, rest (goal.at.returns c).After-retain, c.retain.ensures.capacity)

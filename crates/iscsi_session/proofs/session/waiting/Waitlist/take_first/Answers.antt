@@ -36,7 +36,7 @@ returns-in-Some-clause-rest c =
     let here = (goal.at.returns-in-Some-clause-rest c).In-Some in
     let taken : c.take_at.result ≡ Some (get_or ws c.in-Some.at some_waiting) = c.take_at.ensures.taken some_waiting (omega (arith, within here, c.self.inside.functions.ok.0)) in
     let items : c.take_at.new.waiting.items ≡ remove ws c.in-Some.at = (c.take_at.ensures.items (omega (arith, within here, c.self.inside.functions.ok.0))) in
-    let rest = remove_is (λ (w : Waiting). w.event) ws c.in-Some.at some_waiting c.self.invariant.in_order (within here) in
+    let rest = remove_is (λ (w : Waiting). w.event) ws c.in-Some.at some_waiting c.self.invariant.1 (within here) in
     rw (taken, ← c.self.view_is, items, c.take_at.ensures.capacity) (ap (λ xs. queued xs (deque_capacity c.self.inside.functions)) rest)
 
 pub returns-clause-first : goal.returns-clause-first
