@@ -25,15 +25,15 @@ use Rattle.iscsi_session.specs.declared.fault.SessionFault.{SessionFault}
 use Rattle.iscsi_session.specs.promises.Refusals.{refusal_of}
 use Rattle.iscsi_session.specs.private.Standing.{Core, kept, is_regular, IsRegularRequest, member_of, Agrees, Settled, StandsFor, arrival_waiting}
 use Rattle.iscsi_session.specs.private.Steps.{is_gone, find_ticket, comes_on, refusal_by, set_at, with_offered, enabled_of, enabled_in, covers_ticket, left_answered, completed, Step, Appends, Continues, Runs, Handles, count_reply, is_among_open, Takes, unchanged, replied}
-use Rattle.iscsi_rules.proofs.general.BoolLemmas.{and_both, not_flip}
+use Rattle.iscsi_rules.proofs.general.BoolLemmas.{not_flip}
 use Rattle.iscsi_rules.proofs.general.ListLemmas.{list_any-map, is_known-cids, filter-swap, list_all-filter, find-passes, filtered_among, is_none}
-use Rattle.iscsi_session.proofs.WindowParts.{WindowAgrees-quiet, Next, next_request, Passed, passed_at, WindowAgrees-passed, read_inside}
+use Rattle.iscsi_session.proofs.WindowParts.{WindowAgrees-quiet, Next, next_request, passed_at, WindowAgrees-passed, read_inside}
 use Rattle.iscsi_rules.proofs.promises.MomentLemmas.{enables}
 use Rattle.iscsi_session.proofs.AgreeLemmas.{find_kept, Regular, regular_parts, regular_live, settled_expected, settled_max, Stepped, Stepped-ignored, step_ignored, Agrees-admitted, known_of, Agrees-untouched, RepliesAgree-sent}
 use Rattle.iscsi_rules.proofs.traces.NewlyLemmas.{newly-untouched}
 use Rattle.iscsi_rules.proofs.general.NumberLemmas.{wire-lift}
 use Rattle.iscsi_rules.proofs.items.CommandItems.{first_passing, none_passing, ticket_alone, untouched-admits, completion_item, first_passes, quiet-completion, LeavesSome}
-use Rattle.iscsi_session.proofs.ExecutionLemmas.{covered_in, gone_tickets, Leaving, leaving-agrees, leaving-effects, Follows, turned_core, numbered_held}
+use Rattle.iscsi_session.proofs.ExecutionLemmas.{covered_in, gone_tickets, Leaving, leaving-agrees, leaving-effects, Follows, numbered_held}
 use Rattle.iscsi_tasks.specs.declared.task.Task.{Task}
 use Rattle.iscsi_wire.specs.declared.reply.Reply.{Reply}
 use Rattle.iscsi_wire.specs.declared.reply.Reply.TheVariants.{Scsi}
@@ -48,7 +48,7 @@ use Rattle.iscsi_rules.proofs.general.Missing.{expected_past}
 use Rattle.iscsi_rules.proofs.items.ReceivedItems.{turn_receives_none, function_receives_none, functions_receive_none, immediate_receives_one}
 use Rattle.iscsi_rules.proofs.traces.FlowItems.{agenda-halves, effects_of-append, same_exp, turns, turns-more}
 use Rattle.iscsi_session.proofs.SinkLemmas.{started, continued, ended}
-use Rattle.iscsi_session.proofs.WaitLemmas.{next_function, no_function}
+use Rattle.iscsi_session.proofs.ManageLemmas.{next_function, no_function}
 use Rattle.iscsi_session.proofs.FunctionLemmas.{turned-item, waited-item, immediate-item}
 use Rattle.iscsi_session.proofs.DeedLemmas.{stays_expected, executed_stays, function_stays, immediate_same}
 use Rattle.iscsi_rules.specs.declared.kind.Kind.TheVariants.{PassedOver, Unknown, Executes as ExecutesKind}
@@ -147,11 +147,6 @@ pub offered_known : (o : Setting) (s : Core) (event : ℕ) (t : Trace) (r : Requ
 offered_known o s event t r said h not_immediate known taken =
     subst (Answered o t (arrival_of o event t r) (with_offered s r)) said
     (answered o s t (arrival_of o event t r) h (ap (λ e. lift e (cmd_sn r)) (settled_expected o s t h)) (omega (arith, taken)) (record { numbered = not_immediate; known = known_of o s t _ h.agrees known; shows = rw (settled_expected o s t h, wire-lift) }))
-
--- ---- an event
-
-pub Settled-counted : (o : Setting) (s : Core) (t : Trace) → Settled o s t → Settled o (record s { taken = s.taken + 1 }) t
-Settled-counted o s t h = assumption
 
 -- ---- refusals
 
@@ -290,9 +285,9 @@ module _ {S : Type 0} {has : S → List ℕ → List Effect → Type 0} {o : Set
       let e : ℕ = number_expected s.window in
       let f : ℕ = exp_of o t₀ in
       let a = d.agrees in
-      let p : Passed s.window t = passed_at o s.window t a.window place in
-      let past : e < f = subst (λ m. e < m) (same_exp o t t₀ d.same) (expected_past o.first e t (λ k l u. a.window.below k l u) p.received_is) in
-      let turn_is : turn_at o e t ≡ [] = ap (λ y. elim y [ Some b ↦ item_of o t b ∷ [] | None ↦ [] ]) p.held_is in
+      let p = passed_at o s.window t a.window place in
+      let past : e < f = subst (λ m. e < m) (same_exp o t t₀ d.same) (expected_past o.first e t (λ k l u. a.window.below k l u) p.0) in
+      let turn_is : turn_at o e t ≡ [] = ap (λ y. elim y [ Some b ↦ item_of o t b ∷ [] | None ↦ [] ]) p.1 in
       let next : number_expected s'.window ≡ e + 1 = ap (λ (v : Core). number_expected v.window) takes.core ∙ (let z : number_expected (turned_on s.window) ≡ e + 1 = omega arith in z) in
       let now : Agrees o s' t = subst (λ v. Agrees o v t) (sym takes.core) (search (a, WindowAgrees-passed o s.window t a.window place)) in
       Leads-on (left_before o t₀ s') d [] now refl
@@ -334,7 +329,7 @@ carried_at_once has capacity s s' f r out out' out'' next x rest = λ o t a.
     let come : Delivered s.window (held_now s r) = delivered s.window (held_now s r) parts.1 in
     let none : next_waiting now ≡ None = ap (λ n. find (λ (w : Waiting). w.turn == n) s.waiting) come.grown_is.turned ∙ parts.0 in
     let due : Leads has o t out whole now out (left_after o t now) = Leads-functions (begun has o now t out (left_before o t now) a) refl (λ o t a. none_wait has o t now out none a) in
-    let d : Leads has o t out whole s' out' (left_before o t s') = turned-one (Some (Some (held_now s r))) come.first.there refl due x in
+    let d : Leads has o t out whole s' out' (left_before o t s') = turned-one (Some (Some (held_now s r))) come.there refl due x in
     let left : whole_of o s' d.trace ≡ left_before o t s' d.trace = ap (λ e. agenda o (number_expected s'.window) (e - number_expected s'.window) d.trace) (same_exp o d.trace t d.same) in
     let ends : after_items (whole_of o s' d.trace) d.trace ≡ after_items whole t = ap (λ items. after_items items d.trace) left ∙ d.after in
     let c = rest o d.trace d.agrees in

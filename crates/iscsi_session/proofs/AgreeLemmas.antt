@@ -23,14 +23,14 @@ use Rattle.std.proofs.lemmas.List.Elements.{filter-append}
 use Rattle.std.proofs.lemmas.List.Folds.{list_any-append}
 use Rattle.iscsi_commands.specs.declared.live.Live.{Live}
 use Rattle.iscsi_rules.proofs.traces.ApartLemmas.{eq_sym, unamong-filter, apart-push, apart-filter}
-use Rattle.iscsi_session.proofs.ListLemmas.{list_all-push, cids-count_reply}
+use Rattle.iscsi_session.proofs.CountLemmas.{list_all-push, cids-count_reply}
 use Rattle.iscsi_rules.proofs.items.CommandItems.{EntersOne, LeavesSome, live-left, unfinished-untouched, untouched-admits}
 use Rattle.iscsi_tasks.specs.declared.task.Task.{Task}
 use Rattle.iscsi_rules.specs.rules.Run.{newly_enabled, effects_of, numbers_of}
 use Rattle.iscsi_wire.specs.Serial.{wire}
 use Rattle.iscsi_rules.proofs.general.NumberLemmas.{wire-next}
 use Rattle.iscsi_rules.specs.promises.Enabling.{EnabledSoFar}
-use Rattle.iscsi_wire.specs.Fields.{connection_of, cmd_sn}
+use Rattle.iscsi_wire.specs.Fields.{connection_of}
 use Rattle.iscsi_window.specs.Windows.{Arrived, number_expected, room_of}
 use Rattle.iscsi_rules.specs.declared.effect.Effect.{Effect}
 use Rattle.iscsi_rules.specs.declared.effect.Why.{Why}
@@ -45,11 +45,6 @@ use Rattle.iscsi_session.proofs.WindowParts.{next_expected, WindowAgrees-quiet, 
 
 -- ---- a set, after a moment
 
--- a command's member, before the moment is noted, and after
-noted_one : (o : Setting) (t : Trace) (item : List Mark) (unit : ℕ) (c : Command) → is_here unit (live_in unit (item ∷ t)) c ≡ true
-    → (was_free c t || is_free_among (task_of o c) (map (member_of o t) (live_in unit (item ∷ t)))) ≡ was_free c (item ∷ t)
-noted_one o t item unit c here = grind (arith, nat_tests, and_parts, map-map, or_comm, eqb-true)
-
 -- a member, before the commands that became enabled are given
 abbrev noted_member : Setting → Trace → List Mark → Command → Member
 noted_member o t item c = record { task = task_of o c; enabled = was_free c (item ∷ t); given = was_free c t }
@@ -58,8 +53,9 @@ noted_member o t item c = record { task = task_of o c; enabled = was_free c (ite
 noted : (o : Setting) (t : Trace) (item : List Mark) (unit : ℕ) → after_moment (map (member_of o t) (live_in unit (item ∷ t))) ≡ map (noted_member o t item) (live_in unit (item ∷ t))
 noted o t item unit =
     let cs : List Command = live_in unit (item ∷ t) in
+    let one : (c : Command) → is_here unit cs c ≡ true → (was_free c t || is_free_among (task_of o c) (map (member_of o t) cs)) ≡ was_free c (item ∷ t) = λ c here. grind (arith, nat_tests, and_parts, map-map, or_comm, eqb-true) in
     map-map (looked_at (map (member_of o t) cs)) (member_of o t) cs
-    ∙ map_all (λ c. looked_at (map (member_of o t) cs) (member_of o t c)) (noted_member o t item) (is_here unit cs) cs (all_here unit (item ∷ t)) (λ c here. cc (noted_one o t item unit c here))
+    ∙ map_all (λ c. looked_at (map (member_of o t) cs) (member_of o t c)) (noted_member o t item) (is_here unit cs) cs (all_here unit (item ∷ t)) (λ c here. cc (one c here))
 
 -- once they are given, it is the set after the item
 pub noted_given : (o : Setting) (t : Trace) (item : List Mark) (unit : ℕ) → map as_given (after_moment (map (member_of o t) (live_in unit (item ∷ t)))) ≡ set_of o (item ∷ t) unit

@@ -1,12 +1,12 @@
 -- What a request does that executes, by what a session keeps: when it does that, and what stays as it was.
-use Rattle.std.proofs.Common.{◌≡◌, ℕ, ℤ, ◌+◌, ◌<◌, ◌≤◌, ◌==◌, ◌&&◌, not, cond, Bool, true, false, length, count_by, is_some, Option, Some, None, refl, ap, sym, ◌∙◌, arith, ◌-◌, subst, filter}
+use Rattle.std.proofs.Common.{◌≡◌, ℕ, ℤ, ◌+◌, ◌<◌, ◌≤◌, ◌==◌, ◌&&◌, not, cond, Bool, true, false, length, count_by, is_some, Option, Some, None, refl, ap, sym, ◌∙◌, arith, ◌-◌, subst, filter, List, [], ◌∷◌, map, length-set}
 use Rattle.std.proofs.lemmas.Bool.Decides.{nat_tests}
 use Rattle.std.proofs.lemmas.Int.{to_z-of_z}
 use Rattle.std.proofs.lemmas.Bool.{false≢true, cond_both}
 use Rattle.iscsi_window.specs.declared.held_request.HeldRequest.{HeldRequest}
 use Rattle.iscsi_wire.specs.declared.request.Request.{Request}
 use Rattle.iscsi_wire.specs.Fields.{connection_of, is_immediate, opcode, ref_cmd_sn}
-use Rattle.iscsi_window.specs.Windows.{HasRoom, IsInside, place_in, Arrived, number_expected, at_place, advanced, advanced_if}
+use Rattle.iscsi_window.specs.Windows.{HasRoom, IsInside, place_in, Arrived, number_expected, at_place, advanced, advanced_if, with_unfinished}
 use Rattle.iscsi_tasks.specs.declared.task.Task.{Task}
 use Rattle.iscsi_tasks.specs.declared.cover.Cover.TheVariants.{All as AllOfThem, Below}
 use Rattle.iscsi_tasks.specs.Sets.{is_covered}
@@ -20,15 +20,54 @@ use Rattle.iscsi_rules.specs.rules.Execution.{unit_named, reply_of}
 use Rattle.iscsi_rules.specs.rules.Management.{may_wait}
 use Rattle.iscsi_rules.specs.rules.Deeds.{Facts, of_unit, function_deed}
 use Rattle.iscsi_session.specs.private.Standing.{Core, is_held}
-use Rattle.iscsi_session.specs.private.Steps.{set_at, is_numbered, is_gone, covers_ticket, after_effect, left_answered, KeepsPace, completed}
+use Rattle.iscsi_session.specs.private.Steps.{set_at, is_numbered, is_gone, covers_ticket, after_effect, left_answered, KeepsPace, completed, set_staying, commands_left, all_commands_left, emptied_place, logged_out}
 use Rattle.iscsi_session.specs.private.Deeds.{refusal_by, missing_by, facts_by, deed_by, waits_by, arrival_by, Fits, IsReady, most_emptied, carried, position_by, executed, turn_taken, next_position, function_taken, immediate_taken}
 use Rattle.iscsi_rules.proofs.general.BoolLemmas.{and_first, and_second}
-use Rattle.iscsi_rules.proofs.general.ListLemmas.{fewer_counted, filter-shorter}
+use Rattle.iscsi_rules.proofs.general.ListLemmas.{fewer_counted, filter-shorter, count_by-map}
 use Rattle.iscsi_rules.proofs.items.DeedTable.{named_below, Befits, befits_function, befits_deed, through_function}
-use Rattle.iscsi_session.proofs.LoggedOutLemmas.{Stays, logged_out_parts}
 use Rattle.iscsi_session.proofs.WindowLemmas.{emptied_changes, voided_changes}
 use Rattle.iscsi_session.specs.declared.session.waiting.Waiting.{Waiting}
 use Rattle.iscsi_commands.specs.declared.live.Live.{Live}
+use Rattle.std.proofs.lemmas.List.Sums.{sum_by-cons}
+
+-- ---- what stays
+
+-- no number turns, no event is counted, no request more is held or waits, and so many commands more are unfinished at the most
+pub record Stays (more : ℕ) (s s' : Core) : Type 0 where
+  pub first : s'.window.first ≡ s.window.first
+  pub turned : s'.window.turned ≡ s.window.turned
+  pub unfinished : s'.window.unfinished ≤ s.window.unfinished + more
+  pub taken : s'.taken ≡ s.taken
+  pub held : count_by is_held s'.window.places ≤ count_by is_held s.window.places
+  pub waiting : length s'.waiting ≤ length s.waiting
+
+-- ---- commands of several units leave
+
+-- the live commands, their sets and the count of the unfinished ones have changed, and nothing else
+pub record Keeps (s s' : Core) : Type 0 where
+  pub same : s' ≡ record s { window = with_unfinished s.window s'.window.unfinished; live = s'.live; sets = s'.sets }
+  pub unfinished : s'.window.unfinished ≤ s.window.unfinished
+  pub units : length s'.sets ≡ length s.sets
+
+pub left_keeps : (s : Core) (units : List ℕ) (covers : Task → Bool) → Keeps s (all_commands_left s units covers).core
+left_keeps s [] covers = record { same = refl; unfinished = omega arith; units = refl }
+left_keeps s (unit ∷ units) covers =
+    grind (arith, nat_tests, left_keeps (commands_left s unit covers).core units covers, fewer_counted is_numbered (λ l. not (is_gone covers (set_at s unit) l.ticket)) s.live, length-set s.sets unit (set_staying covers (set_at s unit)))
+
+-- ---- held requests are taken out
+
+emptied_fewer : (scope : Option ℕ) (ps : List (Option (Option HeldRequest))) → count_by is_held (map (emptied_place scope) ps) ≤ count_by is_held ps
+emptied_fewer scope [] = omega arith
+emptied_fewer scope (p ∷ ps) =
+    grind (arith, sum_by-cons (λ q. cond (is_held q) 1 0) (emptied_place scope p) (map (emptied_place scope) ps), sum_by-cons (λ q. cond (is_held q) 1 0) p ps, emptied_fewer scope ps)
+
+-- ---- a Logout
+
+-- what stays, and as many numbers are received
+logged_out_parts : (s : Core) (r : Request) (scope : Option ℕ) → Stays 0 s (logged_out s r scope).core × (count_by is_some (logged_out s r scope).core.window.places ≡ count_by is_some s.window.places)
+logged_out_parts s r scope = grind (arith, nat_tests, left_keeps, emptied_fewer, count_by-map, filter-shorter)
+
+-- ==== what a request does that executes: when it does that, and what stays as it was
 
 -- ---- what it does fits
 
@@ -103,9 +142,6 @@ abbrev pub begins : Request → Deed → ℕ
 begins r (Enter unit) = cond (is_immediate r) 0 1
 begins r _ = 0
 
-pub begins_one : (r : Request) (d : Deed) → begins r d ≤ 1
-begins_one r d = grind arith
-
 left_stays : (s : Core) (r : Request) (unit : ℕ) (covers : Task → Bool) → Stays 0 s (left_answered s unit covers (connection_of r) (reply_of r (Respond 0))).core
 left_stays s r unit covers = omega (arith, fewer_counted is_numbered (λ l. not (is_gone covers (set_at s unit) l.ticket)) s.live)
 
@@ -116,8 +152,8 @@ carried_stays s r number event (Empty unit sn) fits = omega (arith, emptied_chan
 carried_stays s r number event (Abort unit ticket) fits = left_stays s r unit (covers_ticket ticket)
 carried_stays s r number event (AbortEarlier unit) fits = left_stays s r unit (is_covered (Below number event))
 carried_stays s r number event (AbortAll unit) fits = left_stays s r unit (is_covered AllOfThem)
-carried_stays s r number event (CloseConn closing) fits = (logged_out_parts s r (Some closing)).stays
-carried_stays s r number event CloseSession fits = (logged_out_parts s r None).stays
+carried_stays s r number event (CloseConn closing) fits = (logged_out_parts s r (Some closing)).0
+carried_stays s r number event CloseSession fits = (logged_out_parts s r None).0
 carried_stays s r number event _ fits = omega arith
 
 -- a numbered request voids no number
@@ -125,8 +161,8 @@ pub carried_counted : (s : Core) (r : Request) (number : ℤ) (event : ℕ) (d :
 carried_counted s r number event Void fits numbered = absurd (false≢true (sym numbered ∙ (missing_parts s r fits).0))
 carried_counted s r number event (Enter unit) fits numbered = grind arith
 carried_counted s r number event (Empty unit sn) fits numbered = let g = emptied_changes s.window sn in omega (arith, g.counted)
-carried_counted s r number event (CloseConn closing) fits numbered = (logged_out_parts s r (Some closing)).counted
-carried_counted s r number event CloseSession fits numbered = (logged_out_parts s r None).counted
+carried_counted s r number event (CloseConn closing) fits numbered = (logged_out_parts s r (Some closing)).1
+carried_counted s r number event CloseSession fits numbered = (logged_out_parts s r None).1
 carried_counted s r number event _ fits numbered = refl
 
 -- ==== what a turn leaves as it was, and a function that has waited: the numbers that have turned, and the events. A turn begins one command at the most
@@ -138,7 +174,7 @@ pub stays_expected : (more : ℕ) (s s' : Core) → Stays more s s' → number_e
 stays_expected more s s' h = same_expected s.window s'.window h.first h.turned
 
 one_more : (s s' : Core) (r : Request) (d : Deed) → Stays (begins r d) s s' → Stays 1 s s'
-one_more s s' r d h = omega (arith, h, begins_one r d)
+one_more s s' r d h = let one : begins r d ≤ 1 = grind arith in omega (arith, h)
 
 -- ---- a function that has waited
 
@@ -151,16 +187,10 @@ function_stays s (Some w) =
     let none = through_function (λ d. begins w.request d ≡ 0) (facts_by s' w.request) w.request refl (λ x. refl) refl (λ u n. refl) (λ u n. refl) (λ u. refl) (λ u. refl) in
     omega (arith, h, none, filter-shorter (λ (v : Waiting). not (v.event == w.event)) s.waiting)
 
-pub pace-function : (s : Core) (x : Option Waiting) → KeepsPace s.window (function_taken s x).core.window
-pace-function s x = omega (arith, function_stays s x)
-
 -- ---- a request
 
 pub executed_stays : (s : Core) (r : Request) (event : ℕ) → Stays 1 s (executed s r event).core
 executed_stays s r event = one_more s (executed s r event).core r (deed_by s r) (carried_stays s r (position_by s r) event (deed_by s r) (fits_deed s r))
-
-pub executed_counted : (s : Core) (r : Request) (event : ℕ) → is_immediate r ≡ false → count_by is_some (executed s r event).core.window.places ≡ count_by is_some s.window.places
-executed_counted s r event numbered = carried_counted s r (position_by s r) event (deed_by s r) (fits_deed s r) numbered
 
 -- an immediate one that doesn't wait begins none of the numbered commands
 pub at_once_stays : (s : Core) (r : Request) (d : Deed) → Fits s r d → is_immediate r ≡ true → Stays 0 s (carried s r (position_by s r) (s.taken - 1) d).core

@@ -58,12 +58,8 @@ clear_past scope k ps clear none = rw add-one (past k ps clear none)
     past (suc n) (q ∷ qs) below here = grind (arith, past n qs)
 
 -- at the end nothing is to be taken out
-pub record DroppedAll (scope : Option ℕ) (n : ℕ) (ps : List (Option (Option HeldRequest))) : Type 0 where
-  pub rest : map (emptied_place scope) ps ≡ ps
-  pub effects : emptied_from n scope ps ≡ []
-
-pub dropped_all : (scope : Option ℕ) (n : ℕ) (ps : List (Option (Option HeldRequest))) → is_clear_below scope (length ps) ps ≡ true → DroppedAll scope n ps
-dropped_all scope n [] clear = record { rest = refl; effects = refl }
+pub dropped_all : (scope : Option ℕ) (n : ℕ) (ps : List (Option (Option HeldRequest))) → is_clear_below scope (length ps) ps ≡ true → (map (emptied_place scope) ps ≡ ps) × (emptied_from n scope ps ≡ [])
+dropped_all scope n [] clear = (refl, refl)
 dropped_all scope n (p ∷ ps) clear = grind (arith, dropped_all scope (n + 1) ps)
 
 -- what the window answers says whether there was one
@@ -139,10 +135,6 @@ taken-number o w t scope h n = rw (all_held-window o w t h) (grind (arith, nat_t
 
 -- ---- the window
 
--- the window without the requests of these connections
-abbrev pub with_taken : Arrived → Option ℕ → Arrived
-with_taken w scope = record w { places = map (emptied_place scope) w.places }
-
 -- what has happened to each number is the same, but that these were emptied
 record Emptied (t t' : Trace) (out : ℕ → Bool) : Type 0 where
   received_is : received t' ≡ received t
@@ -155,10 +147,7 @@ module _ (t t' : Trace) (scope : Option ℕ) (v : Emptied t t' (λ n. is_taken s
   held-taken : (k : ℕ) → held t' k ≡ cond (is_taken scope (held t k)) None (held t k)
   held-taken k = grind (arith, v.delivered_is k, v.emptied_is k, v.admitted_is k)
 
-  place_of-taken : (k : ℕ) → place_of t' k ≡ emptied_place scope (place_of t k)
-  place_of-taken k = grind (arith, held-taken k, v.received_is)
-
-  WindowAgrees-taken : (o : Setting) (w : Arrived) → WindowAgrees o w t → WindowAgrees o (with_taken w scope) t'
+  WindowAgrees-taken : (o : Setting) (w : Arrived) → WindowAgrees o w t → WindowAgrees o (record w { places = map (emptied_place scope) w.places }) t'
   WindowAgrees-taken o w h =
       let e : ℕ = number_expected w in
       let long : length (map (emptied_place scope) w.places) ≡ length w.places = length-map w.places (emptied_place scope) in
@@ -169,7 +158,7 @@ module _ (t t' : Trace) (scope : Option ℕ) (v : Emptied t t' (λ n. is_taken s
         first = h.first;
         size = long ∙ h.size;
         below = λ k l u. same_received k ∙ h.below k l u;
-        inside = λ k lt. rw (get_or-map (emptied_place scope) w.places k None, h.inside k (omega (arith, long, lt))) (sym (place_of-taken (e + k)));
+        inside = λ k lt. rw (get_or-map (emptied_place scope) w.places k None, h.inside k (omega (arith, long, lt))) (grind (arith, held-taken (e + k), v.received_is));
         above = λ k u. same_received k ∙ h.above k (omega (arith, long, u));
         past = λ k before. rw (held-taken k, h.past k before);
         undelivered = λ k u. v.delivered_is k ∙ h.undelivered k u;
@@ -182,16 +171,12 @@ module _ (t t' : Trace) (scope : Option ℕ) (v : Emptied t t' (λ n. is_taken s
 
 -- ---- a Logout, from its first mark on
 
--- the marks of a Logout, up to those that take nothing out
-abbrev pub taking_item : Setting → Trace → Option ℕ → List Command → List Mark → List Mark
-taking_item o t scope cs rest = (map Leaves cs ++ map Empties (taken_requests o t scope)) ++ rest
-
 module _ (o : Setting) (w : Arrived) (t : Trace) (m : Mark) (scope : Option ℕ) (cs : List Command) (rest : List Mark) (h : WindowAgrees o w ((m ∷ []) ∷ t)) (q : IsQuiet rest) where
   abbrev began : Trace
   began = (m ∷ []) ∷ t
 
   abbrev marks : List Mark
-  marks = taking_item o began scope cs rest
+  marks = (map Leaves cs ++ map Empties (taken_requests o began scope)) ++ rest
 
   emptied : Emptied began ((m ∷ marks) ∷ t) (λ n. is_taken scope (held began n))
   emptied =
@@ -205,5 +190,5 @@ module _ (o : Setting) (w : Arrived) (t : Trace) (m : Mark) (scope : Option ℕ)
         delivers_is = rw (j.delivers_is, e.delivers_none, append-nil);
       }
 
-  pub WindowAgrees-logged_out : WindowAgrees o (with_taken w scope) ((m ∷ marks) ∷ t)
+  pub WindowAgrees-logged_out : WindowAgrees o (record w { places = map (emptied_place scope) w.places }) ((m ∷ marks) ∷ t)
   WindowAgrees-logged_out = WindowAgrees-taken began ((m ∷ marks) ∷ t) scope emptied o w h

@@ -1,8 +1,7 @@
 -- A request executes: it is answered, a command enters, or nothing more happens.
-use Rattle.std.proofs.Common.{⊎_elim, ◌≡◌, ℕ, ◌+◌, ◌<◌, not, cond, Bool, true, false, List, [], ◌∷◌, length, map, count_by, get_or, None, refl, ap, sym, ◌∙◌, arith, Option, Some, ◌-◌, ◌≤◌, ◌==◌, ◌&&◌, ◌++◌, filter, set, append_assoc}
+use Rattle.std.proofs.Common.{⊎_elim, ◌≡◌, ℕ, ◌+◌, ◌<◌, not, cond, Bool, true, false, List, [], ◌∷◌, length, map, count_by, get_or, None, refl, ap, sym, ◌∙◌, arith, Some, ◌-◌, ◌≤◌, ◌==◌, ◌&&◌, ◌++◌, filter, set, append_assoc}
 use Rattle.std.proofs.lemmas.Bool.{cases_Bool, cond_both, lt-ltb, eqb-true}
-use Rattle.std.proofs.lemmas.List.{append-nil, length-map, get_or-set_same, set-set}
-use Rattle.iscsi_wire.specs.declared.request.Request.{Request}
+use Rattle.std.proofs.lemmas.List.{append-nil, get_or-set_same, set-set}
 use Rattle.iscsi_wire.specs.declared.reply.Reply.{Reply}
 use Rattle.iscsi_wire.specs.Fields.{connection_of, is_immediate, itt}
 use Rattle.iscsi_window.specs.Windows.{Arrived, number_expected, at_place, turned_on, with_unfinished}
@@ -10,11 +9,11 @@ use Rattle.iscsi_tasks.specs.Sets.{opened, Members}
 use Rattle.iscsi_rules.specs.declared.effect.Effect.{Effect}
 use Rattle.iscsi_rules.specs.rules.Settings.{Setting, is_known}
 use Rattle.iscsi_rules.specs.rules.Trace.{Arrival, Command, Mark, Enters, Sends, Trace, waiting, waiting_by, enters, leaves_ticket, sent_on, entered, live, live_in, Delivers, Leaves, is_among, are_apart}
-use Rattle.iscsi_rules.specs.rules.Execution.{unfinished, is_crowded, is_full, reply_of, reply_on, next_command}
+use Rattle.iscsi_rules.specs.rules.Execution.{unfinished, reply_of, reply_on, next_command}
 use Rattle.iscsi_rules.specs.rules.Run.{effects_of_mark, effects_of_item, newly_enabled, stat_sn_of}
 use Rattle.iscsi_session.specs.private.Standing.{Core, kept, is_regular, task_of, member_of, WindowAgrees, RepliesAgree, SetsAgree, WaitingAgrees, Lasting, Agrees, set_of, CommandsAgree}
-use Rattle.iscsi_session.specs.private.Steps.{count_reply, Step, unchanged, after_effect, is_set_full, is_immediate_on, is_crowded_by, replied, new_live, number_by, event_by, new_task, started, command_entered, set_staying, covered_tickets, set_at, as_given, all_given, enable_effects, is_numbered, is_gone, staying, leave_each, has_covered, left_answered}
-use Rattle.iscsi_rules.proofs.general.BoolLemmas.{and_both, and_parts, not_true, and_comm, alike, alike_same}
+use Rattle.iscsi_session.specs.private.Steps.{count_reply, Step, unchanged, after_effect, replied, new_live, number_by, event_by, new_task, started, command_entered, set_staying, covered_tickets, set_at, as_given, all_given, enable_effects, is_numbered, is_gone, staying, leave_each, has_covered, left_answered}
+use Rattle.iscsi_rules.proofs.general.BoolLemmas.{and_both, and_parts, and_comm, alike, alike_same}
 use Rattle.iscsi_session.proofs.AgreeLemmas.{open_of-same, RepliesAgree-quiet, RepliesAgree-sent, EnabledSoFar-entered, live-entered, CommandsAgree-entered, Agrees-untouched, SetEntry, SetsAgree-entered, set_of-same, noted_given, noted_effects, CommandsAgree-left, set-changed, units_live}
 use Rattle.iscsi_rules.proofs.general.ListLemmas.{count_by-map, count_by-push, list_any-map, list_all-filter, any_filter, any_same, fewer_counted, map_all, filter-map, map-map, none_out}
 use Rattle.iscsi_rules.proofs.traces.DeliveryLemmas.{IsQuiet}
@@ -36,13 +35,6 @@ use Rattle.iscsi_rules.proofs.traces.ApartLemmas.{unamong-filter, apart-filter}
 use Rattle.iscsi_rules.proofs.promises.MomentLemmas.{enables}
 use Rattle.iscsi_rules.proofs.items.EnabledItems.{EnabledSoFar-left, newly-one}
 use Rattle.std.proofs.lemmas.Bool.Decides.{nat_tests}
-
--- what the session says is what the definitions say
-pub full_is : (o : Setting) (s : Core) (t : Trace) (u : ℕ) → SetsAgree o s.sets t → s.depth ≡ o.depth → u < o.units → is_set_full s.depth (get_or s.sets u (opened 0)) ≡ is_full o t u
-full_is o s t u a depth inside = cc (depth, a.lists u inside, length-map (live_in u t) (member_of o t))
-
-pub crowded_is : (s : Core) (t : Trace) (r : Request) → s.live ≡ map kept (live t) → is_crowded_by s r ≡ is_crowded t r
-crowded_is s t r lives = cc (count_by-map (is_immediate_on (connection_of r)) kept (live t))
 
 -- ---- an execution
 
@@ -258,21 +250,13 @@ module _ (o : Setting) (s : Core) (t : Trace) (item : List Mark) (unit : ℕ) (c
 
   pub leaving-agrees : Agrees o (left_answered s unit covers conn reply).core (item ∷ t)
   leaving-agrees =
-      let fewer = fewer_counted is_numbered (λ l. not (out l.ticket)) s.live in record {
-        lasts = record {
-          events = b.lasts.events;
-          depth = b.lasts.depth;
-          level = b.lasts.level;
-          commands = commands;
-          sets = rw (left_is, set-set) (set-changed o s.sets t item unit (all_given (set_staying covers old)) b.lasts.sets b.inside left.given elsewhere);
-          unfinished = omega (arith, numbered_live o s.live s.entered t b.lasts.commands, numbered_live o rest s.entered (item ∷ t) commands, b.lasts.unfinished);
-          enabled = EnabledSoFar-left o item t out b.leaves (units_live o rest s.entered (item ∷ t) commands) b.lasts.enabled;
-          open_conns = b.lasts.open_conns ∙ sym (open_of-same o item t b.closes);
-        };
-        window = WindowAgrees-fewer o s.window (item ∷ t) (s.window.unfinished + count_by is_numbered rest - count_by is_numbered s.live) (omega (arith, fewer)) b.window;
-        replies = RepliesAgree-sent o s.conns t item conn b.sends b.known b.replies;
-        waiting = b.waits;
-      }
+      let fewer = fewer_counted is_numbered (λ l. not (out l.ticket)) s.live in
+      let now : Core = (left_answered s unit covers conn reply).core in
+      let window : WindowAgrees o now.window (item ∷ t) = WindowAgrees-fewer o s.window (item ∷ t) (s.window.unfinished + count_by is_numbered rest - count_by is_numbered s.live) (omega (arith, fewer)) b.window in
+      let sets : SetsAgree o now.sets (item ∷ t) = rw (left_is, set-set) (set-changed o s.sets t item unit (all_given (set_staying covers old)) b.lasts.sets b.inside left.given elsewhere) in
+      let counts : now.window.unfinished ≡ unfinished (item ∷ t) = omega (arith, numbered_live o s.live s.entered t b.lasts.commands, numbered_live o rest s.entered (item ∷ t) commands, b.lasts.unfinished) in
+      let replies : RepliesAgree o now.conns (item ∷ t) = RepliesAgree-sent o s.conns t item conn b.sends b.known b.replies in
+      search (window, sets, counts, replies, commands, EnabledSoFar-left o item t out b.leaves (units_live o rest s.entered (item ∷ t) commands) b.lasts.enabled, b.lasts.open_conns ∙ sym (open_of-same o item t b.closes))
 
   pub leaving-effects : (left_answered s unit covers conn reply).effects ≡ map (λ (c : Command). Leave c.ticket c.unit) gone ++ (Send conn (stat_sn_of o t conn) reply ∷ enables (newly_enabled o t item))
   leaving-effects = rw (leaving_shown o t old unit list_is covers, b.replies.stat_sns conn b.known, left_is, left.effects, ← newly-one o item t unit b.inside elsewhere)

@@ -12,7 +12,7 @@ use Rattle.iscsi_rules.specs.rules.Trace.{Arrival, Command, Mark, Trace, live, l
 use Rattle.iscsi_rules.specs.rules.Execution.{unit_named, exp_of, max_of, reply_of}
 use Rattle.iscsi_rules.specs.rules.Management.{live_with_tag, held_command, may_wait, waiting_on, answer, is_before, refusal}
 use Rattle.iscsi_rules.specs.rules.Deeds.{Facts, function_deed, deed_of, of_unit, facts_of, if_found, deed_marks}
-use Rattle.iscsi_session.specs.private.Standing.{Core, kept, CommandsAgree, SetsAgree, task_of, WindowAgrees, arrival_waiting, WaitingAgrees, Agrees, Settled}
+use Rattle.iscsi_session.specs.private.Standing.{Core, kept, member_of, CommandsAgree, SetsAgree, task_of, WindowAgrees, arrival_waiting, WaitingAgrees, Agrees, Settled}
 use Rattle.iscsi_session.specs.private.Deeds.{facts_by, refusal_by, deed_by, waits_by, arrival_by, Fits, position_by, carried, executed, turn_taken, next_waiting, next_position, function_taken, immediate_taken}
 use Rattle.iscsi_rules.proofs.general.BoolLemmas.{and_true, and_parts}
 use Rattle.iscsi_rules.proofs.general.ListLemmas.{list_any-map, any_filter, any_same, count_by-map, list_all-filter, find-passes, find-found, filter-map}
@@ -20,11 +20,11 @@ use Rattle.iscsi_rules.proofs.traces.NewlyLemmas.{Untouched, live_in-untouched, 
 use Rattle.iscsi_rules.proofs.items.DeedTable.{named_below, never_waits}
 use Rattle.iscsi_session.proofs.AgreeLemmas.{CommandsAgree-untouched, SetsAgree-untouched, RepliesAgree-sent, settled_expected, settled_max, Agrees-untouched, Agrees-waits}
 use Rattle.iscsi_session.proofs.FindLemmas.{tagged_in-is, Found, numbered_deed, Found-arrived, Found-turned}
-use Rattle.iscsi_session.proofs.ExecutionLemmas.{Begun, full_is, crowded_is, untouched-begun, Follows, nothing_more, answered, enters_unit, covered_in, leaving-item, turned_core, numbered_held, turn-begun}
+use Rattle.iscsi_session.proofs.ExecutionLemmas.{Begun, untouched-begun, Follows, nothing_more, answered, enters_unit, covered_in, leaving-item, turned_core, numbered_held, turn-begun}
 use Rattle.iscsi_session.proofs.LogoutItem.{open_same, session_ends, conn_closes}
 use Rattle.std.proofs.lemmas.Bool.Decides.{nat_tests}
 use Rattle.std.proofs.lemmas.Bool.{cases_Bool, false≢true, eqb-true}
-use Rattle.std.proofs.lemmas.List.{append-nil, map-append}
+use Rattle.std.proofs.lemmas.List.{append-nil, map-append, length-map}
 use Rattle.std.proofs.lemmas.List.Folds.{list_all-append}
 use Rattle.std.proofs.lemmas.List.Elements.{filter_map-append}
 use Rattle.iscsi_window.specs.declared.held_request.HeldRequest.{HeldRequest}
@@ -48,7 +48,7 @@ use Rattle.iscsi_rules.specs.declared.deed.Answer.{Answer}
 use Rattle.iscsi_rules.specs.declared.deed.Answer.TheVariants.{Respond}
 use Rattle.iscsi_rules.specs.declared.deed.Deed.{Deed}
 use Rattle.iscsi_rules.specs.declared.deed.Deed.TheVariants.{Nothing, Wait, Reply, Enter, Void, Empty, Abort, AbortEarlier, AbortAll, CloseConn, CloseSession}
-use Rattle.iscsi_session.specs.private.Steps.{count_reply, and_then, after_effect, waiting_in, replied, number_by, event_by, covers_ticket}
+use Rattle.iscsi_session.specs.private.Steps.{is_immediate_on, count_reply, and_then, after_effect, waiting_in, replied, number_by, event_by, covers_ticket}
 use Rattle.iscsi_rules.proofs.traces.ApartLemmas.{apart-filter}
 use Rattle.iscsi_rules.proofs.items.CommandItems.{ticket_alone}
 use Rattle.iscsi_session.proofs.DeedLemmas.{fits_deed, fits_function, is_of_number, missing_parts, is_whole, whole_function, immediate_is}
@@ -120,8 +120,8 @@ module _ (o : Setting) (s : Core) (t : Trace) (m : Mark) (e : Effect) (a : Arriv
     level = sym b.lasts.level;
     unit = rw b.lasts.sets.units;
     is_used = sym (asked (λ c. itt c.arrival.request == itt a.request) (λ l. l.itt == itt a.request) (λ c. refl));
-    is_crowded = sym (crowded_is s t₁ a.request commands.commands);
-    is_full = rw b.lasts.sets.units (of_unit-same (unit_named o.units a.request) false _ _ (λ unit is. sym (full_is o s t₁ unit sets b.lasts.depth (named_below o.units a.request unit is))));
+    is_crowded = cc (commands.commands, count_by-map (is_immediate_on (connection_of a.request)) kept (live t₁));
+    is_full = rw b.lasts.sets.units (of_unit-same (unit_named o.units a.request) false _ _ (λ unit is. cc (b.lasts.depth, sets.lists unit (named_below o.units a.request unit is), length-map (live_in unit t₁) (member_of o t₁))));
     has_commands = rw b.lasts.sets.units (of_unit-same (unit_named o.units a.request) false _ _ (λ unit is. rw (any_filter, asked (λ c. c.unit == unit && true) (λ l. l.unit == unit) (λ c. sym (and_true (c.unit == unit))))));
     live = rw b.lasts.sets.units (of_unit-same (unit_named o.units a.request) None _ _ (λ unit is. grind (arith, nat_tests, tagged_in-is s t₁ (rtt a.request) unit commands.commands)));
     is_open = sym (open_same o s t m e a b (cid a.request));

@@ -1,30 +1,32 @@
 -- The live commands that a session keeps, beside its task sets.
-use Rattle.std.proofs.Common.{◌≡◌, ℕ, ◌+◌, ◌<◌, ◌==◌, ◌&&◌, cond, Bool, true, false, nat_lt, nat_le, List, [], ◌∷◌, ◌++◌, length, map, filter, get_or, set, Option, Some, None, refl, arith, length-set, eq-eqb, zero, suc, ◌≤◌, ◌||◌, not, count_by, All, take, is_some, ap, sym, ◌∙◌, drop}
-use Rattle.std.specs.List.{list_all, list_any, AllPairs}
-use Rattle.std.proofs.lemmas.Bool.{cond_both, leb-true, cases_eq, eqb-true, false≢true, ltb-true, ne_eqb}
+use Rattle.std.proofs.Common.{◌≡◌, ℕ, ◌+◌, ◌<◌, ◌==◌, ◌&&◌, cond, Bool, true, false, nat_lt, nat_le, List, [], ◌∷◌, ◌++◌, length, map, filter, get_or, set, Option, Some, None, refl, arith, length-set, eq-eqb, zero, suc, ◌≤◌, ◌||◌, not, count_by, All, take, is_some, ap, sym, ◌∙◌, drop, find}
+use Rattle.std.specs.List.{list_all, list_any, AllPairs, range_with_len, flat_map}
+use Rattle.std.proofs.lemmas.Bool.{cond_both, leb-true, cases_eq, eqb-true, false≢true, ltb-true, ne_eqb, lt-ltb}
 use Rattle.std.proofs.lemmas.Bool.Decides.{nat_tests}
-use Rattle.std.proofs.lemmas.List.{append-nil, map-append, get_or-set_same, get_or-set_other, length-map, get_or_default, get_or-take, length-take-le, at_drop_more}
-use Rattle.std.proofs.lemmas.List.Elements.{filter-append}
+use Rattle.std.proofs.lemmas.List.{append-nil, map-append, get_or-set_same, get_or-set_other, length-map, get_or_default, get_or-take, length-take-le, at_drop_more, set-get_or}
+use Rattle.std.proofs.lemmas.List.Elements.{filter-append, All-head, All-tail}
 use Rattle.std.proofs.lemmas.List.Folds.{list_all-map, list_any_none, list_any_more}
 use Rattle.std.proofs.lemmas.List.Sums.{AllPass-from_list_all, sum_by-cons}
 use Rattle.iscsi_tasks.specs.declared.task.Task.{Task}
 use Rattle.iscsi_tasks.specs.declared.member.Member.{Member}
 use Rattle.iscsi_rules.proofs.traces.ApartLemmas.{eq_sym}
-use Rattle.iscsi_tasks.specs.Sets.{is_enabled_in, Members, opened, entered_to, given_by, tasks_in, left_by, with_ticket, uncovered, is_new}
+use Rattle.iscsi_tasks.specs.Sets.{is_enabled_in, Members, opened, entered_to, given_by, tasks_in, left_by, with_ticket, uncovered, is_new, next_in, given_in}
 use Rattle.iscsi_commands.specs.declared.live.Live.{Live}
 use Rattle.iscsi_session.specs.private.Standing.{Match, AreRoomy, are_ascending, are_within, tickets_of, tickets_in}
-use Rattle.iscsi_session.specs.private.Steps.{enabled_of, covers_ticket, has_covered, set_staying, covered_tickets, find_ticket, without_ticket, as_given, all_given, is_numbered, is_gone, staying, finished_by, leave_each, without_tickets, ungiven, ungiven_in}
+use Rattle.iscsi_session.specs.private.Steps.{enabled_of, covers_ticket, has_covered, set_staying, covered_tickets, find_ticket, without_ticket, as_given, all_given, is_numbered, is_gone, staying, finished_by, leave_each, without_tickets, ungiven, ungiven_in, enable_effects}
 use Rattle.iscsi_rules.proofs.general.BoolLemmas.{and_parts, and_both, and_comm, and_true, and_false, or_first, or_second}
 use Rattle.iscsi_rules.proofs.general.ListLemmas.{list_all-filter, any_filter, any_same, list_any-map, count_by-map, filter-swap, filter-map, map-map, find-found, filter-shorter, filter_every, filter_here, fewer_counted, none_out}
 use Rattle.iscsi_rules.proofs.traces.TraceLemmas.{weaker, filter-same, filter-true}
-use Rattle.iscsi_session.proofs.ListLemmas.{list_all-push}
+use Rattle.iscsi_session.proofs.CountLemmas.{list_all-push}
 use Rattle.iscsi_rules.proofs.traces.SetLemmas.{tickets-given_in, tickets-moment, none_filtered, tickets, gone_each, none_covered, none_found, one_gone, rising, some_covered}
 use Rattle.std.specs.Prelude.{IsSome}
 use Rattle.iscsi_window.specs.Windows.{Arrived, with_unfinished}
-use Rattle.iscsi_rules.specs.declared.effect.Effect.TheVariants.{Leave}
+use Rattle.iscsi_rules.specs.declared.effect.Effect.TheVariants.{Leave, Enable}
 use Rattle.iscsi_rules.proofs.traces.NewlyLemmas.{filter-twice, both_all}
 use Rattle.iscsi_rules.proofs.general.CountLemmas.{fewer}
 use Rattle.iscsi_rules.proofs.general.NumberLemmas.{none_above}
+use Rattle.iscsi_commands.specs.Commands.{AreTagsApart}
+use Rattle.std.proofs.lemmas.Grind.{get_or-set_at}
 
 -- ---- no call but entering and leaving changes the tickets
 
@@ -54,10 +56,6 @@ Match-entered sets lives l task m inside same =
     (cc (tickets-entered (get_or sets l.unit (opened 0)) task, m l.unit inside, tickets_in-push l.unit lives l, eq-eqb l.unit l.unit refl))
     (λ other apart. cc (tickets_in-push other lives l, eq_sym l.unit other, append-nil (tickets_in other lives)))
 
--- the ticket of a command that is kept is no later than the last one
-abbrev is_within : ℕ → ℕ → Live → Bool
-is_within n units l = nat_le l.ticket n && nat_lt l.unit units
-
 pub ascending-push : (n units : ℕ) (lives : List Live) (l : Live) → are_ascending lives ≡ true → are_within n units lives ≡ true → n < l.ticket → are_ascending (lives ++ l ∷ []) ≡ true
 ascending-push n units [] l up within later = refl
 ascending-push n units (x ∷ lives) l up within later = grind (arith, nat_tests, ascending-push n units lives l, and_parts, and_both, list_all-push)
@@ -71,7 +69,7 @@ pub newest_in : (sets : List Members) (lives : List Live) (n units unit : ℕ) �
 newest_in sets lives n units unit m within inside = λ k d lt.
     let ms : List Member = (get_or sets unit (opened 0)).list in
     let here : List Live = filter (λ (x : Live). x.unit == unit) lives in
-    let old = list_all-filter (λ (x : Live). x.unit == unit) (λ x. nat_le x.ticket n) lives (weaker (is_within n units) (λ x. nat_le x.ticket n) lives (λ x h. grind (arith, nat_tests)) within) in
+    let old = list_all-filter (λ (x : Live). x.unit == unit) (λ x. nat_le x.ticket n) lives (weaker (λ (x : Live). nat_le x.ticket n && nat_lt x.unit units) (λ x. nat_le x.ticket n) lives (λ x h. grind (arith, nat_tests)) within) in
     let all : list_all (λ (x : Member). nat_le x.task.ticket n) ms ≡ true =
     cc (list_all-map (λ t. nat_le t n) (λ (x : Member). x.task.ticket) ms, list_all-map (λ t. nat_le t n) (λ (x : Live). x.ticket) here, m unit inside, old) in
     let test = AllPass-from_list_all (λ (x : Member). nat_le x.task.ticket n) ms all k d lt in
@@ -116,12 +114,11 @@ module _ (covers : Task → Bool) (now : Members) where
   ungiven-staying : ungiven (set_staying covers now) ≤ ungiven now
   ungiven-staying = grind (arith, count_by-map {A = Member}, fewer_counted {A = Member})
 
-  tickets_staying : tickets_of (set_staying covers now) ≡ tickets (uncovered covers now.list)
-  tickets_staying = grind (arith, map-map {A = Member}, none_out {A = Member})
-
   -- the tickets that are left in its set
   left_tickets : rising (tickets now.list) ≡ true → tickets_of (set_staying covers now) ≡ filter (λ t. not (is_gone covers now t)) (tickets now.list)
-  left_tickets up = rw (tickets_staying, filter-map) (sym (ap tickets (filter_here _ _ now.list (λ k d l. ap not (gone_each covers now.list k d up l)))))
+  left_tickets up =
+      let stay : tickets_of (set_staying covers now) ≡ tickets (uncovered covers now.list) = grind (arith, map-map {A = Member}, none_out {A = Member}) in
+      rw (stay, filter-map) (sym (ap tickets (filter_here _ _ now.list (λ k d l. ap not (gone_each covers now.list k d up l)))))
 
 -- and among the live commands of any unit
 live_tickets : (goes : ℕ → Bool) (unit : ℕ) (lives : List Live) → tickets_in unit (filter (λ l. not (goes l.ticket)) lives) ≡ filter (λ t. not (goes t)) (tickets_in unit lives)
@@ -227,11 +224,9 @@ module _ (now : Members) (covers : Task → Bool) where
   covered_are : covered_tickets covers now.list ≡ tickets (filter (λ m. covers m.task) now.list)
   covered_are = rw (filter-map, map-map)
 
-  gone_are : (k : ℕ) → list_any (λ t. t == k) (covered_tickets covers now.list) ≡ is_gone covers now k
-  gone_are k = rw (covered_are, list_any-map, any_filter) (any_same _ _ now.list (λ m. and_comm (covers m.task) (m.task.ticket == k)))
-
   pub without_covered : (lives : List Live) → without_tickets (covered_tickets covers now.list) lives ≡ staying covers now lives
-  without_covered lives = filter-same _ _ lives (λ l. ap not (gone_are l.ticket))
+  without_covered lives = filter-same _ _ lives (λ l.
+      let gone : list_any (λ t. t == l.ticket) (covered_tickets covers now.list) ≡ is_gone covers now l.ticket = rw (covered_are, list_any-map, any_filter) (any_same _ _ now.list (λ m. and_comm (covers m.task) (m.task.ticket == l.ticket))) in ap not gone)
 
   -- each is among the live ones
   pub covered_live : (unit : ℕ) (lives : List Live) → tickets_of now ≡ tickets_in unit lives → All (λ t. IsSome (find_ticket t lives)) (covered_tickets covers now.list)
@@ -295,3 +290,114 @@ owed-given sets unit inside = omega (arith, ungiven_in-set sets unit (all_given 
 
 pub Match-given : (sets : List Members) (lives : List Live) (unit : ℕ) → Match sets lives → unit < length sets → Match (set sets unit (all_given (get_or sets unit (opened 0)))) lives
 Match-given sets lives unit m inside = match_set sets lives lives unit (all_given (get_or sets unit (opened 0))) inside m (rw map-map (m unit inside)) (λ u apart. refl)
+
+-- ==== a live command is found by its tag, which no other one has, by its unit, or by its ticket
+
+-- some command passes just where one is found
+pub any_found : (q : Live → Bool) (lives : List Live) → list_any q lives ≡ is_some (find q lives)
+any_found q [] = refl
+any_found q (x ∷ lives) = elim (q x) as (λ b. (b || list_any q lives) ≡ is_some (cond b (Some x) (find q lives))) [ true ↦ refl | false ↦ any_found q lives ]
+
+-- the command that is found by its tag, if it passes
+abbrev pub passing : (Live → Bool) → Option Live → Option Live
+passing q x = elim x [ Some l ↦ cond (q l) (Some l) None | None ↦ None ]
+
+none_later : (q : Live → Bool) (itt : ℕ) (lives : List Live) → All (λ l. (l.itt == itt) ≡ false) lives → find (λ l. q l && l.itt == itt) lives ≡ None
+none_later q itt [] none = refl
+none_later q itt (x ∷ lives) none =
+    rw (All-head (λ l. (l.itt == itt) ≡ false) x lives none, and_false (q x)) (none_later q itt lives (All-tail (λ l. (l.itt == itt) ≡ false) x lives none))
+
+-- a tag is that of one command at the most
+pub find_passing : (q : Live → Bool) (lives : List Live) (itt : ℕ) → AreTagsApart lives → find (λ l. q l && l.itt == itt) lives ≡ passing q (find (λ l. l.itt == itt) lives)
+find_passing q [] itt apart = refl
+find_passing q (x ∷ lives) itt apart =
+    let others : x.itt ≡ itt → All (λ l. (l.itt == itt) ≡ false) lives = λ this k d within. ne_eqb _ _ (λ tag. apart zero (suc k) d (omega arith) (omega (arith, within)) (this ∙ sym tag)) in
+    grind (arith, nat_tests, eqb-true, and_false, others, none_later q itt lives, find_passing q lives itt (λ i j d lt within. apart (suc i) (suc j) d (omega (arith, lt)) (omega (arith, within))))
+
+-- ---- commands of a unit
+
+pub any_filtered : (p : Live → Bool) (lives : List Live) → list_any p lives ≡ nat_lt 0 (length (filter p lives))
+any_filtered p [] = refl
+any_filtered p (x ∷ lives) = grind (arith, nat_tests, any_filtered p lives, lt-ltb)
+
+-- a set has a command just where the unit has a live one
+pub any_in_set : (sets : List Members) (lives : List Live) (unit i : ℕ) (set : Members) → Match sets lives → i ≡ unit → set ≡ get_or sets i set → unit < length sets → nat_lt 0 (length set.list) ≡ list_any (λ l. l.unit == unit) lives
+any_in_set sets lives unit i set match at read inside = grind (arith, nat_tests, get_or_default, length-map, any_filtered)
+
+pub ruleset unit_steps = (lt-ltb, get_or_default, length-map, any_filtered, any_in_set, nat_tests)
+
+-- ---- a ticket in a set
+
+-- it is the only one, if it is there
+pub noted : (k unit : ℕ) (now : Members) (lives : List Live) (there : Bool) → tickets_of now ≡ tickets_in unit lives → are_ascending lives ≡ true → has_covered (covers_ticket k) now ≡ there → covered_tickets (covers_ticket k) now.list ≡ cond there (k ∷ []) []
+noted k unit now lives there match up has = rw has at (one_covered k now.list (rw match (rising_in unit lives up)))
+
+pub ruleset ticket_steps = (get_or_default, set-get_or, one_leaving, one_missing, one_covered, rising_in, noted, nat_tests)
+
+-- ==== the commands that became enabled: those of a set are given one after the other, and each unit is told of its own
+
+-- a command is given
+pub record Given (unit ticket : ℕ) (ms : List Member) : Type 0 where
+  pub same : map as_given (given_in ms) ≡ map as_given ms
+  pub effects : enable_effects unit ms ≡ Enable ticket unit ∷ enable_effects unit (given_in ms)
+  pub fewer : count_by is_new (given_in ms) + 1 ≡ count_by is_new ms
+
+counts : (b : Bool) (x : Member) (xs : List Member) → is_new x ≡ b → count_by is_new (x ∷ xs) ≡ cond b 1 0 + count_by is_new xs
+counts b x xs is = rw (← is) (sum_by-cons (λ y. cond (is_new y) 1 0) x xs)
+
+pub given_one : (unit ticket : ℕ) (ms : List Member) → next_in ms ≡ Some ticket → Given unit ticket ms
+given_one unit ticket [] h = absurd cc
+given_one unit ticket (m ∷ ms) h = by_new (is_new m) refl (given_one unit ticket ms)
+  where
+    now : Member
+    now = record { task = m.task; enabled = m.enabled; given = true }
+
+    never : is_new now ≡ false
+    never = grind arith
+
+    by_new : (b : Bool) → is_new m ≡ b → (next_in ms ≡ Some ticket → Given unit ticket ms) → Given unit ticket (m ∷ ms)
+    by_new true is by_rest =
+        let same : m.task.ticket ≡ ticket = cc in
+        let given : (m.given || m.enabled) ≡ true = grind arith in
+        let now_is : given_in (m ∷ ms) ≡ now ∷ ms = rw is in
+        record { same = rw (is, given); effects = rw (now_is, is, never, same); fewer = omega (arith, counts true m ms is, counts false now ms never, ap (count_by is_new) now_is) }
+    by_new false is by_rest = grind (arith, nat_tests)
+
+-- none is left to be given
+pub record AllGiven (unit : ℕ) (ms : List Member) : Type 0 where
+  pub same : map as_given ms ≡ ms
+  pub effects : enable_effects unit ms ≡ []
+  pub unchanged : given_in ms ≡ ms
+  pub none_new : count_by is_new ms ≡ 0
+
+pub given_all : (unit : ℕ) (ms : List Member) → next_in ms ≡ None → AllGiven unit ms
+given_all unit [] h = record { same = refl; effects = refl; unchanged = refl; none_new = refl }
+given_all unit (m ∷ ms) h = grind (arith, nat_tests, given_all unit ms)
+
+-- ---- each unit is told of its commands, one unit after the other
+
+given_again : (ms : List Member) → map as_given (map as_given ms) ≡ map as_given ms
+given_again [] = refl
+given_again (m ∷ ms) = grind (arith, nat_tests, given_again ms)
+
+told_again : (s : Members) → all_given (all_given s) ≡ all_given s
+told_again s = rw (given_again s.list)
+
+pub given_set : (sets : List Members) (u : ℕ) → map all_given (set sets u (all_given (get_or sets u (opened 0)))) ≡ map all_given sets
+given_set [] u = refl
+given_set (s ∷ sets) zero = rw (given_again s.list)
+given_set (s ∷ sets) (suc u) = rw (given_set sets u)
+
+pub told_more : (sets : List Members) (u : ℕ) → u < length sets → ((k : ℕ) → k < u → all_given (get_or sets k (opened 0)) ≡ get_or sets k (opened 0))
+    → (k : ℕ) → k < u + 1 → all_given (get_or (set sets u (all_given (get_or sets u (opened 0)))) k (opened 0)) ≡ get_or (set sets u (all_given (get_or sets u (opened 0)))) k (opened 0)
+told_more sets u inside told k lt = grind (arith, nat_tests, get_or-set_at, told_again, get_or-set_other)
+
+pub told_all : (sets : List Members) → ((k : ℕ) → k < length sets → all_given (get_or sets k (opened 0)) ≡ get_or sets k (opened 0)) → map all_given sets ≡ sets
+told_all [] told = refl
+told_all (s ∷ sets) told = ap (λ t. t ∷ map all_given sets) (told 0 (omega arith)) ∙ rw (told_all sets (λ k lt. told (suc k) (omega (arith, lt))))
+
+-- a unit that was told doesn't matter to the later ones
+pub told_later : (sets : List Members) (u : ℕ) (now : Members) (n e : ℕ) → u < e
+    → flat_map (λ unit. enable_effects unit (get_or (set sets u now) unit (opened 0)).list) (range_with_len e n) ≡ flat_map (λ unit. enable_effects unit (get_or sets unit (opened 0)).list) (range_with_len e n)
+told_later sets u now zero e lt = refl
+told_later sets u now (suc n) e lt = rw (get_or-set_other sets u e now (opened 0) (λ same. omega (arith, same, lt)), told_later sets u now n (e + 1) (omega (arith, lt)))

@@ -1,6 +1,4 @@
-pub mod ListLemmas
 pub mod RefusalLemmas
-pub mod WaitLemmas
 pub mod AgreeLemmas
 pub mod OpenLemmas
 pub mod WindowLemmas
@@ -9,10 +7,7 @@ pub mod WindowParts
 pub mod CountLemmas
 pub mod ExecutionLemmas
 pub mod KeptLemmas
-pub mod TagLemmas
-pub mod GivingLemmas
 pub mod FindLemmas
-pub mod LoggedOutLemmas
 pub mod EmptyingLemmas
 pub mod LogoutItem
 pub mod FunctionLemmas

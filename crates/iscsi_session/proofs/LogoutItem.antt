@@ -6,7 +6,7 @@ use Rattle.std.proofs.lemmas.List.{get_or-set_same, get_or-set_other, length-map
 use Rattle.iscsi_tasks.specs.declared.task.Task.{Task}
 use Rattle.iscsi_tasks.specs.Sets.{opened, is_covered}
 use Rattle.iscsi_session.specs.private.Standing.{Core, Agrees, WindowAgrees, CommandsAgree, arrival_waiting, open_of, task_of}
-use Rattle.iscsi_session.specs.private.Steps.{set_staying, covered_tickets, set_at, is_numbered, is_gone, leave_each, commands_left, all_commands_left, is_among_open, still_open, after_effect, units_of, all_given, enable_effects, cover_of, session_closes, logged_out}
+use Rattle.iscsi_session.specs.private.Steps.{set_staying, covered_tickets, set_at, is_numbered, is_gone, leave_each, commands_left, all_commands_left, is_among_open, still_open, after_effect, all_given, enable_effects, cover_of, session_closes, logged_out}
 use Rattle.iscsi_rules.proofs.traces.TraceLemmas.{filter-same, filter-true}
 use Rattle.iscsi_rules.proofs.traces.NewlyLemmas.{filter-twice, Untouched, live-untouched, filter_all, filter-none}
 use Rattle.iscsi_rules.proofs.general.ListLemmas.{any_in_range, flat_map_in_range, list_all-filter, list_all-same, list_any-map, any_filter, any_flat_map, filter-flat_map, map-flat_map, filter-map, filtered_among}
@@ -32,7 +32,7 @@ use Rattle.iscsi_rules.proofs.items.CommandItems.{LeavesSome, live_in-left, amon
 use Rattle.iscsi_rules.proofs.items.EnabledItems.{EnabledSoFar-left}
 use Rattle.iscsi_rules.proofs.items.ClosingItems.{closed-same, closing_marks, quiet-closing, untouched-closing, untouched-emptied, emptied_any, emptied_sends, emptied_shown, emptied_waits, is_nil, last_is, left_any, left_sends, left_shown, left_waits, nil_is}
 use Rattle.iscsi_session.proofs.ExecutionLemmas.{Begun, Follows, WindowAgrees-fewer, numbered_live, gone_tickets, leaving_shown, SetLeft, set_left}
-use Rattle.iscsi_session.proofs.LoggedOutLemmas.{Keeps, left_keeps}
+use Rattle.iscsi_session.proofs.DeedLemmas.{Keeps, left_keeps}
 use Rattle.iscsi_session.proofs.EmptyingLemmas.{taken_requests, emptied_from-is, WindowAgrees-logged_out}
 use Rattle.std.proofs.lemmas.Bool.Decides.{nat_tests}
 
@@ -152,10 +152,10 @@ module _ (o : Setting) (s : Core) (t : Trace) (m : Mark) (e : Effect) (a : Arriv
   conn = connection_of a.request
 
   abbrev left : Core
-  left = (all_commands_left s (units_of s) covers).core
+  left = (all_commands_left s (range_with_len 0 (length s.sets)) covers).core
 
   k : Keeps s left
-  k = left_keeps s (units_of s) covers
+  k = left_keeps s (range_with_len 0 (length s.sets)) covers
 
   -- ---- the commands that leave
 
@@ -189,7 +189,7 @@ module _ (o : Setting) (s : Core) (t : Trace) (m : Mark) (e : Effect) (a : Arriv
   covered_are unit = filter-same _ _ (live_in unit t) (covers_asked o scope)
 
   -- the covered ones of the sets have these tickets
-  gone_is : (n : ℕ) → gone_in covers s (units_of s) n ≡ out n
+  gone_is : (n : ℕ) → gone_in covers s (range_with_len 0 (length s.sets)) n ≡ out n
   gone_is n =
       rw (b.lasts.sets.units, out_is n) (any_in_range _ (λ unit. list_any (goes n) (live_in unit t)) 0 o.units
       (λ unit low high. rw (gone_tickets o t (set_at s unit) unit (b.lasts.sets.lists unit (omega arith)) covers n, covered_are unit) (any_filter (λ (c : Command). c.ticket == n) asked (live_in unit t)))
@@ -201,7 +201,7 @@ module _ (o : Setting) (s : Core) (t : Trace) (m : Mark) (e : Effect) (a : Arriv
       (λ n late. unamong-filter asked n (live t) (unamong-filter _ n (entered t) (b.lasts.commands.fresh n late))))
 
   -- the effects of leaving
-  leaving : (all_commands_left s (units_of s) covers).effects ≡ map (λ (c : Command). Leave c.ticket c.unit) cs
+  leaving : (all_commands_left s (range_with_len 0 (length s.sets)) covers).effects ≡ map (λ (c : Command). Leave c.ticket c.unit) cs
   leaving =
       rw (effects_leaving covers s 0 (length s.sets), b.lasts.sets.units, units_are, filter-flat_map, map-flat_map) (flat_map_in_range _ _ 0 o.units
       (λ unit low high. rw (leaving_shown o t (set_at s unit) unit (b.lasts.sets.lists unit (omega arith)) covers, covered_are unit)))
@@ -225,16 +225,13 @@ module _ (o : Setting) (s : Core) (t : Trace) (m : Mark) (e : Effect) (a : Arriv
   set_is : (unit : ℕ) → unit < o.units → set_at left unit ≡ set_staying covers (set_at s unit)
   set_is unit inside = sets_left covers s 0 (length s.sets) unit (omega arith) (omega arith) (omega (arith, b.lasts.sets.units))
 
-  enabling : flat_map (λ unit. enable_effects unit (set_at left unit).list) (units_of left) ≡ enables (newly_enabled o t item)
+  enabling : flat_map (λ unit. enable_effects unit (set_at left unit).list) (range_with_len 0 (length left.sets)) ≡ enables (newly_enabled o t item)
   enabling = rw (units_same, map-flat_map) (flat_map_in_range _ _ 0 o.units (λ unit low high. rw (set_is unit (omega arith)) (set_after unit (omega arith)).effects))
 
   -- ---- the window
 
   before : WindowAgrees o s.window t₁
   before = b.window [] quiet_none
-
-  window : WindowAgrees o (logged_out s a.request scope).core.window (item ∷ t)
-  window = WindowAgrees-logged_out o left.window t m scope cs rest (rw k.same (WindowAgrees-fewer o s.window t₁ left.window.unfinished k.unfinished before)) (quiet-closing o t₁ a scope)
 
   -- ---- the connections
 
@@ -269,33 +266,31 @@ module _ (o : Setting) (s : Core) (t : Trace) (m : Mark) (e : Effect) (a : Arriv
 
   -- ---- what waits still
 
-  waits : waiting_through marks (waiting_by m (waiting t)) ≡ map (arrival_waiting o.first) (logged_out s a.request scope).core.waiting
-  waits = rw (b.waits.list, append_assoc, left_waits, emptied_waits, k.same) (grind (arith, nat_tests, none_stay, last_open, filter-map))
-
   still_all : (test : Waiting → Bool) → list_all test s.waiting ≡ true → list_all test (logged_out s a.request scope).core.waiting ≡ true
   still_all test h = rw k.same (grind (arith, list_all-filter (λ w. not (is_asked scope (connection_of w.request))) test s.waiting h))
 
   -- ---- the whole
 
   agrees : Agrees o (logged_out s a.request scope).core (item ∷ t)
-  agrees = record {
-    lasts = record {
-      events = rw k.same b.lasts.events;
-      depth = rw k.same b.lasts.depth;
-      level = rw k.same b.lasts.level;
-      commands = rw k.same commands;
-      sets = record {
-        units = length-map left.sets all_given ∙ units_same;
-        lists = λ unit inside. rw (get_or-map all_given left.sets unit (opened 0), set_is unit inside) (set_after unit inside).given;
-      };
-      unfinished = rw (unfinished_left covers s (units_of s) (b.lasts.unfinished ∙ sym (numbered_live o s.live s.entered t b.lasts.commands))) (numbered_live o left.live s.entered (item ∷ t) commands);
-      enabled = EnabledSoFar-left o item t out leaves (units_live o left.live s.entered (item ∷ t) commands) b.lasts.enabled;
-      open_conns = rw (k.same, b.lasts.open_conns, open_after) (stays_open scope);
-    };
-    window = window;
-    replies = rw k.same (RepliesAgree-sent o s.conns t item conn (rw (b.sends_no, grouped, left_sends, emptied_sends) (grind arith)) b.known b.replies);
-    waiting = record { list = waits; may = still_all (λ w. may_wait w.request) b.waits.may; known = still_all (λ w. is_known (connection_of w.request) o.conns) b.waits.known };
-  }
+  agrees =
+      let waits : waiting_through marks (waiting_by m (waiting t)) ≡ map (arrival_waiting o.first) (logged_out s a.request scope).core.waiting = rw (b.waits.list, append_assoc, left_waits, emptied_waits, k.same) (grind (arith, nat_tests, none_stay, last_open, filter-map)) in record {
+        lasts = record {
+          events = rw k.same b.lasts.events;
+          depth = rw k.same b.lasts.depth;
+          level = rw k.same b.lasts.level;
+          commands = rw k.same commands;
+          sets = record {
+            units = length-map left.sets all_given ∙ units_same;
+            lists = λ unit inside. rw (get_or-map all_given left.sets unit (opened 0), set_is unit inside) (set_after unit inside).given;
+          };
+          unfinished = rw (unfinished_left covers s (range_with_len 0 (length s.sets)) (b.lasts.unfinished ∙ sym (numbered_live o s.live s.entered t b.lasts.commands))) (numbered_live o left.live s.entered (item ∷ t) commands);
+          enabled = EnabledSoFar-left o item t out leaves (units_live o left.live s.entered (item ∷ t) commands) b.lasts.enabled;
+          open_conns = rw (k.same, b.lasts.open_conns, open_after) (stays_open scope);
+        };
+        window = WindowAgrees-logged_out o left.window t m scope cs rest (rw k.same (WindowAgrees-fewer o s.window t₁ left.window.unfinished k.unfinished before)) (quiet-closing o t₁ a scope);
+        replies = rw k.same (RepliesAgree-sent o s.conns t item conn (rw (b.sends_no, grouped, left_sends, emptied_sends) (grind arith)) b.known b.replies);
+        waiting = record { list = waits; may = still_all (λ w. may_wait w.request) b.waits.may; known = still_all (λ w. is_known (connection_of w.request) o.conns) b.waits.known };
+      }
 
   shown : e ∷ (logged_out s a.request scope).effects ≡ effects_of_item o t item
   shown = rw k.same (simp (leaving, emptied_from-is o s.window t₁ scope before, b.replies.stat_sns conn b.known, closes_are scope, enabling, b.shows, append_assoc, left_shown, emptied_shown, closing_shown o t₁ a t scope))

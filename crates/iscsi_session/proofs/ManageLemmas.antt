@@ -1,44 +1,80 @@
 -- The functions that wait, and how many effects are to come.
-use Rattle.std.proofs.Common.{find, Some, All, ◌&&◌, nat_lt, is_some, ◌-◌, ◌≡◌, ℕ, ◌+◌, ◌*◌, ◌<◌, ◌≤◌, ◌==◌, not, cond, true, List, [], ◌∷◌, ◌++◌, length, filter, set, ap, arith, count_by, suc, nat_le, get_or, sym, ◌∙◌}
+use Rattle.std.proofs.Common.{find, Some, All, ◌&&◌, nat_lt, is_some, ◌-◌, ◌≡◌, ℕ, ◌+◌, ◌*◌, ◌<◌, ◌≤◌, ◌==◌, not, cond, true, List, [], ◌∷◌, ◌++◌, length, filter, set, ap, arith, count_by, suc, nat_le, get_or, sym, ◌∙◌, Bool, false, drop, map, position, None, refl}
 use Rattle.std.specs.List.{list_all}
 use Rattle.std.proofs.lemmas.Bool.Decides.{nat_tests}
 use Rattle.std.proofs.lemmas.List.{length_push, length-map}
 use Rattle.std.proofs.lemmas.List.Folds.{list_all-append}
-use Rattle.std.proofs.lemmas.List.Sums.{length-filter, count_by-le-length, sum_by-cons}
+use Rattle.std.proofs.lemmas.List.Sums.{length-filter, count_by-le-length, sum_by-cons, AllPass-from_list_all}
 use Rattle.iscsi_wire.specs.declared.request.Request.{Request}
 use Rattle.iscsi_wire.specs.Fields.{connection_of}
 use Rattle.iscsi_tasks.specs.declared.task.Task.{Task}
 use Rattle.iscsi_tasks.specs.Sets.{Members, entered_to, given_by, opened}
 use Rattle.iscsi_session.specs.declared.session.waiting.Waiting.{Waiting}
-use Rattle.iscsi_rules.specs.rules.Settings.{is_known}
-use Rattle.iscsi_session.specs.private.Standing.{Core, is_held, Match, tickets_of, tickets_in}
+use Rattle.iscsi_rules.specs.rules.Settings.{is_known, Setting}
+use Rattle.iscsi_session.specs.private.Standing.{Core, is_held, Match, tickets_of, tickets_in, are_within, arrival_waiting}
 use Rattle.iscsi_session.specs.private.Invariant.{IsSessionSound}
 use Rattle.iscsi_session.specs.private.Steps.{waiting_in, command_entered, ungiven, owed, ungiven_in}
-use Rattle.iscsi_rules.proofs.general.ListLemmas.{count_by-map, count_by-push}
+use Rattle.iscsi_rules.proofs.general.ListLemmas.{count_by-map, count_by-push, find-passes, filter-map}
 use Rattle.iscsi_rules.proofs.traces.SetLemmas.{ungiven_given}
-use Rattle.iscsi_session.proofs.CountLemmas.{few_live}
-use Rattle.iscsi_session.proofs.ListLemmas.{few_of}
+use Rattle.iscsi_session.proofs.CountLemmas.{few_live, few_of}
 use Rattle.iscsi_session.proofs.KeptLemmas.{ungiven_in-set}
 use Rattle.iscsi_tasks.specs.declared.member.Member.{Member}
 use Rattle.iscsi_commands.specs.declared.live.Live.{Live}
 use Rattle.iscsi_rules.proofs.general.NumberLemmas.{one_unit}
-use Rattle.iscsi_rules.proofs.general.ListLemmas.{find-passes}
 use Rattle.iscsi_rules.specs.rules.Management.{may_wait}
 use Rattle.iscsi_window.specs.Windows.{Arrived, advanced, offered_in}
-use Rattle.iscsi_session.specs.private.Standing.{are_within}
 use Rattle.iscsi_session.specs.private.Deeds.{comes_next}
 use Rattle.iscsi_session.proofs.WindowLemmas.{held_now, comes_alone, delivered}
-use Rattle.std.proofs.lemmas.List.Sums.{AllPass-from_list_all}
+use Rattle.std.proofs.lemmas.List.Elements.{All-weaker}
+use Rattle.iscsi_wire.specs.Serial.{number_of_first}
+use Rattle.iscsi_slots.proofs.SortedLemmas.{find_nowhere}
+use Rattle.iscsi_rules.specs.rules.Trace.{Arrival, Trace, waiting}
+use Rattle.iscsi_rules.specs.rules.Items.{function_item, functions_at}
+use Rattle.iscsi_rules.proofs.general.PlaceLemmas.{position-cons}
+use Rattle.iscsi_rules.proofs.traces.TraceLemmas.{filter-same}
+use Rattle.iscsi_rules.proofs.items.WaitingItems.{first_function, waits_itself}
+
+-- the functions that a session finds for the next number are those of the number
+at_turn : (first turned : ℕ) (ws : List Waiting) → filter (λ b. b.number == number_of_first first + turned) (map (arrival_waiting first) ws) ≡ map (arrival_waiting first) (filter (λ w. w.turn == turned) ws)
+at_turn first turned ws = grind (arith, nat_tests, filter-map, filter-same)
+
+first_found : (p : Waiting → Bool) (ws : List Waiting) (w : Waiting) → find p ws ≡ Some w → filter p ws ≡ w ∷ drop 1 (filter p ws)
+first_found p [] w h = absurd cc
+first_found p (x ∷ ws) w h = grind (arith, nat_tests, first_found p ws w)
+
+none_found : (p : Waiting → Bool) (ws : List Waiting) → find p ws ≡ None → filter p ws ≡ []
+none_found p [] h = refl
+none_found p (x ∷ ws) h = grind (arith, nat_tests, none_found p ws)
+
+-- the next function is the first of those of the next number
+pub next_function : (o : Setting) (t : Trace) (ws : List Waiting) (turned : ℕ) (w : Waiting) → waiting t ≡ map (arrival_waiting o.first) ws → find (λ v. v.turn == turned) ws ≡ Some w
+    → functions_at o (number_of_first o.first + turned) t ≡ function_item o t (arrival_waiting o.first w) ∷ functions_at o (number_of_first o.first + turned) (function_item o t (arrival_waiting o.first w) ∷ t)
+next_function o t ws turned w same found =
+    let rest : List Arrival = map (arrival_waiting o.first) (drop 1 (filter (λ (v : Waiting). v.turn == turned) ws)) in
+    let these : filter (λ b. b.number == number_of_first o.first + turned) (waiting t) ≡ arrival_waiting o.first w ∷ rest = rw (same, at_turn o.first turned ws) (ap (map (arrival_waiting o.first)) (first_found (λ (v : Waiting). v.turn == turned) ws w found)) in
+    first_function o (number_of_first o.first + turned) t (arrival_waiting o.first w) rest these (waits_itself (λ (b : Arrival). b.number == number_of_first o.first + turned) (waiting t) (arrival_waiting o.first w) rest these)
+
+-- or there is none
+pub no_function : (o : Setting) (t : Trace) (ws : List Waiting) (turned : ℕ) → waiting t ≡ map (arrival_waiting o.first) ws → find (λ v. v.turn == turned) ws ≡ None → functions_at o (number_of_first o.first + turned) t ≡ []
+no_function o t ws turned same none = rw (same, at_turn o.first turned ws, none_found (λ v. v.turn == turned) ws none)
+
+-- ---- whether a function waits for a turn
+
+-- none does for a turn below all that are waited for
+pub none_due : (ws : List Waiting) (next turn : ℕ) → All (λ w. next ≤ w.turn) ws → turn < next → find (λ w. w.turn == turn) ws ≡ None
+none_due ws next turn all before = find_nowhere (λ (w : Waiting). w.turn) turn ws (All-weaker (λ (w : Waiting). next ≤ w.turn) (λ w. (w.turn == turn) ≡ false) (λ w le. grind (arith, nat_tests)) ws all)
+
+-- one has a place where one is found
+pub found_where : (p : Waiting → Bool) (ws : List Waiting) → is_some (position p ws) ≡ is_some (find p ws)
+found_where p [] = refl
+found_where p (w ∷ ws) = grind (arith, nat_tests, found_where p ws, position-cons)
+
+-- ==== how many functions wait, and how many effects are to come
 
 -- ---- how many functions wait
 
 pub few_waiting : (conns : List (ℕ × ℕ)) (waits : List Waiting) → ((cid : ℕ) → waiting_in waits cid ≤ 4) → list_all (λ w. is_known (connection_of w.request) conns) waits ≡ true → length waits ≤ 4 * length conns
 few_waiting conns waits few known = few_of (λ (w : Waiting). connection_of w.request) 4 conns waits few known
-
-more_waiting : (waits : List Waiting) (w : Waiting) → ((cid : ℕ) → waiting_in waits cid ≤ 4) → waiting_in waits (connection_of w.request) < 4 → (cid : ℕ) → waiting_in (waits ++ w ∷ []) cid ≤ 4
-more_waiting waits w few room cid =
-    let there : connection_of w.request ≡ cid → waiting_in waits (connection_of w.request) ≡ waiting_in waits cid = ap (waiting_in waits) in
-    grind (arith, nat_tests, count_by-push (λ (v : Waiting). connection_of v.request == cid) waits w, few cid)
 
 -- what is known of the functions that wait, with one more
 pub record Waits (conns : List (ℕ × ℕ)) (waits : List Waiting) (w : Waiting) : Type 0 where
@@ -49,7 +85,9 @@ pub record Waits (conns : List (ℕ × ℕ)) (waits : List Waiting) (w : Waiting
 pub waits_more : (conns : List (ℕ × ℕ)) (waits : List Waiting) (w : Waiting) → ((cid : ℕ) → waiting_in waits cid ≤ 4) → list_all (λ v. is_known (connection_of v.request) conns) waits ≡ true
     → is_known (connection_of w.request) conns ≡ true → waiting_in waits (connection_of w.request) < 4 → Waits conns waits w
 waits_more conns waits w few known this room =
-    let few' : (cid : ℕ) → waiting_in (waits ++ w ∷ []) cid ≤ 4 = more_waiting waits w few room in
+    let few' : (cid : ℕ) → waiting_in (waits ++ w ∷ []) cid ≤ 4 = λ cid.
+    let there : connection_of w.request ≡ cid → waiting_in waits (connection_of w.request) ≡ waiting_in waits cid = ap (waiting_in waits) in
+    grind (arith, nat_tests, count_by-push (λ (v : Waiting). connection_of v.request == cid) waits w, few cid) in
     let known' : list_all (λ v. is_known (connection_of v.request) conns) (waits ++ w ∷ []) ≡ true = rw (list_all-append, known, this) in
     record { few = few'; known = known'; room = omega (arith, few_waiting conns (waits ++ w ∷ []) few' known', length_push waits w) }
 

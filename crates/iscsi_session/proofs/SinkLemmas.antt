@@ -17,9 +17,6 @@ module _ {S : Type 0} {has : S → List ℕ → List Effect → Type 0} where
     both = append_assoc c.done next rest' ∙ ap (λ l. c.done ++ l) (sym is) ∙ c.both;
   }
 
-  pub joined : {whole rest rest' : List Effect} {out out' out'' : S} → Continues has whole rest out out' → Continues has rest rest' out' out'' → Continues has whole rest' out out''
-  joined c d = continued d.done c (sym d.both) d.effects
-
   -- all were
   pub ended : {whole rest : List Effect} {out out' : S} → Continues has whole rest out out' → rest ≡ [] → Appends has whole out out'
   ended {out = out} {out' = out'} c none = subst (λ l. Appends has l out out') (sym (append-nil c.done) ∙ ap (λ l. c.done ++ l) (sym none) ∙ c.both) c.effects

@@ -13,11 +13,10 @@ use Rattle.iscsi_session.specs.private.Standing.{Core, is_place_known, Match, Ar
 use Rattle.iscsi_session.specs.private.Steps.{count_reply, AreCounted, is_numbered, set_staying, is_gone, staying, finished_by}
 use Rattle.iscsi_session.specs.private.Invariant.{IsWindowSound, AreCommandsSound, AreFunctionsSound, IsSessionSound}
 use Rattle.iscsi_rules.proofs.general.ListLemmas.{count_by-push, list_all-filter, fewer_counted}
-use Rattle.iscsi_session.proofs.ListLemmas.{list_all-push, are_known-replied, are_places_known-replied}
 use Rattle.iscsi_rules.proofs.traces.TraceLemmas.{weaker}
 use Rattle.iscsi_rules.proofs.general.NumberLemmas.{later_event}
 use Rattle.iscsi_session.proofs.WindowLemmas.{Changed, Advanced}
-use Rattle.iscsi_session.proofs.CountLemmas.{length-replied, AreCounted-replied}
+use Rattle.iscsi_session.proofs.CountLemmas.{length-replied, AreCounted-replied, list_all-push, are_known-replied, are_places_known-replied}
 use Rattle.iscsi_session.proofs.KeptLemmas.{ascending-push, within-push, ascending-kept, Match-staying, roomy_set}
 use Rattle.std.proofs.lemmas.Bool.Decides.{nat_tests}
 use Rattle.iscsi_tasks.specs.declared.task.Task.{Task}

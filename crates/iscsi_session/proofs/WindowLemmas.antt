@@ -1,5 +1,5 @@
 -- What an offer and a completion change of what a session keeps.
-use Rattle.std.proofs.Common.{◌≡◌, ◌⊎◌, ℕ, ◌+◌, ◌-◌, ◌<◌, cond, true, false, List, length, get_or, Option, Some, None, is_some, refl, arith, count_by, length-set, get_or-set_same, not}
+use Rattle.std.proofs.Common.{◌≡◌, ◌⊎◌, ℕ, ◌+◌, ◌-◌, ◌<◌, cond, true, false, List, length, Option, Some, None, is_some, refl, arith, count_by, length-set, get_or-set_same, not}
 use Rattle.std.specs.List.{list_all}
 use Rattle.std.specs.Option.{option_flatten}
 use Rattle.std.proofs.lemmas.Bool.Decides.{nat_tests}
@@ -19,18 +19,6 @@ use Rattle.iscsi_rules.proofs.general.PlaceLemmas.{all_set, all_shift, some_with
 use Rattle.iscsi_rules.proofs.general.CountLemmas.{count_replaced, count_set, count_shift}
 use Rattle.iscsi_rules.proofs.general.BoolLemmas.{and_parts, not_true}
 use Rattle.iscsi_rules.proofs.general.ListLemmas.{is_none}
-
--- ---- a request that is held
-
-pub record Taken (s : Arrived) (h : HeldRequest) : Type 0 where
-  pub k : ℕ
-  pub inside : k < length s.places
-  pub empty : get_or s.places k None ≡ None
-  pub window : offered_in s h.request h.event ≡ with_place s k (Some (Some h))
-
--- the place of a request that is held
-pub taken : (s : Arrived) (r : HeldRequest) → offer_to s r.request ≡ Held → Taken s r
-taken s r said = grind (arith, nat_tests)
 
 -- ---- a turn
 
@@ -117,11 +105,7 @@ held_or_same old new r is = grind (arith, nat_tests, grown old new r)
 abbrev pub held_now : Core → Request → HeldRequest
 held_now s r = record { request = r; event = s.taken - 1 }
 
-pub record ComesNext (w : Arrived) (r : HeldRequest) : Type 0 where
-  pub held : offer_to w r.request ≡ Held
-  pub there : at_place (offered_in w r.request r.event) 0 ≡ Some (Some r)
-
-pub comes_first : (w : Arrived) (r : HeldRequest) → is_next w r.request ≡ true → ComesNext w r
+pub comes_first : (w : Arrived) (r : HeldRequest) → is_next w r.request ≡ true → (offer_to w r.request ≡ Held) × (at_place (offered_in w r.request r.event) 0 ≡ Some (Some r))
 comes_first w r next = grind (arith, nat_tests, get_or-set_same, place_within, and_parts)
 
 -- where it may be delivered as it comes, no function waits for its number
@@ -130,15 +114,15 @@ comes_alone s r next = let parts = and_parts (not (is_some (next_waiting s))) (i
 
 -- such a request is received and turns at once
 pub record Delivered (w : Arrived) (r : HeldRequest) : Type 0 where
-  pub first : ComesNext w r
+  pub there : at_place (offered_in w r.request r.event) 0 ≡ Some (Some r)
   pub grown_is : Grown w (offered_in w r.request r.event) r
   pub advanced_is : Advanced (offered_in w r.request r.event) (Some r)
 
 pub delivered : (w : Arrived) (r : HeldRequest) → is_next w r.request ≡ true → Delivered w r
 delivered w r next =
-    let x : ComesNext w r = comes_first w r next in
+    let x = comes_first w r next in
     let v : Arrived = offered_in w r.request r.event in
-    record { first = x; grown_is = grown w v r x.held refl; advanced_is = advanced_at v (Some r) x.there }
+    record { there = x.1; grown_is = grown w v r x.0 refl; advanced_is = advanced_at v (Some r) x.1 }
 
 -- what holds of the window holds on once it has received a request
 pub grown_sound : {old new : Arrived} {count taken : ℕ} {conns : List (ℕ × ℕ)} {r : HeldRequest} → IsWindowSound old count taken conns → Grown old new r → old.turned + count_by is_some old.places < taken

@@ -9,7 +9,6 @@ use Rattle.iscsi_rules.specs.promises.Executed.{request_at, executed_below, deli
 use Rattle.iscsi_session.specs.private.Standing.{held_of, place_of, IsRegularRequest, WindowAgrees}
 use Rattle.std.proofs.lemmas.Bool.{cases_lt, cases_eq, eqb-true}
 use Rattle.std.proofs.lemmas.Grind.{elements, get_or-set_at}
-use Rattle.iscsi_wire.specs.Fields.{cmd_sn}
 use Rattle.iscsi_window.specs.Windows.{Arrived, number_expected, room_of, at_place, with_place, with_unfinished, turned_on, IsInside, place_in, is_received_at, voided, emptied}
 use Rattle.iscsi_rules.specs.rules.Execution.{exp_of}
 use Rattle.iscsi_rules.proofs.general.BoolLemmas.{or_none, or_second, or_false}
@@ -22,10 +21,6 @@ use Rattle.std.specs.List.{list_any}
 use Rattle.iscsi_window.specs.declared.answer.Place.TheVariants.{Inside}
 use Rattle.iscsi_rules.proofs.items.EmptyingMarks.{EmptiesOne, VoidsOne, admitted-empties, admitted-voids, emptied-empties, empties-one, held-gone, held-other, held-voids, received-empties, received-voids, request_at-empties, request_at-voids, voids-one}
 
--- the window keeps the same of each number
-pub place_of-quiet : (item : List Mark) (t : Trace) (n : ℕ) → IsQuiet item → place_of (item ∷ t) n ≡ place_of t n
-place_of-quiet item t n q = cc (received-quiet item t q, held-quiet item t n q)
-
 -- ---- the next number
 
 -- a number that has no place isn't received
@@ -33,12 +28,9 @@ pub no_place : (t : Trace) (n : ℕ) → place_of t n ≡ None → is_received t
 no_place t n none = grind arith
 
 module _ (o : Setting) (w : Arrived) (t : Trace) (a : WindowAgrees o w t) where
-  -- nothing is received at the next number, where its place is empty
-  pub next_gone : at_place w 0 ≡ None → is_received t (number_expected w) ≡ false
-  next_gone none = grind (arith, nat_tests, no_place)
-
+  -- ExpCmdSN is the next number of the window, where its place is empty
   pub next_expected : at_place w 0 ≡ None → exp_of o t ≡ number_expected w
-  next_expected none = expected_is o.first (number_expected w) t (omega (arith, a.first)) a.below (next_gone none)
+  next_expected none = expected_is o.first (number_expected w) t (omega (arith, a.first)) a.below (grind (arith, nat_tests, no_place))
 
   -- ExpCmdSN isn't below the next number of the window
   pub expected_past_next : number_expected w ≤ exp_of o t
@@ -51,7 +43,7 @@ WindowAgrees-quiet o w t item q a = record {
   first = a.first;
   size = a.size;
   below = λ n low high. cc (received-quiet item t q, a.below n low high);
-  inside = λ k lt. a.inside k lt ∙ sym (place_of-quiet item t (number_expected w + k) q);
+  inside = λ k lt. cc (a.inside k lt, received-quiet item t q, held-quiet item t (number_expected w + k) q);
   above = λ n high. cc (received-quiet item t q, a.above n high);
   past = λ n low. held-quiet item t n q ∙ a.past n low;
   undelivered = λ n high. cc (q.delivers_no n, a.undelivered n high);
@@ -206,13 +198,8 @@ WindowAgrees-turned o w t r ms h place x q =
       );
     })
 
--- nothing is held at the next number, which is received
-pub record Passed (w : Arrived) (t : Trace) : Type 0 where
-  pub received_is : is_received t (number_expected w) ≡ true
-  pub held_is : held t (number_expected w) ≡ None
-
--- nothing is held at the next number, where its place says so
-pub passed_at : (o : Setting) (w : Arrived) (t : Trace) → WindowAgrees o w t → at_place w 0 ≡ Some None → Passed w t
+-- nothing is held at the next number, which is received, where its place says so
+pub passed_at : (o : Setting) (w : Arrived) (t : Trace) → WindowAgrees o w t → at_place w 0 ≡ Some None → (is_received t (number_expected w) ≡ true) × (held t (number_expected w) ≡ None)
 passed_at o w t h place =
     let at : number_expected w + 0 ≡ number_expected w = omega arith in
     let none : place_of t (number_expected w) ≡ Some None = cc (h.inside 0 (has_first w.places None place)) in
@@ -222,10 +209,10 @@ passed_at o w t h place =
 pub WindowAgrees-passed : (o : Setting) (w : Arrived) (t : Trace) → WindowAgrees o w t → at_place w 0 ≡ Some None → WindowAgrees o (turned_on w) t
 WindowAgrees-passed o w t h place =
     let e : ℕ = number_expected w in
-    let p : Passed w t = passed_at o w t h place in
-    let none : request_at t e ≡ None = grind (arith, p.held_is, h.undelivered e) in
+    let p = passed_at o w t h place in
+    let none : request_at t e ≡ None = grind (arith, p.1, h.undelivered e) in
     let delivered : shown delivers t ≡ executed_below o t (e + 1) = cc (h.delivered, executed_below-more o t e (omega (arith, h.first)), none, append-nil (executed_below o t e)) in
-    (turned o w t t None h place (search (p.received_is, p.held_is, delivered))).agrees
+    (turned o w t t None h place (search (p.0, p.1, delivered))).agrees
 
 -- a command begins in a window that has turned
 pub WindowAgrees-started : (o : Setting) (w : Arrived) (t : Trace) → Turned o w t → WindowAgrees o (with_unfinished w (w.unfinished + 1)) t

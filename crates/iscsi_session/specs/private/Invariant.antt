@@ -1,5 +1,5 @@
 -- What holds of every session, whatever it has taken.
-use Rattle.std.specs.Prelude.{◌≡◌, ℕ, ◌+◌, ◌*◌, ◌^◌, ◌<◌, ◌≤◌, true, List, length, count_by, is_some, nat_lt}
+use Rattle.std.specs.Prelude.{◌≡◌, ℕ, ◌+◌, ◌*◌, ◌^◌, ◌≤◌, true, List, length, count_by, is_some, nat_lt}
 use Rattle.std.specs.List.{list_all}
 use Rattle.iscsi_wire.specs.Fields.{connection_of}
 use Rattle.iscsi_window.specs.Received.{Arrived}
@@ -35,19 +35,6 @@ pub record AreFunctionsSound (taken : ℕ) (conns : List (ℕ × ℕ)) (waiting 
   pub may : list_all (λ w. may_wait w.request) waiting ≡ true  -- is one that may wait
   pub few : (cid : ℕ) → waiting_in waiting cid ≤ 4  -- and is one of few on its connection
 
--- the containers' rooms, by the numbers of places and connections
-pub record HasRooms (places conns live_room waiting_room left_room : ℕ) : Type 0 where
-  pub live : places + 8 * conns ≤ live_room  -- for a command at each place, and the immediate ones of each connection
-  pub waiting : 4 * conns ≤ waiting_room  -- for the functions that may wait on each connection
-  pub left : places + 8 * conns ≤ left_room  -- for the tickets of as many commands as there is room for, where all leave
-
--- the limits of the options, by the numbers of events, connections and units
-pub record IsWithinLimits (count most cids sets : ℕ) : Type 0 where
-  pub taken : count ≤ most  -- no more events were taken than the options allow
-  pub events : most ≤ 2 ^ 48
-  pub conns : cids ≤ 64
-  pub units : sets ≤ 256
-
 -- what holds of every session, with the count of immediate commands of each connection, and how many elements the containers
 -- have memory for
 pub record IsSessionSound (s : Core) (immediate : List ℕ) (live_room waiting_room left_room : ℕ) : Type 0 where
@@ -55,5 +42,10 @@ pub record IsSessionSound (s : Core) (immediate : List ℕ) (live_room waiting_r
   pub commands : AreCommandsSound s.window.unfinished s.entered s.conns immediate s.sets s.live
   pub functions : AreFunctionsSound s.taken s.conns s.waiting
   pub sets : AreRoomy s.depth live_room s.sets
-  pub rooms : HasRooms (length s.window.places) (length s.conns) live_room waiting_room left_room
-  pub limits : IsWithinLimits s.taken s.events (length s.conns) (length s.sets)
+  pub live_fits : length s.window.places + 8 * length s.conns ≤ live_room  -- a command at each place, and the immediate ones of each connection
+  pub waiting_fits : 4 * length s.conns ≤ waiting_room  -- the functions that may wait on each connection
+  pub left_fits : length s.window.places + 8 * length s.conns ≤ left_room  -- the tickets of as many commands as there is room for, where all leave
+  pub most : s.taken ≤ s.events  -- no more events were taken than the options allow
+  pub few_events : s.events ≤ 2 ^ 48
+  pub few_conns : length s.conns ≤ 64
+  pub few_units : length s.sets ≤ 256

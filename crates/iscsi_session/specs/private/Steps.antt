@@ -98,9 +98,6 @@ pub record Handles {S : Type 0} (has : S → List ℕ → List Effect → Type 0
 abbrev pub set_at : Core → ℕ → Members
 set_at s unit = slice_index_or s.sets unit (opened_set 0)
 
-abbrev pub units_of : Core → List ℕ
-units_of s = range_with_len 0 (length s.sets)
-
 -- every enabled command of the set was given
 abbrev pub as_given : Member → Member
 as_given m = record { task = m.task; enabled = m.enabled; given = m.given || m.enabled }
@@ -121,7 +118,7 @@ abbrev pub unit_told : Core → ℕ → Step
 unit_told s unit = record { core = record s { sets = slice_set s.sets unit (all_given (set_at s unit)) }; effects = enable_effects unit (set_at s unit).list }
 
 abbrev pub all_told : Core → Step
-all_told s = record { core = record s { sets = map all_given s.sets }; effects = flat_map (λ unit. enable_effects unit (set_at s unit).list) (units_of s) }
+all_told s = record { core = record s { sets = map all_given s.sets }; effects = flat_map (λ unit. enable_effects unit (set_at s unit).list) (range_with_len 0 (length s.sets)) }
 
 -- ---- what is found of live commands and functions that wait
 
@@ -319,7 +316,7 @@ conns_closed s scope = let left = still_open scope s.open_conns in record {
 -- what is live, is held or waits is taken out, the request is answered, and the connection or the session is closed
 abbrev pub logged_out : Core → Request → Option ℕ → Step
 logged_out s r scope =
-    and_then (all_commands_left s (units_of s) (is_covered (cover_of scope))) (λ s'.
+    and_then (all_commands_left s (range_with_len 0 (length s.sets)) (is_covered (cover_of scope))) (λ s'.
     and_then (all_emptied s' scope) (λ s'.
     and_then (replied (record s' { waiting = filter (λ w. not (is_asked scope (connection_of w.request))) s'.waiting }) (connection_of r) (reply_of r (LogOut 0))) (λ s'.
     and_then (conns_closed s' scope) all_told)))

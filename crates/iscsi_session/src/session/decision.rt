@@ -76,7 +76,7 @@ impl Session {
     }
 
     /// Whether a live command has this tag.
-    #[tactic(auto, using(crate::proofs::TagLemmas::any_found, std::proofs::lemmas::Bool::Decides::nat_tests))]
+    #[tactic(auto, using(crate::proofs::KeptLemmas::any_found, std::proofs::lemmas::Bool::Decides::nat_tests))]
     #[inline(always)]
     fn is_tag_live(&self, itt: u32) -> bool
         ensures { result ≡ is_tag_kept self.now itt }
@@ -173,7 +173,7 @@ impl Session {
     /// What a function to a unit does.
     ///
     /// Rules: `abort-set/lower`, `abort-set/equal`, `reset/all`, `query-task/live`, `query-task-set/live`.
-    #[tactic(auto, using(crate::proofs::TagLemmas::unit_steps))]
+    #[tactic(auto, using(crate::proofs::KeptLemmas::unit_steps))]
     fn decide_to(&self, request: &Request, unit: u16) -> Deed
         requires named { unit_of_lun (length self.now.sets) request.now ≡ Some unit }
         requires unit { unit < length self.now.sets }

@@ -85,7 +85,7 @@ fn dequeue(
 
 /// The command with this ticket leaves the set of its unit, and its ticket is noted, if it is there. It is still among
 /// the live ones.
-#[tactic(auto, using(crate::proofs::TagLemmas::ticket_steps))]
+#[tactic(auto, using(crate::proofs::KeptLemmas::ticket_steps))]
 fn dequeue_one(
     sets: &mut [LinkedTaskSet],
     live: &LiveCommands,

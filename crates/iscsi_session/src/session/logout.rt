@@ -1,11 +1,12 @@
 //! Logout, and the closing of connections and of the session (RFC 7143 sections 11.14 and 11.15).
 
 ghost use Rattle.std.specs.Prelude.{not, filter, ◌≡◌, ◌+◌, ◌≤◌, ◌<◌, ◌++◌, length, true, count_by, vec_len, vec_capacity};
+ghost use Rattle.std.specs.List.{range_with_len};
 ghost use Rattle.iscsi_wire.specs.Fields.{connection_of};
 ghost use Rattle.iscsi_window.specs.Windows.{is_asked};
 ghost use Rattle.iscsi_tasks.specs.Sets.{is_covered};
 ghost use Rattle.iscsi_session.specs.private.Standing.{is_held};
-ghost use Rattle.iscsi_session.specs.private.Steps.{Continues, is_among_open, Takes, units_of, all_told, all_commands_left, cover_of as cover_named, is_clear_below, all_emptied, waiting_then, session_closes, conns_closed, logged_out, owed};
+ghost use Rattle.iscsi_session.specs.private.Steps.{Continues, is_among_open, Takes, all_told, all_commands_left, cover_of as cover_named, is_clear_below, all_emptied, waiting_then, session_closes, conns_closed, logged_out, owed};
 
 use crate::session::Session;
 use crate::session::leaving::Leaving;
@@ -50,7 +51,7 @@ impl Session {
     /// The live commands of a connection, or of all for None, leave: units ascending, the oldest first.
     fn leave_all<S: EffectSink>(&mut self, scope: Option<u16>, out: &mut S)
         requires room { S.len out.old + owed self.old.live self.old.sets ≤ S.capacity out.old }
-        ensures done { Takes S.has S.capacity (all_commands_left self.old (units_of self.old) (is_covered (cover_named scope))) self.new out.old
+        ensures done { Takes S.has S.capacity (all_commands_left self.old (range_with_len 0 (length self.old.sets)) (is_covered (cover_named scope))) self.new out.old
             out.new }
         ensures spent { S.len out.new + owed self.new.live self.new.sets ≤ S.len out.old
             + owed self.old.live self.old.sets }

@@ -89,7 +89,7 @@ pub(crate) fn announce<S: EffectSink>(sets: &mut [LinkedTaskSet], unit: u16, out
 
 /// Announces to a unit the commands that became enabled, the oldest first.
 #[inline(always)]
-#[tactic(auto, using(crate::proofs::GivingLemmas::given_one, crate::proofs::GivingLemmas::given_all, std::proofs::lemmas::Bool::Decides::nat_tests))]
+#[tactic(auto, using(crate::proofs::KeptLemmas::given_one, crate::proofs::KeptLemmas::given_all, std::proofs::lemmas::Bool::Decides::nat_tests))]
 fn enable_new<S: EffectSink>(set: &mut LinkedTaskSet, unit: u16, out: &mut S)
     requires room { S.len out.old + count_by is_new set.old.list ≤ S.capacity out.old }
     ensures set { set.new ≡ all_given set.old }

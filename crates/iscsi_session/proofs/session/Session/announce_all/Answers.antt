@@ -3,8 +3,8 @@ use Rattle.iscsi_rules.specs.declared.effect.Effect.{Effect}
 use Rattle.std.specs.List.{range_with_len, flat_map}
 use Rattle.iscsi_session.proofs.SinkLemmas.{continued, ended}
 use Rattle.iscsi_session.specs.private.Standing.{Core}
-use Rattle.iscsi_session.specs.private.Steps.{set_at, all_given, enable_effects, all_told}
-use Rattle.iscsi_session.proofs.GivingLemmas.{given_set, told_more, told_all, told_later}
+use Rattle.iscsi_session.specs.private.Steps.{set_at, all_given, enable_effects}
+use Rattle.iscsi_session.proofs.KeptLemmas.{given_set, told_more, told_all, told_later}
 use Rattle.iscsi_session.proofs.session.Session.announce_all.Goals as goal
 use Rattle.iscsi_rules.proofs.general.ListLemmas.{range_step}
 

@@ -5,13 +5,13 @@ use Rattle.iscsi_session.specs.contracts.session.Session.{the_view}
 use Rattle.iscsi_rules.specs.declared.effect.Effect.TheVariants.{Deliver}
 use Rattle.iscsi_session.specs.private.Standing.{Core, is_held}
 use Rattle.iscsi_session.specs.private.Steps.{Takes, after_effect}
-use Rattle.iscsi_session.specs.private.Deeds.{executed}
+use Rattle.iscsi_session.specs.private.Deeds.{executed, position_by, deed_by}
 use Rattle.iscsi_rules.proofs.general.BoolLemmas.{and_first, not_true}
 use Rattle.iscsi_session.proofs.WindowLemmas.{Advanced, advanced_at}
-use Rattle.iscsi_session.proofs.DeedLemmas.{executed_counted}
+use Rattle.iscsi_session.proofs.DeedLemmas.{carried_counted, fits_deed}
 use Rattle.iscsi_session.proofs.session.Session.deliver_next.Given.{Over}
 use Rattle.iscsi_session.proofs.session.Session.deliver_next.Goals as goal
-use Rattle.iscsi_session.proofs.session.Session.deliver_next.Goals.{In-Some, In-Some-held}
+use Rattle.iscsi_session.proofs.session.Session.deliver_next.Goals.{In-Some-held}
 use Rattle.std.proofs.lemmas.Bool.Decides.{nat_tests}
 
 -- the number has turned, and this was held for it
@@ -36,5 +36,5 @@ pub returns-in-Some-held-clause-fewer : goal.returns-in-Some-held-clause-fewer
 returns-in-Some-held-clause-fewer over c = λ said.
     let path = (goal.at.returns-in-Some-held-clause-fewer over c).In-Some-held in
     let t : Core = record (the_view c.self.inside) { window = c.advance.new.self } in
-    let counted = executed_counted t c.in-Some-held.field-0.request c.in-Some-held.field-0.event (numbered over path) in
+    let counted = carried_counted t c.in-Some-held.field-0.request (position_by t c.in-Some-held.field-0.request) c.in-Some-held.field-0.event (deed_by t c.in-Some-held.field-0.request) (fits_deed t c.in-Some-held.field-0.request) (numbered over path) in
     rw (← c.self.view_is) (omega (arith, ap (λ (u : Core). count_by is_some u.window.places) c.deliver_apart.ensures.done.core, counted, ap (λ w. count_by is_some w.places) c.advance.ensures.state, (turned over path).counted))

@@ -9,7 +9,6 @@ use Rattle.iscsi_wire.specs.Fields.{is_immediate}
 use Rattle.iscsi_window.specs.Windows.{Arrived}
 use Rattle.iscsi_tasks.specs.Sets.{Members, opened, entered_to, given_by}
 use Rattle.iscsi_commands.specs.declared.live.Live.{Live}
-use Rattle.iscsi_connections.specs.Connected.{Connected}
 use Rattle.iscsi_session.specs.private.Standing.{Core}
 use Rattle.iscsi_session.specs.private.Invariant.{IsWindowSound}
 use Rattle.iscsi_session.specs.private.Steps.{new_live, new_task, started}
@@ -31,7 +30,7 @@ room_left over c =
     let inv = c.self.invariant in
     omega (
       arith,
-      inv.rooms.live,
+      inv.live_fits,
       room_for_one c.self.inside.window.unfinished (length c.self.inside.window.places) c.self.inside.connections.conns c.self.inside.live.items (new_live c.args.self.now c.args.request.now c.args.unit)
           inv.commands.numbered inv.window.fits inv.commands.counted.few inv.commands.known (rw (← c.self.view_is) at c.requires.known) (λ is. (rw (← c.self.view_is) at (c.requires.space is)).not_full) (rw (← c.self.view_is) at c.requires.few),
     )

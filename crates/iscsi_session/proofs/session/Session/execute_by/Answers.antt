@@ -1,8 +1,7 @@
 use Rattle.std.proofs.Common.{rules, w64, arith}
 use Rattle.std.proofs.lemmas.Int.{to_z-of_z}
 use Rattle.iscsi_session.specs.private.Deeds.{deed_by}
-use Rattle.iscsi_session.proofs.DeedLemmas.{fits_deed, ready, executed_stays}
-use Rattle.iscsi_session.proofs.LoggedOutLemmas.{Stays}
+use Rattle.iscsi_session.proofs.DeedLemmas.{fits_deed, ready, executed_stays, Stays}
 use Rattle.iscsi_session.proofs.session.Session.execute_by.Goals as goal
 
 pub carry_out-requires-clause-ready : goal.carry_out-requires-clause-ready

@@ -1,9 +1,8 @@
-use Rattle.std.proofs.Common.{◌≡◌, ◌∙◌, ℕ, arith, length-set, refl, ◌+◌, ◌-◌}
-use Rattle.std.specs.List.{range_with_len}
+use Rattle.std.proofs.Common.{◌≡◌, ◌∙◌, ℕ, arith, length-set, refl, ◌-◌}
 use Rattle.iscsi_session.proofs.SinkLemmas.{continued}
 use Rattle.iscsi_session.specs.private.Standing.{Core}
 use Rattle.iscsi_tasks.specs.Sets.{is_covered}
-use Rattle.iscsi_session.specs.private.Steps.{units_of, all_commands_left, commands_left, cover_of}
+use Rattle.iscsi_session.specs.private.Steps.{commands_left, cover_of}
 use Rattle.iscsi_rules.proofs.general.ListLemmas.{range_step}
 use Rattle.iscsi_session.proofs.session.Session.leave_all.Goals as goal
 

@@ -1,14 +1,14 @@
 use Rattle.std.proofs.Common.{◌≡◌, ◌+◌, ◌-◌, ◌≤◌, length}
 use Rattle.std.specs.List.{range_with_len}
 use Rattle.iscsi_tasks.specs.Sets.{is_covered}
-use Rattle.iscsi_session.specs.private.Steps.{Continues, units_of, all_commands_left, cover_of, owed}
+use Rattle.iscsi_session.specs.private.Steps.{Continues, all_commands_left, cover_of, owed}
 use Rattle.iscsi_session.proofs.session.Session.leave_all.Given as goal
 
 -- the units that are done and those that are still to do are the whole
 abbrev pub invariant-loop-unit : goal.invariant-loop-unit
 invariant-loop-unit over l = record {
-  session : (all_commands_left l.self (range_with_len l.unit (l.unit-end - l.unit)) (is_covered (cover_of l.fn.scope))).core ≡ (all_commands_left l.initial.self (units_of l.initial.self) (is_covered (cover_of l.fn.scope))).core;
-  effects : Continues over.S.EffectSink.has (all_commands_left l.initial.self (units_of l.initial.self) (is_covered (cover_of l.fn.scope))).effects (all_commands_left l.self (range_with_len l.unit (l.unit-end - l.unit)) (is_covered (cover_of l.fn.scope))).effects l.initial.out l.out;
+  session : (all_commands_left l.self (range_with_len l.unit (l.unit-end - l.unit)) (is_covered (cover_of l.fn.scope))).core ≡ (all_commands_left l.initial.self (range_with_len 0 (length l.initial.self.sets)) (is_covered (cover_of l.fn.scope))).core;
+  effects : Continues over.S.EffectSink.has (all_commands_left l.initial.self (range_with_len 0 (length l.initial.self.sets)) (is_covered (cover_of l.fn.scope))).effects (all_commands_left l.self (range_with_len l.unit (l.unit-end - l.unit)) (is_covered (cover_of l.fn.scope))).effects l.initial.out l.out;
   cover : l.cover ≡ cover_of l.fn.scope;
   units : length l.self.sets ≡ l.unit-end;
   places : l.self.window.places ≡ l.initial.self.window.places;

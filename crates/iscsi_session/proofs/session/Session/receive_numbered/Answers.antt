@@ -28,7 +28,7 @@ returns-then-comes_next-clause-items over c = λ o index t now h.
     let s : Core = c.args.self.now in
     let r : Request = c.args.request.now in
     let next : comes_next s r ≡ true = sym c.comes_next.ensures ∙ c.if-comes_next.true in
-    held_handled over.S.EffectSink.has o s (with_offered s r) c.run_agenda.new.self index t r c.args.out.now c.run_agenda.new.out (offered_known o s index t r (comes_first s.window (held_now s r) (comes_alone s r next).1).held h c.requires.regular c.requires.known now) refl
+    held_handled over.S.EffectSink.has o s (with_offered s r) c.run_agenda.new.self index t r c.args.out.now c.run_agenda.new.out (offered_known o s index t r (comes_first s.window (held_now s r) (comes_alone s r next).1).0 h c.requires.regular c.requires.known now) refl
     (carried_at_once over.S.EffectSink.has over.S.EffectSink.capacity s c.deliver_at_once.new.self c.run_agenda.new.self r c.args.out.now c.deliver_at_once.new.out c.run_agenda.new.out next c.deliver_at_once.ensures.done c.run_agenda.ensures.items)
 
 pub returns-then-comes_next-clause-taken : goal.returns-then-comes_next-clause-taken
@@ -41,5 +41,5 @@ returns-then-comes_next-clause-pace over c =
     let r : Request = c.args.request.now in
     let d : Delivered s.window (held_now s r) = delivered s.window (held_now s r) (comes_alone s r (sym c.comes_next.ensures ∙ c.if-comes_next.true)).1 in
     let one : KeepsPace (with_offered s r).window c.deliver_at_once.new.self.window = subst (λ (v : Core). KeepsPace (with_offered s r).window v.window) (sym c.deliver_at_once.ensures.done.core)
-    (subst (λ p. KeepsPace (with_offered s r).window (turn_taken (with_offered s r) p).core.window) d.first.there (pace-turned (with_offered s r))) in
+    (subst (λ p. KeepsPace (with_offered s r).window (turn_taken (with_offered s r) p).core.window) d.there (pace-turned (with_offered s r))) in
     omega (arith, one, c.run_agenda.ensures.pace, d.grown_is.turned, d.grown_is.unfinished)

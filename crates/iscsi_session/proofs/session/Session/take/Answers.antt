@@ -12,7 +12,7 @@ use Rattle.iscsi_session.specs.private.Steps.{KeepsPace, Handles}
 use Rattle.iscsi_session.proofs.PromiseLemmas.{Flows-step}
 use Rattle.iscsi_session.proofs.ManageLemmas.{few}
 use Rattle.iscsi_session.proofs.AgreeLemmas.{settled_numbers}
-use Rattle.iscsi_session.proofs.AgendaLemmas.{Settled-counted, taken_by, refusal_as}
+use Rattle.iscsi_session.proofs.AgendaLemmas.{taken_by, refusal_as}
 use Rattle.iscsi_session.proofs.SoundLemmas.{taken_sound}
 use Rattle.iscsi_session.proofs.RefusalLemmas.{taken_belongs}
 use Rattle.iscsi_session.proofs.session.Session.take.Given.{Over}
@@ -23,7 +23,7 @@ pub invariant_of-self : goal.invariant_of-self
 invariant_of-self over c = taken_sound c.self.invariant (rw (← c.self.view_is) at (taken_by c.args.self.now c.args.event.now c.requires.taken).1)
 
 pub apply-requires-clause-room : goal.apply-requires-clause-room
-apply-requires-clause-room over c = ⊎_elim (λ most. omega (arith, most, few c.self.invariant, c.self.invariant.window.most, c.self.invariant.window.fits, c.self.invariant.limits.conns)) (λ enough. enough) (rw (← c.self.view_is) at c.requires.room)
+apply-requires-clause-room over c = ⊎_elim (λ most. omega (arith, most, few c.self.invariant, c.self.invariant.window.most, c.self.invariant.window.fits, c.self.invariant.few_conns)) (λ enough. enough) (rw (← c.self.view_is) at c.requires.room)
 
 -- what the event does, where the session stood for those before
 applied : (over : Over) (c : After-apply over) (o : Setting) (h : List Event) → StandsFor o c.args.self.now h
@@ -31,7 +31,7 @@ applied : (over : Over) (c : After-apply over) (o : Setting) (h : List Event) �
 applied over c o h stands =
     let here = rw (← c.self.view_is) at stands in
     let index : c.self.inside.taken + 1 ≡ length h + 1 = omega (arith, here.taken) in
-    c.apply.ensures.items o (length h) (trace_of o h) index (Settled-counted o _ (trace_of o h) here.settled)
+    c.apply.ensures.items o (length h) (trace_of o h) index (assumption here.settled)
 
 pub returns : goal.returns
 returns over c =

@@ -24,7 +24,7 @@ waits_one over c w is =
 pub push-requires-clause-room : goal.push-requires-clause-room
 push-requires-clause-room over c =
     let w = waits_one over (goal.at.push-requires-clause-room over c).After-exp (record { request = c.args.request.now; turn = 0; event = 0 }) refl in
-    omega (arith, w.room, c.self.invariant.rooms.waiting)
+    omega (arith, w.room, c.self.invariant.waiting_fits)
 
 pub invariant_of-self : goal.invariant_of-self
 invariant_of-self over c =

@@ -2,8 +2,7 @@ use Rattle.std.proofs.Common.{◌≡◌, ◌∙◌, ◌++◌, List, [], ◌∷�
 use Rattle.std.proofs.lemmas.List.{get_or_default}
 use Rattle.iscsi_tasks.specs.Sets.{Members, opened}
 use Rattle.iscsi_session.specs.private.Steps.{has_covered, covers_ticket}
-use Rattle.iscsi_session.proofs.KeptLemmas.{one_leaving}
-use Rattle.iscsi_session.proofs.TagLemmas.{noted}
+use Rattle.iscsi_session.proofs.KeptLemmas.{one_leaving, noted}
 use Rattle.iscsi_session.proofs.session.leaving.dequeue_one.Goals as goal
 use Rattle.iscsi_session.proofs.session.leaving.dequeue_one.Goals.{After-is_some}
 

@@ -1,12 +1,12 @@
-use Rattle.std.proofs.Common.{◌∙◌, ◌<◌, ◌≤◌, ◌==◌, ℕ, not, List, length, count_by, get_or, ap, sym, arith, rules, [], ◌∷◌, drop, ◌+◌}
+use Rattle.std.proofs.Common.{◌∙◌, ◌<◌, ◌≤◌, ◌==◌, ℕ, not, List, length, count_by, get_or, ap, sym, arith, rules, [], ◌∷◌}
 use Rattle.std.specs.Prelude.{IsSome}
-use Rattle.iscsi_rules.proofs.general.ListLemmas.{fewer_counted}
+use Rattle.iscsi_rules.proofs.general.ListLemmas.{fewer_counted, list_all-filter}
 use Rattle.iscsi_commands.specs.declared.live.Live.{Live}
 use Rattle.iscsi_rules.specs.declared.effect.Effect.TheVariants.{Leave}
 use Rattle.iscsi_session.proofs.SinkLemmas.{started, continued}
 use Rattle.iscsi_session.specs.private.Steps.{leave_each, find_ticket, without_ticket, is_numbered}
 use Rattle.iscsi_session.proofs.KeptLemmas.{ascending-kept, without_none, without_more, leave_next, there_yet, finished_none, finished_on, without_shorter}
-use Rattle.iscsi_session.proofs.ListLemmas.{are_known-left}
+use Rattle.iscsi_rules.specs.rules.Settings.{is_known}
 use Rattle.iscsi_session.proofs.session.leaving.end_all.Goals.{In-loop-k}
 use Rattle.iscsi_session.proofs.session.leaving.end_all.Given.{Over}
 use Rattle.iscsi_session.proofs.session.leaving.end_all.Goals as goal
@@ -44,7 +44,7 @@ loop-k-preserved over c =
       connections = rw (c.end.ensures.connections, inv.connections);
       counted = rw inv.connections at c.end.ensures.counted;
       ascending = rw c.end.ensures.live (ascending-kept (λ l. not (l.ticket == ticket)) before inv.ascending);
-      known = rw c.end.ensures.live (are_known-left ticket before c.args.connections.now.conns inv.known);
+      known = rw c.end.ensures.live (list_all-filter (λ (l : Live). not (l.ticket == ticket)) (λ l. is_known l.conn c.args.connections.now.conns) before inv.known);
       live_capacity = c.end.ensures.capacity ∙ inv.live_capacity;
       effects = continued (Leave ticket c.args.unit ∷ []) inv.effects (leave_next tickets k 0 inside c.args.unit) c.put_leave.ensures.has;
       spent = omega (arith, ap length c.end.ensures.live, without_shorter ticket before there, inv.spent, c.put_leave.ensures.len);

@@ -1,9 +1,7 @@
 use Rattle.std.proofs.Common.{◌∙◌, sym, arith, [], ◌∷◌}
-use Rattle.iscsi_tasks.specs.Sets.{given_in}
 use Rattle.iscsi_rules.specs.declared.effect.Effect.TheVariants.{Enable}
-use Rattle.iscsi_session.specs.private.Steps.{enable_effects}
 use Rattle.iscsi_session.proofs.SinkLemmas.{continued, ended}
-use Rattle.iscsi_session.proofs.GivingLemmas.{given_one, given_all}
+use Rattle.iscsi_session.proofs.KeptLemmas.{given_one, given_all}
 use Rattle.iscsi_session.proofs.session.sets.enable_new.Goals as goal
 
 pub loop-ticket-preserved : goal.loop-ticket-preserved

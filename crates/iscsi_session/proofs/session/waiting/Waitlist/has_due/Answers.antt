@@ -1,7 +1,7 @@
 use Rattle.std.proofs.Common.{◌≡◌, ◌==◌, find, arith, None}
 use Rattle.std.proofs.lemmas.Bool.Decides.{nat_tests}
 use Rattle.iscsi_session.specs.declared.session.waiting.Waiting.{Waiting}
-use Rattle.iscsi_session.proofs.WaitLemmas.{none_due}
+use Rattle.iscsi_session.proofs.ManageLemmas.{none_due}
 use Rattle.iscsi_session.proofs.session.waiting.Waitlist.has_due.Goals as goal
 
 pub returns-else-self-turn : goal.returns-else-self-turn
