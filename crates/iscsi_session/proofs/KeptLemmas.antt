@@ -111,9 +111,6 @@ rising_in unit lives up = rw rising_are (ascending-kept _ lives up)
 -- ---- who leaves, of a set and of the live commands
 
 module _ (covers : Task → Bool) (now : Members) where
-  ungiven-staying : ungiven (set_staying covers now) ≤ ungiven now
-  ungiven-staying = grind (arith, count_by-map {A = Member}, fewer_counted {A = Member})
-
   -- the tickets that are left in its set
   left_tickets : rising (tickets now.list) ≡ true → tickets_of (set_staying covers now) ≡ filter (λ t. not (is_gone covers now t)) (tickets now.list)
   left_tickets up =
@@ -161,7 +158,7 @@ ungiven_in-set (x ∷ sets) (suc unit) new lt = omega (arith, ungiven_in-set set
 
 -- no more is owed than was
 pub ungiven_in-staying : (sets : List Members) (unit : ℕ) (covers : Task → Bool) → unit < length sets → ungiven_in (set sets unit (set_staying covers (get_or sets unit (opened 0)))) ≤ ungiven_in sets
-ungiven_in-staying sets unit covers inside = grind (arith, nat_tests, ungiven_in-set, ungiven-staying)
+ungiven_in-staying sets unit covers inside = grind (arith, nat_tests, ungiven_in-set, count_by-map {A = Member}, fewer_counted {A = Member})
 
 -- ---- tickets that go up
 
@@ -260,11 +257,7 @@ pub one_missing : (k unit : ℕ) (now : Members) (lives : List Live) → tickets
 one_missing k unit now lives match none = grind (arith, nat_tests, some_live k unit lives, list_any-map (λ t. t == k) (λ (m : Member). m.task.ticket) now.list)
 
 pub one_live : (k : ℕ) (now : Members) (lives : List Live) → cond (has_covered (covers_ticket k) now) (without_ticket k lives) lives ≡ staying (covers_ticket k) now lives
-one_live k now lives = simp one_gone (by_test (has_covered (covers_ticket k) now))
-  where
-    by_test : (b : Bool) → cond b (without_ticket k lives) lives ≡ filter (λ l. not (l.ticket == k && b)) lives
-    by_test true = simp and_true
-    by_test false = simp (and_false, filter-true)
+one_live k now lives = simp one_gone (elim (has_covered (covers_ticket k) now) as (λ b. cond b (without_ticket k lives) lives ≡ filter (λ l. not (l.ticket == k && b)) lives) [ true ↦ simp and_true | false ↦ simp (and_false, filter-true) ])
 
 pub one_covered : (k : ℕ) (ms : List Member) → rising (tickets ms) ≡ true → covered_tickets (covers_ticket k) ms ≡ cond (list_any (λ m. m.task.ticket == k) ms) (k ∷ []) []
 one_covered k [] up = refl
@@ -380,9 +373,6 @@ given_again : (ms : List Member) → map as_given (map as_given ms) ≡ map as_g
 given_again [] = refl
 given_again (m ∷ ms) = grind (arith, nat_tests, given_again ms)
 
-told_again : (s : Members) → all_given (all_given s) ≡ all_given s
-told_again s = rw (given_again s.list)
-
 pub given_set : (sets : List Members) (u : ℕ) → map all_given (set sets u (all_given (get_or sets u (opened 0)))) ≡ map all_given sets
 given_set [] u = refl
 given_set (s ∷ sets) zero = rw (given_again s.list)
@@ -390,7 +380,7 @@ given_set (s ∷ sets) (suc u) = rw (given_set sets u)
 
 pub told_more : (sets : List Members) (u : ℕ) → u < length sets → ((k : ℕ) → k < u → all_given (get_or sets k (opened 0)) ≡ get_or sets k (opened 0))
     → (k : ℕ) → k < u + 1 → all_given (get_or (set sets u (all_given (get_or sets u (opened 0)))) k (opened 0)) ≡ get_or (set sets u (all_given (get_or sets u (opened 0)))) k (opened 0)
-told_more sets u inside told k lt = grind (arith, nat_tests, get_or-set_at, told_again, get_or-set_other)
+told_more sets u inside told k lt = grind (arith, nat_tests, get_or-set_at, given_again, get_or-set_other)
 
 pub told_all : (sets : List Members) → ((k : ℕ) → k < length sets → all_given (get_or sets k (opened 0)) ≡ get_or sets k (opened 0)) → map all_given sets ≡ sets
 told_all [] told = refl

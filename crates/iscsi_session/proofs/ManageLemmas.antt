@@ -1,5 +1,5 @@
 -- The functions that wait, and how many effects are to come.
-use Rattle.std.proofs.Common.{find, Some, All, ◌&&◌, nat_lt, is_some, ◌-◌, ◌≡◌, ℕ, ◌+◌, ◌*◌, ◌<◌, ◌≤◌, ◌==◌, not, cond, true, List, [], ◌∷◌, ◌++◌, length, filter, set, ap, arith, count_by, suc, nat_le, get_or, sym, ◌∙◌, Bool, false, drop, map, position, None, refl}
+use Rattle.std.proofs.Common.{find, Some, All, ◌&&◌, nat_lt, is_some, ◌-◌, ◌≡◌, ℕ, ◌+◌, ◌*◌, ◌<◌, ◌≤◌, ◌==◌, not, cond, true, List, [], ◌∷◌, ◌++◌, length, filter, ap, arith, count_by, suc, nat_le, get_or, sym, ◌∙◌, Bool, false, drop, map, position, None, refl}
 use Rattle.std.specs.List.{list_all}
 use Rattle.std.proofs.lemmas.Bool.Decides.{nat_tests}
 use Rattle.std.proofs.lemmas.List.{length_push, length-map}
@@ -7,8 +7,7 @@ use Rattle.std.proofs.lemmas.List.Folds.{list_all-append}
 use Rattle.std.proofs.lemmas.List.Sums.{length-filter, count_by-le-length, sum_by-cons, AllPass-from_list_all}
 use Rattle.iscsi_wire.specs.declared.request.Request.{Request}
 use Rattle.iscsi_wire.specs.Fields.{connection_of}
-use Rattle.iscsi_tasks.specs.declared.task.Task.{Task}
-use Rattle.iscsi_tasks.specs.Sets.{Members, entered_to, given_by, opened}
+use Rattle.iscsi_tasks.specs.Sets.{Members, opened}
 use Rattle.iscsi_session.specs.declared.session.waiting.Waiting.{Waiting}
 use Rattle.iscsi_rules.specs.rules.Settings.{is_known, Setting}
 use Rattle.iscsi_session.specs.private.Standing.{Core, is_held, Match, tickets_of, tickets_in, are_within, arrival_waiting}
@@ -93,12 +92,9 @@ waits_more conns waits w few known this room =
 
 -- ---- what may be to come
 
-ungiven_entered : (set : Members) (task : Task) → ungiven (given_by (entered_to set task)) ≤ ungiven set + 1
-ungiven_entered set task = grind (arith, nat_tests, count_by-map, count_by-push, ungiven_given)
-
 -- a command that enters may leave, and be enabled before
 pub owed_entered : (s : Core) (r : Request) (unit : ℕ) → unit < length s.sets → owed (command_entered s r unit).core.live (command_entered s r unit).core.sets ≤ owed s.live s.sets + 2
-owed_entered s r unit inside = grind (arith, nat_tests, ungiven_in-set, ungiven_entered, length_push)
+owed_entered s r unit inside = grind (arith, nat_tests, ungiven_in-set, count_by-map, count_by-push, ungiven_given, length_push)
 
 -- few requests are held, few functions wait, and few commands are live
 pub record Few (s : Core) : Type 0 where
