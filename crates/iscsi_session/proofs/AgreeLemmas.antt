@@ -34,7 +34,7 @@ use Rattle.iscsi_wire.specs.Fields.{connection_of}
 use Rattle.iscsi_window.specs.Windows.{Arrived, number_expected, room_of}
 use Rattle.iscsi_rules.specs.declared.effect.Effect.{Effect}
 use Rattle.iscsi_rules.specs.declared.effect.Why.{Why}
-use Rattle.iscsi_rules.specs.rules.Execution.{exp_of, max_of, ignored, unfinished}
+use Rattle.iscsi_rules.specs.rules.Execution.{exp_of, max_of, ignored}
 use Rattle.iscsi_rules.specs.promises.Flow.{HasOneMore}
 use Rattle.iscsi_session.specs.declared.session.waiting.Waiting.{Waiting}
 use Rattle.iscsi_rules.proofs.items.ReceivedItems.{ignored_receives}

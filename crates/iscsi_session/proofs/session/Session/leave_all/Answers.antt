@@ -1,4 +1,4 @@
-use Rattle.std.proofs.Common.{◌≡◌, ◌∙◌, ℕ, arith, length-set, refl, ◌-◌}
+use Rattle.std.proofs.Common.{◌≡◌, ◌∙◌, ℕ, arith, length-set, refl}
 use Rattle.iscsi_session.proofs.SinkLemmas.{continued}
 use Rattle.iscsi_session.specs.private.Standing.{Core}
 use Rattle.iscsi_tasks.specs.Sets.{is_covered}
