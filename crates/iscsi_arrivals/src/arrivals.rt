@@ -108,6 +108,7 @@ impl Arrivals {
     }
 
     /// Whether it has joined and isn't lost.
+    #[inline(always)]
     pub fn is_open(&self) -> bool
         ensures answer { result ≡ is_open_by self.now }
         ensures since { (l : Link) → StandsFor self.now l → result ≡ is_open l }
@@ -116,6 +117,7 @@ impl Arrivals {
     }
 
     /// Whether it takes requests and own PDUs: it is open, and no Logout closed it.
+    #[inline(always)]
     pub fn is_usable(&self) -> bool
         ensures answer { result ≡ is_usable_by self.now }
         ensures since { (l : Link) → StandsFor self.now l → result ≡ is_usable l }
@@ -124,6 +126,7 @@ impl Arrivals {
     }
 
     /// Whether something may enter its queue: it is open, and no Logout on another connection closed it.
+    #[inline(always)]
     pub fn takes_more(&self) -> bool
         ensures answer { result ≡ takes_more_by self.now }
         ensures since { (l : Link) → StandsFor self.now l → result ≡ takes_more l }
@@ -173,6 +176,7 @@ impl Arrivals {
     }
 
     /// Whether its transport is gone.
+    #[inline(always)]
     pub fn is_lost(&self) -> bool
         ensures answer { result ≡ self.now.lost }
         ensures since { (l : Link) → StandsFor self.now l → result ≡ l.lost }
@@ -181,6 +185,7 @@ impl Arrivals {
     }
 
     /// Whether a Logout on another connection closed it.
+    #[inline(always)]
     pub fn is_cut(&self) -> bool
         ensures answer { result ≡ self.now.cut }
         ensures since { (l : Link) → StandsFor self.now l → result ≡ l.cut }
@@ -189,6 +194,7 @@ impl Arrivals {
     }
 
     /// Whether a Logout closed it, on it or on another one.
+    #[inline(always)]
     pub fn is_closed(&self) -> bool
         ensures answer { result ≡ self.now.closed }
         ensures since { (l : Link) → StandsFor self.now l → result ≡ l.closed }
@@ -197,6 +203,7 @@ impl Arrivals {
     }
 
     /// Whether a Logout Response went out there that closes it, or it is cut: no ping goes out any more.
+    #[inline(always)]
     pub fn is_behind_logout(&self) -> bool
         ensures answer { result ≡ is_behind_logout_by self.now }
         ensures since { (l : Link) → StandsFor self.now l → result ≡ is_behind_logout l }
@@ -205,6 +212,7 @@ impl Arrivals {
     }
 
     /// The StatSN that the next PDU shows.
+    #[inline(always)]
     pub fn stat_sn(&self) -> u32
         ensures answer { result ≡ wire self.now.next }
         ensures since { (l : Link) → StandsFor self.now l → result ≡ wire (next_stat_sn l) }
@@ -221,6 +229,7 @@ impl Arrivals {
     }
 
     /// Whether as many PDUs were handed out as may be: 2^63.
+    #[inline(always)]
     pub fn is_exhausted(&self) -> bool
         ensures yes { result ≡ true → 2 ^ 63 ≤ self.now.handed }
         ensures no { result ≡ false → self.now.handed < 2 ^ 63 }
@@ -230,6 +239,7 @@ impl Arrivals {
 
     /// A PDU is handed out that is no ping: its stamp. It takes a StatSN or not, and it is the Logout Response that closes the
     /// connection or not.
+    #[inline(always)]
     pub fn hand_out(&mut self, takes: bool, ends: bool) -> Stamp
         requires open { is_open_by self.old ≡ true }
         requires room { self.old.handed < 2 ^ 63 }
@@ -267,6 +277,7 @@ impl Arrivals {
     }
 
     /// The oldest PDU that was handed out and isn't written is written now. Where there is none, nothing changes.
+    #[inline(always)]
     pub fn write(&mut self)
         ensures state { self.new ≡ written_by self.old }
         ensures stands { (l : Link) → StandsFor self.old l → StandsFor self.new (one_written l) }
@@ -278,6 +289,7 @@ impl Arrivals {
 
     /// A header arrived there, with this ExpStatSN and, where it is that of a NOP-Out, this transfer tag. What wasn't handed
     /// out yet, or is older, changes nothing.
+    #[inline(always)]
     pub fn hear(&mut self, exp_stat_sn: u32, transfer_tag: u32)
         ensures state { self.new ≡ heard_by exp_stat_sn transfer_tag self.old }
         ensures stands { (l : Link) → StandsFor self.old l → StandsFor self.new (link_heard exp_stat_sn transfer_tag l) }
@@ -293,6 +305,7 @@ impl Arrivals {
     }
 
     /// Whether a PDU is known to have arrived, by its stamp.
+    #[inline(always)]
     pub fn has_arrived(&self, stamp: Stamp) -> bool
         ensures answer { result ≡ has_arrived_by stamp self.now }
         ensures since { (l : Link) (place : ℕ) → StandsFor self.now l → stamp ≡ stamp_at l place →
@@ -302,6 +315,7 @@ impl Arrivals {
     }
 
     /// Whether a PDU is written, by its stamp.
+    #[inline(always)]
     pub fn is_written(&self, stamp: Stamp) -> bool
         ensures answer { result ≡ is_written_by stamp self.now }
         ensures since { (l : Link) (place : ℕ) → StandsFor self.now l → stamp ≡ stamp_at l place →
@@ -312,6 +326,7 @@ impl Arrivals {
 
     /// Whether a PDU is under way, by its stamp: the connection is open, and it isn't known to have arrived, or, where that
     /// isn't looked for, isn't written.
+    #[inline(always)]
     pub fn is_under_way(&self, looks: bool, stamp: Stamp) -> bool
         ensures answer { result ≡ is_under_way_by looks stamp self.now }
         ensures since { (l : Link) (place : ℕ) → StandsFor self.now l → stamp ≡ stamp_at l place →
@@ -326,6 +341,7 @@ impl Arrivals {
     }
 
     /// Whether something is under way that took a StatSN, by arrival, or, where that isn't looked for, by being written.
+    #[inline(always)]
     pub fn is_busy(&self, looks: bool) -> bool
         ensures answer { result ≡ is_busy_by looks self.now }
         ensures since { (o : Opening) (l : Link) → StandsFor self.now l → looks_for_arrival o ≡ looks →
@@ -340,6 +356,7 @@ impl Arrivals {
     }
 
     /// Whether something that took a StatSN isn't known to have arrived, be the connection open or not.
+    #[inline(always)]
     pub fn has_unarrived(&self) -> bool
         ensures answer { result ≡ nat_lt self.now.acknowledged self.now.next }
         ensures since { (l : Link) → StandsFor self.now l → result ≡ list_any takes_handed (unarrived l) }
@@ -348,6 +365,7 @@ impl Arrivals {
     }
 
     /// Whether a ping isn't known to have arrived.
+    #[inline(always)]
     pub fn is_asking(&self) -> bool
         ensures answer { result ≡ nat_lt self.now.answered self.now.pings }
         ensures since { (l : Link) → StandsFor self.now l → result ≡ list_any is_ping (unarrived l) }
@@ -356,6 +374,7 @@ impl Arrivals {
     }
 
     /// Whether all that was handed out is written.
+    #[inline(always)]
     pub fn is_all_written(&self) -> bool
         ensures answer { result ≡ nat_le self.now.handed self.now.written }
         ensures since { (l : Link) → StandsFor self.now l → result ≡ list_all (λ (h : Handed). false) (unwritten l) }
@@ -364,6 +383,7 @@ impl Arrivals {
     }
 
     /// The stamp of the next PDU.
+    #[inline(always)]
     fn stamp(&self) -> Stamp
         ensures { result ≡ stamp_by self.now }
     {
@@ -375,6 +395,7 @@ impl Arrivals {
     }
 
     /// Whether this is the transfer tag of the last ping.
+    #[inline(always)]
     fn is_answer(&self, transfer_tag: u32) -> bool
         ensures { result ≡ is_answer_by transfer_tag self.now }
     {
@@ -382,6 +403,7 @@ impl Arrivals {
     }
 
     /// Up to which StatSN all arrived, with what is heard.
+    #[inline(always)]
     fn acknowledged_with(&self, exp_stat_sn: u32, is_answer: bool) -> u64
         requires { is_open_by self.now ≡ true }
         ensures { result ≡ acknowledged_with exp_stat_sn is_answer self.now }
@@ -392,6 +414,7 @@ impl Arrivals {
     }
 
     /// How many pings arrived, with what is heard.
+    #[inline(always)]
     fn answered_with(&self, acknowledged: u64, is_answer: bool) -> u64
         ensures { result ≡ answered_with acknowledged is_answer self.now }
     {

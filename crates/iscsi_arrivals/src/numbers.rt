@@ -13,6 +13,7 @@ const FIRST_TAG: u32 = 0x8000_0000;
 const TAGS: u64 = 0x7fff_ffff;
 
 /// The next StatSN behind a PDU.
+#[inline(always)]
 pub(crate) fn next_behind(next: u64, takes: bool) -> u64
     requires { next < 2 ^ 64 - 1 }
     ensures { result ≡ (if takes then next + 1 else next) }
@@ -21,6 +22,7 @@ pub(crate) fn next_behind(next: u64, takes: bool) -> u64
 }
 
 /// How many stand up to the last PDU that took a StatSN, with one more.
+#[inline(always)]
 pub(crate) fn taken_behind(taken: u64, handed: u64, takes: bool) -> u64
     requires { handed < 2 ^ 63 }
     ensures { result ≡ (if takes then handed + 1 else taken) }
@@ -29,6 +31,7 @@ pub(crate) fn taken_behind(taken: u64, handed: u64, takes: bool) -> u64
 }
 
 /// The transfer tag of a ping, so many pings being handed out before it.
+#[inline(always)]
 pub(crate) fn tag_of_ping(before: u64) -> u32
     ensures { result ≡ tag_of_ping before }
 {
@@ -37,6 +40,7 @@ pub(crate) fn tag_of_ping(before: u64) -> u32
 
 /// The StatSN that an ExpStatSN stands for, and 0 where it says nothing: above the next one, or half of the numbers behind
 /// it.
+#[inline(always)]
 pub(crate) fn number_heard(next: u64, exp_stat_sn: u32) -> u64
     requires { 2 ^ 32 ≤ next }
     ensures { result ≡ number_heard next exp_stat_sn }

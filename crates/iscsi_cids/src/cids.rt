@@ -51,6 +51,7 @@ impl Cids {
     }
 
     /// How many there are: 64 at the most.
+    #[inline(always)]
     pub fn len(&self) -> usize
         ensures count { result ≡ length self.now.cids }
         ensures few { result ≤ 64 }
@@ -59,6 +60,7 @@ impl Cids {
     }
 
     /// The place of the connection with this CID.
+    #[inline(always)]
     pub fn place(&self, cid: u16) -> Option<usize>
         ensures { result ≡ place_of cid self.now.cids }
     {
@@ -71,6 +73,7 @@ impl Cids {
     }
 
     /// The CID of the connection in a place.
+    #[inline(always)]
     pub fn cid(&self, place: usize) -> u16
         requires { place < length self.now.cids }
         ensures { result ≡ slice_index_or self.now.cids place 0 }
@@ -80,6 +83,7 @@ impl Cids {
 }
 
 /// What stands in the table for a CID.
+#[inline(always)]
 fn told(places: &[u8], cid: u16) -> u8
     ensures { result ≡ slice_index_or places.now cid 255 }
 {

@@ -83,6 +83,7 @@ impl Commands {
     }
 
     /// How many there are.
+    #[inline(always)]
     pub fn len(&self) -> usize
         ensures { result ≡ length self.now.items }
     {
@@ -90,6 +91,7 @@ impl Commands {
     }
 
     /// The command with this ticket.
+    #[inline(always)]
     pub fn find(&self, ticket: u64) -> Option<Command>
         ensures { result ≡ find_ticket ticket self.now }
     {
@@ -99,6 +101,7 @@ impl Commands {
     }
 
     /// Whether a command may enter: tickets go up, its unit is one of the session's, and its request has a place and no command.
+    #[inline(always)]
     pub fn may_enter(&self, command: &Command) -> bool
         ensures { result ≡ may_enter command.now self.now }
     {
@@ -120,6 +123,7 @@ impl Commands {
     }
 
     /// A command enters, behind all others.
+    #[inline(always)]
     pub fn enter(&mut self, command: Command)
         requires may { may_enter command self.old ≡ true }
         requires stage { command.stage ≡ Entered }
@@ -133,6 +137,7 @@ impl Commands {
     }
 
     /// The command with this ticket comes to another stage, if there is one.
+    #[inline(always)]
     pub fn set_stage(&mut self, ticket: u64, stage: Stage)
         ensures { self.new ≡ staged stage ticket self.old }
     {
@@ -148,6 +153,7 @@ impl Commands {
     }
 
     /// The command of this request isn't kept any more, if it has one.
+    #[inline(always)]
     pub fn forget(&mut self, request: u32)
         ensures { self.new ≡ forgotten request self.old }
     {

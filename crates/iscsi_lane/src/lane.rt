@@ -175,6 +175,7 @@ impl Lane {
     }
 
     /// Whether an answer waits that goes out on a connection.
+    #[inline(always)]
     pub fn waits_on(&self, conn: u16) -> bool
         ensures { result ≡ any_in (goes_out_on conn) self.now }
     {
@@ -182,6 +183,7 @@ impl Lane {
     }
 
     /// How many commands stand there.
+    #[inline(always)]
     pub fn owing(&self) -> usize
         ensures { result ≡ count_in is_left self.now }
     {
@@ -189,6 +191,7 @@ impl Lane {
     }
 
     /// How many answers wait.
+    #[inline(always)]
     pub fn answers_waiting(&self) -> usize
         ensures { result ≡ count_in is_undue self.now }
     {
@@ -196,6 +199,7 @@ impl Lane {
     }
 
     /// How many answers to numbered requests wait.
+    #[inline(always)]
     pub fn numbered(&self) -> usize
         ensures { result ≡ count_in is_numbered self.now }
     {
@@ -204,6 +208,7 @@ impl Lane {
 }
 
 /// Whether there is any of a connection, by the counts of all.
+#[inline(always)]
 fn is_some_at(counts: &[usize], conn: u16) -> bool
     ensures { result ≡ nat_lt 0 (slice_index_or counts.now conn 0) }
 {

@@ -215,6 +215,7 @@ impl Standings {
     }
 
     /// How many commands stand there.
+    #[inline(always)]
     pub(crate) fn owing(&self) -> usize
         ensures { result ≡ count_in is_left self.now }
     {
@@ -222,6 +223,7 @@ impl Standings {
     }
 
     /// How many answers wait.
+    #[inline(always)]
     pub(crate) fn answers_waiting(&self) -> usize
         ensures { result ≡ count_in is_undue self.now }
     {
@@ -229,6 +231,7 @@ impl Standings {
     }
 
     /// How many answers to numbered requests wait.
+    #[inline(always)]
     pub(crate) fn numbered(&self) -> usize
         ensures { result ≡ count_in is_numbered self.now }
     {

@@ -59,6 +59,7 @@ impl Links {
     }
 
     /// How many there are: 64 at the most.
+    #[inline(always)]
     pub fn len(&self) -> usize
         ensures count { result ≡ length self.now.links }
         ensures few { result ≤ 64 }
@@ -67,6 +68,7 @@ impl Links {
     }
 
     /// Whether what was written is under way until it is known to have arrived.
+    #[inline(always)]
     pub fn looks(&self) -> bool
         ensures { result ≡ self.now.looks }
     {
@@ -74,6 +76,7 @@ impl Links {
     }
 
     /// One of them.
+    #[inline(always)]
     pub fn at(&self, place: usize) -> Arrivals
         requires { place < length self.now.links }
         ensures { result ≡ link_at self.now place }
@@ -95,6 +98,7 @@ impl Links {
     }
 
     /// The first connection that takes requests: it is open, and no Logout closed it.
+    #[inline(always)]
     pub fn first_usable(&self) -> Option<usize>
         ensures { result ≡ first_usable self.now }
     {
@@ -149,6 +153,7 @@ impl Links {
 
     /// The oldest PDU that was handed out on a connection and isn't written is written now. Where there is none, nothing
     /// changes.
+    #[inline(always)]
     pub fn write(&mut self, place: usize)
         requires { place < length self.old.links }
         ensures { self.new ≡ changed place written_by self.old }
@@ -159,6 +164,7 @@ impl Links {
     }
 
     /// A header arrived on a connection, with this ExpStatSN and, where it is that of a NOP-Out, this transfer tag.
+    #[inline(always)]
     pub fn hear(&mut self, place: usize, exp_stat_sn: u32, transfer_tag: u32)
         requires { place < length self.old.links }
         ensures { self.new ≡ changed place (heard_by exp_stat_sn transfer_tag) self.old }
@@ -170,6 +176,7 @@ impl Links {
 
     /// A PDU is handed out on a connection that is no ping: its stamp. It takes a StatSN or not, and it is the Logout Response
     /// that closes the connection or not.
+    #[inline(always)]
     pub fn hand_out(&mut self, place: usize, takes: bool, ends: bool) -> Stamp
         requires within { place < length self.old.links }
         requires open { is_open_by (link_at self.old place) ≡ true }
@@ -255,6 +262,7 @@ fn usable_with(list: &[Arrivals], usable: usize, place: usize) -> usize
 }
 
 /// The first connection from one on that takes requests.
+#[inline(never)]
 fn next_usable(list: &[Arrivals], from: usize) -> usize
     requires within { from ≤ length list.now }
     requires none { (j : ℕ) → j < from → is_usable_by (slice_index_or list.now j new_counts) ≡ false }

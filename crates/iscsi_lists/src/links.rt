@@ -64,6 +64,7 @@ impl Links {
     }
 
     /// The slot that is taken next.
+    #[inline(always)]
     pub(crate) fn free_slot(&self) -> u32
         requires { 1 ≤ length self.now.free }
         ensures slot { last_of self.now.free ≡ Some result }
@@ -81,6 +82,7 @@ impl Links {
     }
 
     /// Whether no slot is free.
+    #[inline(always)]
     pub(crate) fn is_full(&self) -> bool
         ensures yes { result ≡ true → self.now.free ≡ [] }
         ensures no { self.now.free ≡ [] → result ≡ true }
@@ -89,6 +91,7 @@ impl Links {
     }
 
     /// The first slot of a list.
+    #[inline(always)]
     pub(crate) fn first(&self, list: usize) -> Option<u32>
         requires { list < length self.now.lists }
         ensures slot { result ≡ first_of (slice_index_or self.now.lists list []) }
@@ -118,6 +121,7 @@ impl Links {
     }
 
     /// Whether a slot is in a list.
+    #[inline(always)]
     pub(crate) fn holds(&self, slot: u32) -> bool
         ensures yes { result ≡ true → 1 ≤ times_in slot self.now.lists }
         ensures no { 1 ≤ times_in slot self.now.lists → result ≡ true }
@@ -126,6 +130,7 @@ impl Links {
     }
 
     /// The list that a slot is in.
+    #[inline(always)]
     pub(crate) fn list_of(&self, slot: u32) -> usize
         requires { slot ≤ self.now.room }
         ensures { (list : ℕ) → list < length self.now.lists →
@@ -135,6 +140,7 @@ impl Links {
     }
 
     /// A slot goes to the end of a list.
+    #[inline(always)]
     pub(crate) fn move_to_back(&mut self, slot: u32, list: usize)
         requires slot { 1 ≤ slot }
         requires within { slot ≤ self.old.room }
@@ -147,6 +153,7 @@ impl Links {
     }
 
     /// A slot is free from now on, and the next one to be taken.
+    #[inline(always)]
     pub(crate) fn give_back(&mut self, slot: u32)
         requires slot { 1 ≤ slot }
         requires within { slot ≤ self.old.room }
@@ -159,6 +166,7 @@ impl Links {
 }
 
 /// A node, where it is a slot and no head.
+#[inline(always)]
 fn slot_at(room: usize, node: u32) -> Option<u32>
     ensures slot { result ≡ a_slot room node }
     ensures within { IfSome result (λ s. s ≤ room) }

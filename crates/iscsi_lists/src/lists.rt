@@ -73,6 +73,7 @@ impl<T: Copy> Lists<T> {
     }
 
     /// Whether no slot is free.
+    #[inline(always)]
     pub fn is_full(&self) -> bool
         ensures yes { result ≡ true → self.now.free ≡ [] }
         ensures no { self.now.free ≡ [] → result ≡ true }
@@ -83,6 +84,7 @@ impl<T: Copy> Lists<T> {
     }
 
     /// Whether a list has no slot.
+    #[inline(always)]
     pub fn is_empty(&self, list: usize) -> bool
         requires { list < length self.now.lists }
         ensures yes { result ≡ true → slice_index_or self.now.lists list [] ≡ [] }
@@ -92,6 +94,7 @@ impl<T: Copy> Lists<T> {
     }
 
     /// The first slot of a list.
+    #[inline(always)]
     pub fn first(&self, list: usize) -> Option<u32>
         requires { list < length self.now.lists }
         ensures slot { result ≡ first_of (slice_index_or self.now.lists list []) }
@@ -121,6 +124,7 @@ impl<T: Copy> Lists<T> {
     }
 
     /// Whether a slot is in a list. A number that is no slot's isn't.
+    #[inline(always)]
     pub fn holds(&self, slot: u32) -> bool
         ensures yes { result ≡ true → 1 ≤ times_in slot self.now.lists }
         ensures no { 1 ≤ times_in slot self.now.lists → result ≡ true }
@@ -130,6 +134,7 @@ impl<T: Copy> Lists<T> {
     }
 
     /// The list that a slot is in.
+    #[inline(always)]
     pub fn list_of(&self, slot: u32) -> usize
         requires { slot ≤ self.now.room }
         ensures { (list : ℕ) → list < length self.now.lists →
@@ -139,6 +144,7 @@ impl<T: Copy> Lists<T> {
     }
 
     /// The value of a slot.
+    #[inline(always)]
     pub fn at(&self, slot: u32) -> &T
         requires { slot ≤ self.now.room }
         ensures { (d : T) → result.now ≡ slice_index_or self.now.values slot d }
@@ -147,6 +153,7 @@ impl<T: Copy> Lists<T> {
     }
 
     /// Writes the value of a slot.
+    #[inline(always)]
     pub fn set(&mut self, slot: u32, value: T)
         requires { slot ≤ self.old.room }
         ensures { self.new ≡ record self.old { values = slice_set self.old.values slot value } }
@@ -155,6 +162,7 @@ impl<T: Copy> Lists<T> {
     }
 
     /// Puts a value behind all others of a list, into the slot that was freed last: the slot.
+    #[inline(always)]
     pub fn push_back(&mut self, list: usize, value: T) -> u32
         requires list { list < length self.old.lists }
         requires room { 1 ≤ length self.old.free }
@@ -175,6 +183,7 @@ impl<T: Copy> Lists<T> {
     }
 
     /// Takes the first value of a list out: what it was. Its slot is free then.
+    #[inline(always)]
     pub fn pop_front(&mut self, list: usize) -> Option<T>
         requires { list < length self.old.lists }
         ensures count { length self.new.lists ≡ length self.old.lists }
@@ -194,6 +203,7 @@ impl<T: Copy> Lists<T> {
     }
 
     /// Takes a value out, from whichever list it is in: what it was. Its slot is free then.
+    #[inline(always)]
     pub fn remove(&mut self, slot: u32) -> T
         requires { 1 ≤ times_in slot self.old.lists }
         ensures value { (d : T) → result ≡ slice_index_or self.old.values slot d }
@@ -224,6 +234,7 @@ impl<T: Copy> Lists<T> {
 
     /// Takes a value from its place and puts it behind all others of a list, of its own or another one. It keeps its
     /// slot.
+    #[inline(always)]
     pub fn move_to_back(&mut self, slot: u32, list: usize)
         requires slot { 1 ≤ times_in slot self.old.lists }
         requires list { list < length self.old.lists }

@@ -65,6 +65,7 @@ impl Cookies {
     }
 
     /// Whether there are as many as there is room for.
+    #[inline(always)]
     pub fn is_full(&self) -> bool
         ensures yes { result ≡ true → length self.now.requests ≡ self.now.room }
         ensures no { result ≡ false → length self.now.requests < self.now.room }
@@ -74,6 +75,7 @@ impl Cookies {
     }
 
     /// A request enters with its cookie, and has one use: the place that it has from now on, the one that was freed last.
+    #[inline(always)]
     pub fn enter(&mut self, cookie: u64) -> u32
         requires { length self.old.requests < self.old.room }
         ensures place { next_place self.old ≡ Some result }
@@ -84,6 +86,7 @@ impl Cookies {
     }
 
     /// Whether a request has this place.
+    #[inline(always)]
     pub fn has(&self, place: u32) -> bool
         ensures { result ≡ has_place place self.now }
     {
@@ -92,6 +95,7 @@ impl Cookies {
     }
 
     /// The cookie of the request in this place.
+    #[inline(always)]
     pub fn cookie(&self, place: u32) -> u64
         requires { has_place place self.now ≡ true }
         ensures { result ≡ cookie_at place self.now }
@@ -101,6 +105,7 @@ impl Cookies {
     }
 
     /// How many uses the request in this place has.
+    #[inline(always)]
     pub fn uses(&self, place: u32) -> u32
         requires { has_place place self.now ≡ true }
         ensures { result ≡ uses_at place self.now }
@@ -127,6 +132,7 @@ impl Cookies {
     }
 
     /// The request in this place has one use less. Where none is left, the request is gone and its place is free: its cookie.
+    #[inline(always)]
     pub fn use_less(&mut self, place: u32) -> Option<u64>
         requires { has_place place self.old ≡ true }
         ensures answer { result ≡ last_cookie place self.old }

@@ -62,6 +62,7 @@ impl HeldNumbers {
     }
 
     /// The place that is held under a number.
+    #[inline(always)]
     pub fn at(&self, number: u32) -> Option<u32>
         ensures { result ≡ held_at number self.now }
     {
@@ -69,6 +70,7 @@ impl HeldNumbers {
     }
 
     /// A place is held under a number from now on.
+    #[inline(always)]
     pub fn put(&mut self, number: u32, place: u32)
         ensures { self.new ≡ with_held number (Some place) self.old }
     {
@@ -77,6 +79,7 @@ impl HeldNumbers {
     }
 
     /// What is held under a number isn't any more: its place.
+    #[inline(always)]
     pub fn take(&mut self, number: u32) -> Option<u32>
         ensures answer { result ≡ held_at number self.old }
         ensures state { self.new ≡ with_held number None self.old }

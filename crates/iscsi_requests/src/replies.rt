@@ -75,6 +75,7 @@ impl WaitingReplies {
     }
 
     /// Whether there are as many as there is room for.
+    #[inline(always)]
     pub fn is_full(&self) -> bool
         ensures yes { result ≡ true → count_all self.now.waiting ≡ self.now.room }
         ensures no { result ≡ false → count_all self.now.waiting < self.now.room }
@@ -84,6 +85,7 @@ impl WaitingReplies {
     }
 
     /// The log place of the reply that entered last, if one has.
+    #[inline(always)]
     pub fn last(&self) -> Option<u64>
         ensures last { result ≡ self.now.last }
         ensures short { IfSome result (λ last. last + 1 < 2 ^ 64) }
@@ -93,6 +95,7 @@ impl WaitingReplies {
     }
 
     /// A reply waits from now on, behind all others of its connection. Log places go up.
+    #[inline(always)]
     pub fn push(&mut self, conn: usize, log_place: u64, request: u32)
         requires conn { conn < length self.old.waiting }
         requires room { count_all self.old.waiting < self.old.room }
@@ -109,6 +112,7 @@ impl WaitingReplies {
     }
 
     /// The reply with this log place doesn't wait any more: its request.
+    #[inline(always)]
     pub fn take(&mut self, log_place: u64) -> Option<u32>
         requires { log_place + 1 < 2 ^ 64 }
         ensures answer { result ≡ find_log_place log_place self.old }

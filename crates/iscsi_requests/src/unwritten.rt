@@ -50,6 +50,7 @@ impl Unwritten {
     }
 
     /// Whether there is as much as there is room for.
+    #[inline(always)]
     pub fn is_full(&self) -> bool
         ensures yes { result ≡ true → count_all self.now.handed ≡ self.now.room }
         ensures no { result ≡ false → count_all self.now.handed < self.now.room }
@@ -59,6 +60,7 @@ impl Unwritten {
     }
 
     /// How much there is on a connection.
+    #[inline(always)]
     pub fn count(&self, conn: usize) -> u32
         requires { conn < length self.now.handed }
         ensures { result ≡ length (of_conn conn self.now.handed) }
@@ -67,6 +69,7 @@ impl Unwritten {
     }
 
     /// Something was handed out on a connection, for a request or for none.
+    #[inline(always)]
     pub fn push(&mut self, conn: usize, request: Option<u32>)
         requires conn { conn < length self.old.handed }
         requires room { count_all self.old.handed < self.old.room }
@@ -78,6 +81,7 @@ impl Unwritten {
     }
 
     /// What was handed out first on a connection is written: the place of its request, if it has one.
+    #[inline(always)]
     pub fn pop(&mut self, conn: usize) -> Option<Option<u32>>
         requires { conn < length self.old.handed }
         ensures answer { result ≡ oldest (of_conn conn self.old.handed) }

@@ -69,6 +69,7 @@ impl Tickets {
     }
 
     /// The ticket that entered last; 0: none has.
+    #[inline(always)]
     pub fn last(&self) -> u64
         ensures { result ≡ self.now.last }
     {
@@ -76,6 +77,7 @@ impl Tickets {
     }
 
     /// How many there are.
+    #[inline(always)]
     pub fn len(&self) -> usize
         ensures { result ≡ length self.now.entries }
     {
@@ -83,6 +85,7 @@ impl Tickets {
     }
 
     /// Whether there are as many as there is room for.
+    #[inline(always)]
     pub fn is_full(&self) -> bool
         ensures yes { result ≡ true → length self.now.entries ≡ self.now.room }
         ensures no { result ≡ false → length self.now.entries < self.now.room }
@@ -94,6 +97,7 @@ impl Tickets {
     ///
     /// Where the log is full, values that were taken out go from it: a pass over it, which the calls have paid for by
     /// which they were.
+    #[inline(always)]
     pub fn push(&mut self, ticket: u64, value: u32)
         requires room { length self.old.entries < self.old.room }
         requires newest { self.old.last < ticket }
@@ -109,6 +113,7 @@ impl Tickets {
     }
 
     /// The value with this ticket.
+    #[inline(always)]
     pub fn find(&self, ticket: u64) -> Option<u32>
         ensures { result ≡ value_of ticket self.now.entries }
     {
@@ -117,6 +122,7 @@ impl Tickets {
     }
 
     /// The value with this ticket is taken out, if there is one.
+    #[inline(always)]
     pub fn take(&mut self, ticket: u64) -> Option<u32>
         ensures value { result ≡ value_of ticket self.old.entries }
         ensures others { self.new ≡ known (without_ticket ticket self.old.entries) self.old.last self.old.room }

@@ -65,6 +65,7 @@ pub(crate) const BLANK: Command = Command {
 
 impl Entering {
     /// What is kept of it in this place: it isn't enabled yet, and nothing is under way.
+    #[inline(always)]
     pub(crate) fn at(self, place: u32) -> Command
         ensures { result ≡ as_command self place }
     {

@@ -67,6 +67,7 @@ impl Tracked {
     }
 
     /// Whether there are as many as there is room for.
+    #[inline(always)]
     pub fn is_full(&self) -> bool
         ensures yes { result ≡ true → length self.now.commands ≡ self.now.room }
         ensures no { result ≡ false → length self.now.commands < self.now.room }
@@ -75,6 +76,7 @@ impl Tracked {
     }
 
     /// The ticket of the command that entered last; 0: none has.
+    #[inline(always)]
     pub fn last(&self) -> u64
         ensures { result ≡ self.now.last }
     {
@@ -82,6 +84,7 @@ impl Tracked {
     }
 
     /// A command enters: the place that it has from now on, the one that was freed last. Tickets go up.
+    #[inline(always)]
     pub fn enter(&mut self, command: Entering) -> u32
         requires room { length self.old.commands < self.old.room }
         requires newest { self.old.last < command.ticket }
@@ -98,6 +101,7 @@ impl Tracked {
     }
 
     /// The command with this ticket.
+    #[inline(always)]
     pub fn find(&self, ticket: u64) -> Option<Command>
         ensures { result ≡ find_ticket ticket self.now }
     {
@@ -107,6 +111,7 @@ impl Tracked {
     }
 
     /// Whether a command has this place.
+    #[inline(always)]
     pub fn has(&self, place: u32) -> bool
         ensures { result ≡ has_place place self.now }
     {
@@ -115,6 +120,7 @@ impl Tracked {
     }
 
     /// The command in this place.
+    #[inline(always)]
     pub fn at(&self, place: u32) -> Command
         requires { has_place place self.now ≡ true }
         ensures found { find_place place self.now ≡ Some result }
@@ -125,6 +131,7 @@ impl Tracked {
     }
 
     /// A command comes to another phase.
+    #[inline(always)]
     pub fn set_phase(&mut self, place: u32, phase: Phase)
         requires { has_place place self.old ≡ true }
         ensures { self.new ≡ in_phase phase place self.old }
@@ -153,6 +160,7 @@ impl Tracked {
 
     /// The place of the first command of a connection's trail: of all of which something is under way there, the one whose last PDU
     /// was handed out first.
+    #[inline(always)]
     pub fn first_out(&self, conn: usize) -> Option<u32>
         requires { conn < length self.now.trails }
         ensures { result ≡ first_out conn self.now }
@@ -179,6 +187,7 @@ impl Tracked {
     }
 
     /// A command isn't kept any more: its place is free.
+    #[inline(always)]
     pub fn remove(&mut self, place: u32)
         requires { has_place place self.old ≡ true }
         ensures { self.new ≡ removed place self.old }
