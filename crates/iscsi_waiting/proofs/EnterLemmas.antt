@@ -9,14 +9,14 @@ use Rattle.iscsi_lists.proofs.WithoutLemmas.{times_same, times_other, times_in_w
 use Rattle.iscsi_outbox_state.specs.declared.waiting.Waiting.{Waiting}
 use Rattle.iscsi_outbox_state.specs.Waits.{Entry, Waits, entry, entered, opened}
 use Rattle.iscsi_waiting.specs.Counting.{HasPlace, counts_in, counts_of, nothing_counted, with_one}
-use Rattle.iscsi_waiting.specs.Kept.{AreInFirst, BLANK, IsKept, entry_at, kept_at, kind_in, kind_of, moments_of, place_in, place_of, queues_of}
+use Rattle.iscsi_waiting.specs.Kept.{AreInFirst, BLANK, GoesTo, IsKept, entry_at, kept_at, kind_in, kind_of, moments_of, place_in, place_of, queues_of}
 use Rattle.iscsi_waiting.specs.Known.{Ascend, IsFit}
 use Rattle.iscsi_waiting.specs.Marks.{AreMarked, slots_at, value_at}
 use Rattle.iscsi_waiting.specs.declared.counts.Counts.{Counts}
 use Rattle.iscsi_waiting.specs.declared.slots.Kept.{Kept}
 use Rattle.iscsi_waiting.proofs.AscendLemmas.{ascend_push, moved_ascend}
 use Rattle.iscsi_waiting.proofs.CountLemmas.{all_place, conn_place, conns_more, counted_at, total_more}
-use Rattle.iscsi_waiting.proofs.MarkLemmas.{Elsewhere, marked_in, moved_long, no_matter, times_any, waits_by}
+use Rattle.iscsi_waiting.proofs.MarkLemmas.{Elsewhere, alike_marked, marked_in, moved_long, no_matter, times_any, waits_by}
 use Rattle.iscsi_waiting.proofs.ShownLemmas.{map_alike, shown_push}
 
 pub queues_long : (v : Listed Kept) → length (queues_of v) ≡ length v.lists
@@ -58,6 +58,23 @@ waits_same a b queues time commands room =
 -- later it is fit as well
 pub fit_later : (time later commands : ℕ) (e : Entry) → time ≤ later → IsFit time commands e → IsFit later commands e
 fit_later time later commands e le fit = record { past = let lt = fit.past in omega (arith, lt, le); command = fit.command; fence = fit.fence }
+
+-- where the lists of commands are alike from 1 on
+pub kept_alike : (v : Listed Kept) (owned p fence : Listed ℕ) (cs : List Counts) (all : Counts) (time list slot : ℕ) → GoesTo owned p list slot
+    → IsKept v (record owned { lists = with_last list slot (map (without slot) owned.lists) }) fence cs all time → IsKept v p fence cs all time
+kept_alike v owned p fence cs all time list slot goes kept =
+    let m : Listed ℕ = record owned { lists = with_last list slot (map (without slot) owned.lists) } in
+    let long : length p.lists ≡ length m.lists = goes.long ∙ sym (moved_long owned m list slot refl) in
+    record {
+      commands = alike_marked BLANK place_in v owned p list slot goes kept.commands;
+      fences = kept.fences;
+      kinds = kept.kinds;
+      fit = λ s there. subst (λ n. IsFit time (n - 1) (entry_at v s)) (sym long) (kept.fit s there);
+      ascend = kept.ascend;
+      kinds_ascend = kept.kinds_ascend;
+      conns = kept.conns;
+      total = kept.total;
+    }
 
 -- ---- it begins
 

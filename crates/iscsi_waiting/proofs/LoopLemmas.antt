@@ -6,12 +6,12 @@ use Rattle.iscsi_slots.specs.Slots.{times}
 use Rattle.iscsi_lists.specs.Lists.{Listed, first_of, times_in, without, with_last}
 use Rattle.iscsi_lists.proofs.WithoutLemmas.{length_without, times_same, without_same, without_other}
 use Rattle.iscsi_outbox_state.specs.Waits.{Entry, Waits, dropped_of, dropped_on, entry, is_of, of_none, popped, queue_at, released, released_of}
-use Rattle.iscsi_waiting.specs.Kept.{AreKept, BLANK, Leaves, LetsGo, entry_at, kept_at, let_go, place_in, waits_of}
+use Rattle.iscsi_waiting.specs.Kept.{AreKept, BLANK, GoesTo, Leaves, LetsGo, entry_at, kept_at, let_go, place_in, waits_of}
 use Rattle.iscsi_waiting.specs.Marks.{slots_at}
 use Rattle.iscsi_waiting.specs.declared.slots.Kept.{Kept}
 use Rattle.iscsi_waiting.specs.declared.slots.Slots.{Slots}
 use Rattle.iscsi_waiting.proofs.EnterLemmas.{waits_same}
-use Rattle.iscsi_waiting.proofs.MarkLemmas.{moved_long, moved_other, stands_by, waits_by}
+use Rattle.iscsi_waiting.proofs.MarkLemmas.{moved_other, stands_by, waits_by}
 use Rattle.iscsi_waiting.proofs.ShownLemmas.{first_there, none_first, shown}
 
 -- ---- of a command
@@ -101,18 +101,17 @@ module _ (command : ℕ) (now : Slots) (kept : AreKept now) (low : 1 ≤ command
   is_of_it : is_of command (entry_at now.waiting slot) ≡ true
   is_of_it = of_place command ((kept_at now.waiting slot).item.command) low by_mark.1
 
-  module _ (next : Slots) (owned_is : next.owned.lists ≡ with_last 0 slot (map (without slot) now.owned.lists)) where
+  module _ (next : Slots) (goes : GoesTo now.owned next.owned 0 slot) where
     abbrev moved : Listed ℕ
     moved = record now.owned { lists = with_last 0 slot (map (without slot) now.owned.lists) }
 
     pub lists_long : length next.owned.lists ≡ length now.owned.lists
-    lists_long = ap (λ (ls : List (List ℕ)). length ls) owned_is ∙ moved_long now.owned moved 0 slot refl
+    lists_long = goes.long
 
     pub shorter : length (slots_at next.owned command) < length (slots_at now.owned command)
     shorter =
         let a : length (slots_at next.owned command) ≡ length (without slot (slots_at now.owned command)) =
-        ap (λ (ls : List (List ℕ)). length (get_or ls command [])) owned_is
-        ∙ ap (λ (xs : List ℕ). length xs) (moved_other now.owned moved 0 slot refl command (λ e. omega (arith, e, low))) in
+        ap (λ (xs : List ℕ). length xs) (goes.lists command low ∙ moved_other now.owned moved 0 slot refl command (λ e. omega (arith, e, low))) in
         let b = length_without slot (slots_at now.owned command) in
         let c = first_there slot (slots_at now.owned command) first in omega (arith, a, b, c)
 

@@ -5,8 +5,9 @@ use Rattle.std.proofs.lemmas.List.{get_or-set_same, get_or-set_other, length-set
 use Rattle.iscsi_slots.specs.Slots.{times}
 use Rattle.iscsi_slots.proofs.SlotLemmas.{times_append}
 use Rattle.iscsi_lists.specs.Lists.{Listed, AreApart, linked_in, times_in, without, with_last}
-use Rattle.iscsi_lists.proofs.WithoutLemmas.{times_same, times_other, times_without, times_without_other}
+use Rattle.iscsi_lists.proofs.WithoutLemmas.{times_same, times_other, times_without, times_without_other, without_none}
 use Rattle.iscsi_lists.proofs.SequenceLemmas.{nth_map}
+use Rattle.iscsi_waiting.specs.Kept.{GoesTo}
 use Rattle.iscsi_waiting.specs.Marks.{AreMarked, slots_at, value_at}
 
 -- ---- where a slot stands
@@ -16,6 +17,11 @@ times_any s zero [] = omega arith
 times_any s (suc k) [] = omega arith
 times_any s zero (xs ∷ lists) = omega arith
 times_any s (suc k) (xs ∷ lists) = let rest = times_any s k lists in omega (arith, rest)
+
+times_two : (s k : ℕ) (lists : List (List ℕ)) → 1 ≤ k → times s (get_or lists 0 []) + times s (get_or lists k []) ≤ times_in s lists
+times_two s zero lists low = absurd (omega (arith, low))
+times_two s (suc k) [] low = omega arith
+times_two s (suc k) (xs ∷ lists) low = let rest = times_any s k lists in omega (arith, rest)
 
 pub once_in : {X : Type 0} (v : Listed X) → AreApart (linked_in v) → (slot : ℕ) → times_in slot v.lists ≤ 1
 once_in v known slot = ⊎_elim
@@ -94,7 +100,44 @@ module _ (m p : Listed ℕ) (list slot : ℕ) (is : p ≡ record m { lists = wit
         (λ other. ap (times x) (moved_other k other) ∙ times_without_other slot x (slots_at m k) apart)
         (cases_eq k list)
 
+-- it went there, or stays in the first one
+module _ (m : Listed ℕ) (list slot : ℕ) where
+  abbrev target : Listed ℕ
+  target = record m { lists = with_last list slot (map (without slot) m.lists) }
+
+  pub goes_moved : (p : Listed ℕ) → p ≡ target → GoesTo m p list slot
+  goes_moved p is = record {
+    free = moved_free m p list slot is;
+    room = moved_room m p list slot is;
+    long = moved_long m p list slot is;
+    lists = λ k low. ap (λ (u : Listed ℕ). slots_at u k) is;
+  }
+
+  pub goes_nowhere : list ≡ 0 → AreApart (linked_in m) → 1 ≤ times_in slot m.lists → (told : ℕ) → told ≡ 0 → ((i : ℕ) → i < length m.lists → 1 ≤ times slot (get_or m.lists i []) → told ≡ i) → GoesTo m m list slot
+  goes_nowhere first known there told is tells = record {
+    free = refl;
+    room = refl;
+    long = refl;
+    lists = λ k low. sym (moved_other m target list slot refl k (λ e. omega (arith, e, first, low)) ∙ without_none slot (slots_at m k) (none k low));
+  }
+    where
+      here : 1 ≤ times slot (get_or m.lists 0 [])
+      here = subst (λ i. 1 ≤ times slot (get_or m.lists i [])) is (told_in slot m.lists there told tells).1
+
+      none : (k : ℕ) → 1 ≤ k → times slot (slots_at m k) ≡ 0
+      none k low = let two = times_two slot k m.lists low in let one = once_in m known slot in let a = here in omega (arith, two, one, a)
+
 -- ---- by marks
+
+-- the same lists from 1 on have the same marks
+pub alike_marked : {X : Type 0} (blank : X) (mark : X → ℕ) (v : Listed X) (m p : Listed ℕ) (list slot : ℕ) → GoesTo m p list slot
+    → AreMarked blank mark v (record m { lists = with_last list slot (map (without slot) m.lists) }) → AreMarked blank mark v p
+alike_marked blank mark v m p list slot goes are = record {
+  all = goes.free ∙ are.all;
+  room = goes.room ∙ are.room;
+  some = let a = goes.long in let b = moved_long m (record m { lists = with_last list slot (map (without slot) m.lists) }) list slot refl in let c = are.some in omega (arith, a, b, c);
+  marks = λ k s low. ap (times s) (goes.lists k low) ∙ are.marks k s low;
+}
 
 -- nothing but this slot changes
 pub record Elsewhere {X : Type 0} (blank : X) (v t : Listed X) (slot : ℕ) : Type 0 where

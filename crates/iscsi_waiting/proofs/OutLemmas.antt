@@ -124,7 +124,7 @@ module _ (old : Slots) (conn slot : ℕ) (known : AreApart (linked_in old.waitin
       left.time commands left.room
     where
       commands : length new.owned.lists - 1 ≡ length old.owned.lists - 1
-      commands = ap (λ (ls : List (List ℕ)). length ls - 1) left.owned ∙ ap (λ n. n - 1) (moved_long old.owned (record old.owned { lists = with_last 0 slot (map (without slot) old.owned.lists) }) 0 slot refl)
+      commands = ap (λ n. n - 1) left.owned.long
 
 -- where there is none, nothing changes
 module _ (old : Slots) (conn : ℕ) (none : first_of (slots_at old.waiting conn) ≡ None) where

@@ -64,12 +64,19 @@ waits_of s = record { queues = queues_of s.waiting; time = s.time; commands = le
 
 -- ---- changes
 
+-- a slot goes to the end of a list, or stays in the first one: from list 1 on that is the same
+pub record GoesTo (old new : Listed ℕ) (list slot : ℕ) : Type 0 where
+  pub free : new.free ≡ old.free
+  pub room : new.room ≡ old.room
+  pub long : length new.lists ≡ length old.lists
+  pub lists : (k : ℕ) → 1 ≤ k → slots_at new k ≡ slots_at (record old { lists = with_last list slot (map (without slot) old.lists) }) k
+
 -- a slot is in no queue any more
 pub record Leaves (old new : Slots) (slot : ℕ) : Type 0 where
   pub lists : new.waiting.lists ≡ map (without slot) old.waiting.lists
   pub values : new.waiting.values ≡ old.waiting.values
   pub room : new.waiting.room ≡ old.waiting.room
-  pub owned : new.owned.lists ≡ with_last 0 slot (map (without slot) old.owned.lists)
+  pub owned : GoesTo old.owned new.owned 0 slot
   pub time : new.time ≡ old.time
 
 abbrev pub let_go : Kept → Kept
@@ -80,7 +87,7 @@ pub record LetsGo (old new : Slots) (slot : ℕ) : Type 0 where
   pub lists : new.waiting.lists ≡ old.waiting.lists
   pub values : new.waiting.values ≡ slice_set old.waiting.values slot (let_go (kept_at old.waiting slot))
   pub room : new.waiting.room ≡ old.waiting.room
-  pub owned : new.owned.lists ≡ with_last 0 slot (map (without slot) old.owned.lists)
+  pub owned : GoesTo old.owned new.owned 0 slot
   pub time : new.time ≡ old.time
 
 -- ---- what entered before a time

@@ -35,6 +35,7 @@ impl Counts {
     }
 
     /// One more waits.
+    #[inline(always)]
     pub(crate) fn with(self, item: &Waiting) -> Counts
         requires { HasPlace self }
         ensures { result ≡ with_one item.now self }
@@ -50,6 +51,7 @@ impl Counts {
     }
 
     /// One that waited does so no more.
+    #[inline(always)]
     pub(crate) fn without(self, item: &Waiting) -> Counts
         requires { HasOne item.now self }
         ensures { result ≡ without_one item.now self }
@@ -66,6 +68,7 @@ impl Counts {
 }
 
 /// Whether it is a PDU of the target's own.
+#[inline(always)]
 fn is_own(item: &Waiting) -> bool
     ensures { result ≡ is_own_item item.now }
 {

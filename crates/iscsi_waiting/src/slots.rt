@@ -3,7 +3,7 @@
 ghost use Rattle.std.specs.Prelude.{◌≡◌, ℕ, ◌+◌, ◌-◌, ◌<◌, ◌≤◌, ◌^◌, List, [], true, false, length, IfOk, IfSome};
 ghost use Rattle.iscsi_lists.specs.Lists.{times_in};
 ghost use Rattle.iscsi_outbox_state.specs.Waits.{any_in, dropped_of, entered, first_item, is_taking_before, opened, popped, queue_at, released_of};
-ghost use Rattle.iscsi_waiting.specs.Kept.{AreInFirst, AreKept, IsBehind, IsBehindNone, Leaves, LetsGo, kept_at, kind_of, place_of, waits_of};
+ghost use Rattle.iscsi_waiting.specs.Kept.{AreInFirst, AreKept, GoesTo, IsBehind, IsBehindNone, Leaves, LetsGo, kept_at, kind_of, place_of, waits_of};
 
 use crate::counts::Counts;
 use iscsi_lists::Lists;
@@ -103,6 +103,7 @@ impl Slots {
     }
 
     /// A PDU enters the queue of a connection.
+    #[inline(always)]
     pub(crate) fn enter(&mut self, conn: usize, item: Waiting)
         requires kept { AreKept self.old }
         requires conn { conn < length self.old.waiting.lists }
@@ -118,7 +119,7 @@ impl Slots {
         self.fence.known();
         let time = self.time;
         let slot = self.waiting.push_back(conn, Kept { item, time });
-        self.owned.move_to_back(slot, place_of(&item));
+        move_owned(&mut self.owned, slot, place_of(&item));
         self.fence.move_to_back(slot, kind_of(&item));
         self.counts[conn] = self.counts[conn].with(&item);
         self.all = self.all.with(&item);
@@ -126,6 +127,7 @@ impl Slots {
     }
 
     /// The first PDU of a connection is taken out.
+    #[inline(always)]
     pub(crate) fn pop(&mut self, conn: usize) -> Option<Waiting>
         requires kept { AreKept self.old }
         requires conn { conn < length self.old.waiting.lists }
@@ -154,6 +156,7 @@ impl Slots {
     }
 
     /// What waits of a command waits on, and is of none.
+    #[inline(always)]
     pub(crate) fn release(&mut self, command: u32)
         requires kept { AreKept self.old }
         requires low { 1 ≤ command }
@@ -169,6 +172,7 @@ impl Slots {
     }
 
     /// Time passes.
+    #[inline(always)]
     pub(crate) fn pass_time(&mut self)
         requires { self.old.time < 2 ^ 64 - 1 }
         ensures state { self.new ≡ record self.old { time = self.old.time + 1 } }
@@ -178,6 +182,7 @@ impl Slots {
     }
 
     /// Whether something waits that stands in this list of `fence`, and entered before this time.
+    #[inline(always)]
     pub(crate) fn is_behind(&self, kind: usize, time: u64) -> bool
         requires kept { AreKept self.now }
         requires low { 1 ≤ kind }
@@ -193,6 +198,7 @@ impl Slots {
     }
 
     /// Whether anything waits that takes a StatSN and entered before this time.
+    #[inline(always)]
     pub(crate) fn is_behind_any(&self, time: u64) -> bool
         requires { AreKept self.now }
         ensures { result ≡ any_in (is_taking_before time) (waits_of self.now) }
@@ -201,6 +207,7 @@ impl Slots {
     }
 
     /// A slot is in no queue any more: what it had.
+    #[inline(always)]
     fn take_out(&mut self, slot: u32) -> Waiting
         requires kept { AreKept self.old }
         requires waits { 1 ≤ times_in slot self.old.waiting.lists }
@@ -213,7 +220,7 @@ impl Slots {
         self.fence.known();
         let conn = self.waiting.list_of(slot);
         let Kept { item, .. } = self.waiting.remove(slot);
-        self.owned.move_to_back(slot, OF_NONE);
+        move_owned(&mut self.owned, slot, OF_NONE);
         self.fence.move_to_back(slot, TAKES_NONE);
         self.counts[conn] = self.counts[conn].without(&item);
         self.all = self.all.without(&item);
@@ -221,6 +228,7 @@ impl Slots {
     }
 
     /// What a slot has is of no command any more.
+    #[inline(never)]
     fn let_go(&mut self, slot: u32)
         requires kept { AreKept self.old }
         requires waits { 1 ≤ times_in slot self.old.waiting.lists }
@@ -235,11 +243,41 @@ impl Slots {
             ..item
         };
         self.waiting.set(slot, Kept { item, time });
-        self.owned.move_to_back(slot, OF_NONE);
+        move_owned(&mut self.owned, slot, OF_NONE);
     }
 }
 
+/// A slot goes to a list of `owned`.
+#[inline(always)]
+fn move_owned(owned: &mut Lists<u8>, slot: u32, list: usize)
+    requires slot { 1 ≤ times_in slot owned.old.lists }
+    requires list { list < length owned.old.lists }
+    ensures { GoesTo owned.old owned.new list slot }
+{
+    if list == OF_NONE {
+        free_owned(owned, slot);
+    } else {
+        owned.move_to_back(slot, list);
+    }
+}
+
+/// A slot is of no command from now on. It stays where it is if it was so before.
+#[inline(always)]
+fn free_owned(owned: &mut Lists<u8>, slot: u32)
+    requires slot { 1 ≤ times_in slot owned.old.lists }
+    requires some { 1 ≤ length owned.old.lists }
+    ensures { GoesTo owned.old owned.new 0 slot }
+{
+    owned.known();
+    let list = owned.list_of(slot);
+    if list == OF_NONE {
+        return;
+    }
+    owned.move_to_back(slot, OF_NONE);
+}
+
 /// The list of `owned` that it stands in as it waits.
+#[inline(always)]
 fn place_of(item: &Waiting) -> usize
     ensures { result ≡ place_of item.now }
 {
@@ -247,6 +285,7 @@ fn place_of(item: &Waiting) -> usize
 }
 
 /// The list of `fence` that it stands in as it waits.
+#[inline(always)]
 fn kind_of(item: &Waiting) -> usize
     ensures { result ≡ kind_of item.now }
 {

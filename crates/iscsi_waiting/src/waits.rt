@@ -66,6 +66,7 @@ impl Waits {
     }
 
     /// Whether as many wait as may.
+    #[inline(always)]
     pub fn is_full(&self) -> bool
         ensures yes { result ≡ true → count_in is_any self.now ≡ self.now.room }
         ensures no { result ≡ false → count_in is_any self.now < self.now.room }
@@ -75,6 +76,7 @@ impl Waits {
     }
 
     /// Whether nothing waits on a connection.
+    #[inline(always)]
     pub fn is_empty(&self, conn: usize) -> bool
         requires { conn < length self.now.queues }
         ensures yes { result ≡ true → queue_at self.now conn ≡ [] }
@@ -84,6 +86,7 @@ impl Waits {
     }
 
     /// What the fence looks at, of the first PDU that waits on a connection.
+    #[inline(always)]
     pub fn front(&self, conn: usize) -> Option<Front>
         requires { conn < length self.now.queues }
         ensures { result ≡ front_of (queue_at self.now conn) }
@@ -98,6 +101,7 @@ impl Waits {
     }
 
     /// A PDU enters the queue of a connection, behind all that waits there.
+    #[inline(always)]
     pub fn enter(&mut self, conn: usize, item: Waiting)
         requires conn { conn < length self.old.queues }
         requires room { count_in is_any self.old < self.old.room }
@@ -111,6 +115,7 @@ impl Waits {
     }
 
     /// Takes the first PDU of a connection out.
+    #[inline(always)]
     pub fn pop(&mut self, conn: usize) -> Option<Waiting>
         requires { conn < length self.old.queues }
         ensures item { result ≡ first_item (queue_at self.old conn) }
@@ -120,6 +125,7 @@ impl Waits {
     }
 
     /// When the next PDU enters.
+    #[inline(always)]
     pub fn time(&self) -> u64
         ensures { result ≡ self.now.time }
     {
@@ -127,6 +133,7 @@ impl Waits {
     }
 
     /// A PDU enters nowhere, and time passes.
+    #[inline(always)]
     pub fn skip(&mut self)
         requires { self.old.time < 2 ^ 64 - 1 }
         ensures { self.new ≡ record self.old { time = self.old.time + 1 } }
@@ -152,6 +159,7 @@ impl Waits {
     }
 
     /// What waits of a command waits on, and is of none.
+    #[inline(always)]
     pub fn release(&mut self, command: u32)
         requires low { 1 ≤ command }
         requires high { command ≤ self.old.commands }
@@ -161,6 +169,7 @@ impl Waits {
     }
 
     /// Whether a fenced answer waits that entered before this time (RFC 7143 section 4.2.2.3).
+    #[inline(always)]
     pub fn is_behind_fence(&self, time: u64) -> bool
         ensures { result ≡ any_in (is_fenced_before time) self.now }
     {
@@ -175,6 +184,7 @@ impl Waits {
     }
 
     /// How many PDUs of the target's own wait on a connection.
+    #[inline(always)]
     pub fn own_on(&self, conn: usize) -> usize
         requires { conn < length self.now.queues }
         ensures { result ≡ count_by is_own (queue_at self.now conn) }
@@ -183,6 +193,7 @@ impl Waits {
     }
 
     /// How many PDUs wait on a connection that take a StatSN.
+    #[inline(always)]
     pub fn taking_on(&self, conn: usize) -> usize
         requires { conn < length self.now.queues }
         ensures { result ≡ count_by is_taking (queue_at self.now conn) }
@@ -191,6 +202,7 @@ impl Waits {
     }
 
     /// How many fenced answers wait on a connection.
+    #[inline(always)]
     pub fn fenced_on(&self, conn: usize) -> usize
         requires { conn < length self.now.queues }
         ensures { result ≡ count_by is_fenced (queue_at self.now conn) }
@@ -199,6 +211,7 @@ impl Waits {
     }
 
     /// How many PDUs wait on all connections that take a StatSN.
+    #[inline(always)]
     pub fn taking(&self) -> usize
         ensures { result ≡ count_in is_taking self.now }
     {
@@ -206,6 +219,7 @@ impl Waits {
     }
 
     /// How many fenced answers wait on all connections.
+    #[inline(always)]
     pub fn fenced(&self) -> usize
         ensures { result ≡ count_in is_fenced self.now }
     {
@@ -213,6 +227,7 @@ impl Waits {
     }
 
     /// How many replies of the session wait on all connections.
+    #[inline(always)]
     pub fn replies(&self) -> usize
         ensures { result ≡ count_in is_reply self.now }
     {
@@ -220,6 +235,7 @@ impl Waits {
     }
 
     /// How many answers to numbered requests wait on all connections.
+    #[inline(always)]
     pub fn numbered(&self) -> usize
         ensures { result ≡ count_in is_numbered self.now }
     {

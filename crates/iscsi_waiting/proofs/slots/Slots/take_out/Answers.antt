@@ -1,9 +1,10 @@
-use Rattle.std.proofs.Common.{ap, sym, subst, ◌∙◌, arith}
+use Rattle.std.proofs.Common.{map, refl, ap, sym, subst, ◌∙◌, arith}
+use Rattle.iscsi_lists.specs.Lists.{with_last, without}
 use Rattle.iscsi_waiting.specs.Counting.{HasOne, without_one}
 use Rattle.iscsi_outbox_state.specs.declared.waiting.Waiting.{Waiting}
 use Rattle.iscsi_waiting.specs.Kept.{BLANK, kept_at}
 use Rattle.iscsi_waiting.specs.declared.slots.Kept.{Kept}
-use Rattle.iscsi_waiting.proofs.EnterLemmas.{conns_long, counted_here}
+use Rattle.iscsi_waiting.proofs.EnterLemmas.{conns_long, counted_here, kept_alike}
 use Rattle.iscsi_waiting.proofs.MarkLemmas.{told_in}
 use Rattle.iscsi_waiting.proofs.OutLemmas.{all_has, conn_has, left_kept}
 use Rattle.iscsi_waiting.proofs.slots.Slots.take_out.Goals as goal
@@ -40,9 +41,10 @@ returns-clause-kept c =
     let s = c.args.self.now in let conn = c.list_of-conn.result in
     let at = told_in c.args.slot s.waiting.lists c.requires.waits conn c.list_of-conn.ensures in
     let item = ap (λ (k : Kept). k.item) (c.remove.ensures.value BLANK) in
-    left_kept s.waiting s.owned s.fence s.counts.items s.all s.time c.requires.kept c.known.ensures.apart conn c.args.slot at.0 at.1
-    c.remove.new.self c.remove.ensures.state c.move_to_back.new.self c.move_to_back-2.new.self c.move_to_back.ensures.state c.move_to_back-2.ensures.state
+    kept_alike c.remove.new.self s.owned c.move_owned.new.owned c.move_to_back.new.self _ _ _ 0 c.args.slot c.move_owned.ensures
+    (left_kept s.waiting s.owned s.fence s.counts.items s.all s.time c.requires.kept c.known.ensures.apart conn c.args.slot at.0 at.1
+    c.remove.new.self c.remove.ensures.state (record s.owned { lists = with_last 0 c.args.slot (map (without c.args.slot) s.owned.lists) }) c.move_to_back.new.self refl c.move_to_back.ensures.state
     c.without.result c.without-self.result
     (c.without.ensures ∙ ap (λ (w : Waiting). without_one w c.index.result.now) item
     ∙ ap (without_one (kept_at s.waiting c.args.slot).item) (counted_here s.waiting s.owned s.fence s.counts.items s.all s.time c.requires.kept conn at.0 c.index.result.now c.index.ensures))
-    (c.without-self.ensures ∙ ap (λ (w : Waiting). without_one w s.all) item)
+    (c.without-self.ensures ∙ ap (λ (w : Waiting). without_one w s.all) item))
