@@ -7,6 +7,7 @@ ghost use Rattle.iscsi_wire.specs.Serial.{lift};
 const HALF: u64 = 1 << 31;
 
 /// The number nearest to another one that the wire shows so.
+#[inline(always)]
 pub(crate) fn lifted(near: u64, shown: u32) -> u64
     requires { near < 2 ^ 63 }
     ensures { result ≡ lift near shown }

@@ -125,6 +125,7 @@ impl Outbox {
     }
 
     /// How many connections the session has: 64 at the most.
+    #[inline(always)]
     pub fn conns(&self) -> usize
         ensures count { result ≡ length self.now.limits.cids }
         ensures links { length self.now.links ≡ length self.now.limits.cids }
@@ -134,6 +135,7 @@ impl Outbox {
     }
 
     /// The CID of a connection, by its place.
+    #[inline(always)]
     pub fn cid(&self, conn: usize) -> u16
         requires { conn < length self.now.limits.cids }
         ensures { result ≡ cid_at self.now conn }
@@ -142,6 +144,7 @@ impl Outbox {
     }
 
     /// The place of the connection with this CID.
+    #[inline(always)]
     pub fn place(&self, cid: u16) -> Option<usize>
         ensures { result ≡ place_of self.now cid }
     {

@@ -13,6 +13,7 @@ use iscsi_rules::Numbers;
 
 impl Outbox {
     /// What is kept of a connection, by its place.
+    #[inline(always)]
     pub fn link(&self, conn: usize) -> Arrivals
         requires { conn < length self.now.limits.cids }
         ensures { result ≡ link_at self.now conn }
@@ -21,6 +22,7 @@ impl Outbox {
     }
 
     /// How many logical units there are: 256 at the most.
+    #[inline(always)]
     pub fn units(&self) -> u32
         ensures { result ≡ self.now.limits.units }
     {
@@ -28,6 +30,7 @@ impl Outbox {
     }
 
     /// Whether other sessions have the units, too.
+    #[inline(always)]
     pub fn is_shared(&self) -> bool
         ensures { result ≡ self.now.limits.shared }
     {
@@ -35,6 +38,7 @@ impl Outbox {
     }
 
     /// How many replies were taken, modulo 2^64.
+    #[inline(always)]
     pub fn sent(&self) -> u64
         ensures { result ≡ self.now.sent }
     {
@@ -73,6 +77,7 @@ impl Outbox {
     }
 
     /// Whether `next` would say that nothing goes out there any more.
+    #[inline(always)]
     pub fn gives_no_more(&self, cid: u16) -> bool
         ensures { result ≡ gives_no_more (given cid self.now) }
     {

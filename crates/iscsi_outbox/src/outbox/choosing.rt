@@ -24,6 +24,7 @@ pub(crate) enum Choice {
 
 impl Outbox {
     /// What may go out on a connection now.
+    #[inline(always)]
     pub(crate) fn chosen(&self, conn: usize) -> Option<Choice>
         requires { conn < length self.now.limits.cids }
         ensures { result ≡ option_map choice_of (chosen conn self.now) }
@@ -51,6 +52,7 @@ impl Outbox {
     }
 
     /// Whether nothing goes out any more on a connection that a Logout closed.
+    #[inline(always)]
     pub(crate) fn is_over(&self, conn: usize) -> bool
         requires { conn < length self.now.limits.cids }
         ensures { result ≡ is_over conn self.now }
@@ -64,6 +66,7 @@ impl Outbox {
     }
 
     /// Whether what waits first on a connection may go out, by the response fence.
+    #[inline(always)]
     fn passes(&self, conn: usize, front: Front) -> bool
         requires { conn < length self.now.limits.cids }
         ensures { result ≡ passes conn front self.now }
@@ -76,6 +79,7 @@ impl Outbox {
 
     /// Whether what takes a StatSN may go out behind the fenced answers: none that entered before waits, and the last one that
     /// went out elsewhere is known to have arrived.
+    #[inline(always)]
     fn lets_pass(&self, conn: usize, time: u64) -> bool
         ensures { result ≡ lets_pass conn time self.now }
     {
@@ -83,6 +87,7 @@ impl Outbox {
     }
 
     /// Whether a fenced answer may go out: nothing that takes a StatSN and entered before waits, or is under way elsewhere.
+    #[inline(never)]
     fn is_clear(&self, conn: usize, time: u64) -> bool
         requires { conn < length self.now.limits.cids }
         ensures { result ≡ is_clear conn time self.now }
@@ -105,6 +110,7 @@ impl Outbox {
     }
 
     /// Whether the last fenced answer went out on another connection, and isn't known to have arrived.
+    #[inline(never)]
     fn is_fence_elsewhere(&self, conn: usize) -> bool
         ensures { result ≡ is_fence_elsewhere conn self.now }
     {
@@ -125,6 +131,7 @@ impl Outbox {
     }
 
     /// Whether something waits for what was handed out on a connection to arrive, or may soon.
+    #[inline(never)]
     fn is_asked_for(&self, conn: usize, link: &Arrivals) -> bool
         requires conn { conn < length self.now.limits.cids }
         requires link { link.now ≡ link_at self.now conn }
@@ -136,6 +143,7 @@ impl Outbox {
     }
 
     /// Whether a ping goes out on a connection.
+    #[inline(always)]
     fn wants_ping(&self, conn: usize, link: &Arrivals) -> bool
         requires conn { conn < length self.now.limits.cids }
         requires link { link.now ≡ link_at self.now conn }
@@ -148,6 +156,7 @@ impl Outbox {
     }
 
     /// Whether a connection says that more may be shown: all numbers that were shown are used, and nothing waits there.
+    #[inline(never)]
     fn wants_notice(&self, conn: usize) -> bool
         ensures { result ≡ wants_notice conn self.now }
     {

@@ -1,18 +1,20 @@
 //! The commonest events, straight: what they lack needs no look.
 
-ghost use Rattle.std.specs.Prelude.{◌≡◌, ℕ, [], ◌∷◌, None};
+ghost use Rattle.std.specs.Prelude.{◌≡◌, ◌||◌, ℕ, [], ◌∷◌, None};
 ghost use Rattle.iscsi_tasks.specs.declared.task.Attr.{Attr};
 ghost use Rattle.iscsi_rules.specs.declared.effect.Effect.TheVariants.{Deliver, Enable, Enter, Leave, Send};
-ghost use Rattle.iscsi_outbox_steps.specs.Steps.{placed, send_placed};
+ghost use Rattle.iscsi_tracked.specs.declared.command.Phase.TheVariants.{Fresh, Started};
+ghost use Rattle.iscsi_outbox_steps.specs.Steps.{in_phase_if, is_dormant, is_fresh, placed, send_placed, settle};
 ghost use Rattle.iscsi_outbox.specs.private.Walks.{after_event};
 
 use crate::outbox::Outbox;
 use crate::outbox::sending::reply_item;
-use iscsi_tracked::Phase;
+use iscsi_tracked::{Command, Phase};
 use iscsi_wire::{Reply, Request};
 
 impl Outbox {
     /// A command completes, and its reply enters the queue of its connection.
+    #[inline(always)]
     pub(crate) fn take_completion(&mut self, ticket: u64, cid: u16, reply: &Reply)
         ensures { (unit stat_sn : ℕ) → self.new ≡ after_event (Leave ticket unit ∷ Send cid stat_sn reply.now ∷ []) self.old }
     {
@@ -23,6 +25,7 @@ impl Outbox {
     }
 
     /// A reply enters its queue, or goes nowhere.
+    #[inline(always)]
     fn send_at_once(&mut self, cid: u16, numbered: bool, reply: &Reply)
         ensures { self.new ≡ send_placed None [] numbered [] cid (placed reply.now self.old) self.old }
     {
@@ -36,13 +39,57 @@ impl Outbox {
     }
 
     /// A request executes that is a command: it enters, and one is enabled by that.
+    #[inline(always)]
     pub(crate) fn take_command(&mut self, request: &Request, ticket: u64, unit: u16, enabled: u64)
         ensures { (attr : Attr) (of : ℕ) → self.new ≡ after_event (Deliver request.now ∷ Enter ticket unit attr ∷ Enable enabled of ∷ []) self.old }
     {
         self.settle();
         self.enter_one(request, ticket, unit);
-        self.change_phase(enabled, Phase::Dormant, Phase::Fresh);
+        self.enable_one(enabled);
+    }
+
+    /// A command is enabled by an event, answers become due by that, and it counts as started.
+    #[inline(always)]
+    fn enable_one(&mut self, ticket: u64)
+        ensures { self.new ≡ in_phase_if is_fresh Started ticket (settle (in_phase_if is_dormant Fresh ticket self.old)) }
+    {
+        if self.lane.answers_waiting() == 0 {
+            self.start_at_once(ticket);
+        } else {
+            self.start_behind(ticket);
+        }
+    }
+
+    /// A command is enabled and counts as started, where no answer waits.
+    #[inline(always)]
+    fn start_at_once(&mut self, ticket: u64)
+        ensures { self.new ≡ in_phase_if is_fresh Started ticket (in_phase_if is_dormant Fresh ticket self.old) }
+    {
+        if let Some(command) = self.tracked.find(ticket) {
+            if is_unstarted(&command) {
+                self.tracked.set_phase(command.place, Phase::Started);
+            }
+        }
+    }
+
+    /// A command is enabled, what is due enters, and the command counts as started.
+    #[inline(never)]
+    fn start_behind(&mut self, ticket: u64)
+        ensures { self.new ≡ in_phase_if is_fresh Started ticket (settle (in_phase_if is_dormant Fresh ticket self.old)) }
+    {
+        self.change_phase(ticket, Phase::Dormant, Phase::Fresh);
         self.settle();
-        self.change_phase(enabled, Phase::Fresh, Phase::Started);
+        self.change_phase(ticket, Phase::Fresh, Phase::Started);
+    }
+}
+
+/// Whether a command doesn't count as started yet, and is live.
+#[inline(always)]
+fn is_unstarted(command: &Command) -> bool
+    ensures { result ≡ (is_dormant command.now || is_fresh command.now) }
+{
+    match command.phase {
+        Phase::Dormant | Phase::Fresh => true,
+        Phase::Started | Phase::Running | Phase::Gone => false,
     }
 }

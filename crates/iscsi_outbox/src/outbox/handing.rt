@@ -22,6 +22,7 @@ impl Outbox {
     /// Hands out the next PDU of a connection, with its numbers as they are now: `Nothing` where none may go out now, and
     /// `IsOver` where none does any more. A reply comes with its place: so many the session had sent before it, modulo 2^64, on
     /// all connections, with those that went nowhere. It tells which request is answered, as answers may overtake each other.
+    #[inline(always)]
     pub fn next(&mut self, cid: u16) -> Given
         ensures answer { result ≡ given cid self.old }
         ensures state { self.new ≡ next cid self.old }
@@ -40,6 +41,7 @@ impl Outbox {
     }
 
     /// What is answered where nothing goes out on a connection now.
+    #[inline(never)]
     fn given_nothing(&self, conn: usize) -> Given
         requires { conn < length self.now.limits.cids }
         ensures { result ≡ (if is_over conn self.now then Given.IsOver else Given.Nothing) }
@@ -52,6 +54,7 @@ impl Outbox {
     }
 
     /// What waits on a connection first goes out.
+    #[inline(always)]
     fn hand_out_waiting(&mut self, conn: usize) -> Handed
         requires conn { conn < length self.old.limits.cids }
         requires open { is_open_by (link_at self.old conn) ≡ true }
@@ -75,6 +78,7 @@ impl Outbox {
     }
 
     /// A ping goes out.
+    #[inline(never)]
     fn hand_out_ping(&mut self, conn: usize) -> Handed
         requires conn { conn < length self.old.limits.cids }
         requires open { is_open_by (link_at self.old conn) ≡ true }
@@ -95,6 +99,7 @@ impl Outbox {
     }
 
     /// A NOP-In without a tag goes out, which shows MaxCmdSN.
+    #[inline(never)]
     fn hand_out_notice(&mut self, conn: usize) -> Handed
         requires conn { conn < length self.old.limits.cids }
         requires open { is_open_by (link_at self.old conn) ≡ true }
@@ -114,6 +119,7 @@ impl Outbox {
     }
 
     /// A PDU of the command in a place was handed out.
+    #[inline(always)]
     fn note_out(&mut self, command: Option<u32>, stamp: Stamp)
         ensures { self.new ≡ of_command command stamp self.old }
     {
@@ -125,6 +131,7 @@ impl Outbox {
     }
 
     /// A PDU was handed out that answers a function of several tasks, or another one.
+    #[inline(always)]
     fn note_fence(&mut self, conn: usize, fenced: bool, stamp: Stamp)
         requires { conn < length self.old.limits.cids }
         ensures { self.new ≡ of_fence conn fenced stamp self.old }
@@ -139,6 +146,7 @@ impl Outbox {
 }
 
 /// What waits, as it goes out.
+#[inline(always)]
 fn pdu_of(content: Content) -> Pdu
     ensures { result ≡ pdu_of_content content }
 {
@@ -149,6 +157,7 @@ fn pdu_of(content: Content) -> Pdu
 }
 
 /// What the wire shows of a number.
+#[inline(always)]
 fn on_wire(number: u64) -> u32
     ensures { result ≡ wire number }
 {

@@ -72,6 +72,7 @@ impl Outbox {
     }
 
     /// The command with this ticket completes, if it is live: whether its request had a number of its own.
+    #[inline(always)]
     pub(crate) fn complete_ticket(&mut self, ticket: u64) -> bool
         ensures answer { result ≡ is_numbered_of self.old ticket }
         ensures state { self.new ≡ leave_one None ticket self.old }
@@ -112,6 +113,7 @@ impl Outbox {
     }
 
     /// A command completes: what waits of it waits on.
+    #[inline(always)]
     fn complete(&mut self, command: Command)
         requires there { has_place command.place self.old.tracked ≡ true }
         requires low { 1 ≤ command.place }
@@ -143,6 +145,7 @@ impl Outbox {
     }
 
     /// A command enters, of a connection of the session.
+    #[inline(always)]
     pub(crate) fn enter_one(&mut self, request: &Request, ticket: u64, unit: u16)
         ensures { self.new ≡ entered_one request.now ticket unit self.old }
     {
@@ -158,6 +161,7 @@ impl Outbox {
     }
 
     /// A command enters, if there is a place, its ticket is above those before and its unit is one of the session's.
+    #[inline(always)]
     fn enter_command(&mut self, command: Entering)
         requires { command.conn < length self.old.limits.cids }
         ensures { self.new ≡ enter_command command self.old }
@@ -194,6 +198,7 @@ impl Outbox {
     }
 
     /// A command comes from one phase to another one.
+    #[inline(always)]
     pub(crate) fn change_phase(&mut self, ticket: u64, from: Phase, to: Phase)
         ensures { self.new ≡ in_phase_if (is_in from) to ticket self.old }
     {

@@ -10,6 +10,7 @@ use crate::outbox::Outbox;
 impl Outbox {
     /// Whether one more request may be taken from any connection: there is room for its reply, with those of all that is
     /// held, waits or is live; and for what it takes out.
+    #[inline(always)]
     pub fn may_take(&self) -> bool
         ensures answer { result ≡ may_take self.now }
         ensures rules { MayTakeByRules self.now (may_take self.now) }
@@ -23,6 +24,7 @@ impl Outbox {
     }
 
     /// MaxCmdSN is shown as it may be shown now: the number.
+    #[inline(always)]
     pub(crate) fn show(&mut self) -> u64
         ensures number { result ≡ max_shown self.old }
         ensures state { self.new ≡ shows self.old }
@@ -34,6 +36,7 @@ impl Outbox {
     }
 
     /// MaxCmdSN as it may be shown now: the session's, less by what the window is less; and never back.
+    #[inline(always)]
     pub(crate) fn max_shown(&self) -> u64
         ensures { result ≡ max_shown self.now }
     {
@@ -42,6 +45,7 @@ impl Outbox {
     }
 
     /// The window as it may be shown: the session's, less what waits or owes beyond the room for it.
+    #[inline(always)]
     fn credit(&self) -> usize
         ensures { result ≡ credit_of self.now }
     {
@@ -52,6 +56,7 @@ impl Outbox {
     }
 
     /// The most requests that a session has at once: held, waiting or live.
+    #[inline(always)]
     pub(crate) fn most_at_once(&self) -> usize
         ensures most { result ≡ most_at_once self.now.limits }
         ensures few { result ≤ 1792 }

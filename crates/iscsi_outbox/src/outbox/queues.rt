@@ -8,6 +8,7 @@ use iscsi_outbox_state::{Undue, Waiting};
 
 impl Outbox {
     /// A PDU enters the queue of a connection that takes more. Time passes in any case.
+    #[inline(always)]
     pub(crate) fn enter(&mut self, conn: usize, item: Waiting)
         requires conn { conn < length self.old.limits.cids }
         requires command { IfSome item.command (λ c. (1 ≤ c) × (c ≤ self.old.waits.commands)) }

@@ -51,6 +51,7 @@ impl Outbox {
     }
 
     /// A reply with its place: so many were taken before it.
+    #[inline(always)]
     pub(crate) fn placed(&self, reply: Reply) -> SentReply
         ensures { result ≡ placed reply self.now }
     {
@@ -61,6 +62,7 @@ impl Outbox {
     }
 
     /// One reply more was taken, wherever it goes.
+    #[inline(always)]
     pub(crate) fn count_reply(&mut self)
         ensures { self.new ≡ counted self.old }
     {
@@ -87,6 +89,7 @@ impl Outbox {
     }
 
     /// A reply goes nowhere, and time passes.
+    #[inline(always)]
     pub(crate) fn pass_time(&mut self)
         ensures { self.new ≡ record self.old { waits = later self.old.waits } }
     {
@@ -202,6 +205,7 @@ impl Outbox {
 }
 
 /// A reply that enters its queue at once.
+#[inline(always)]
 pub(crate) fn reply_item(numbered: bool, reply: SentReply) -> Waiting
     ensures { result ≡ reply_item numbered reply }
 {

@@ -34,6 +34,7 @@ impl Outbox {
 
     /// The oldest PDU that was handed out on a connection and isn't written has gone into the transport. Where there is none,
     /// nothing changes.
+    #[inline(always)]
     pub fn written(&mut self, cid: u16)
         ensures state { self.new ≡ written cid self.old }
         ensures rules { KeepsToRules self.old (Writes cid) }
@@ -48,6 +49,7 @@ impl Outbox {
 
     /// A header arrived on a connection, with this ExpStatSN; and, if it is that of a NOP-Out, this transfer tag, and else
     /// ffffffff. What wasn't handed out yet, or is older, changes nothing.
+    #[inline(always)]
     pub fn heard(&mut self, cid: u16, exp_stat_sn: u32, transfer_tag: u32)
         ensures state { self.new ≡ heard cid exp_stat_sn transfer_tag self.old }
         ensures rules { KeepsToRules self.old (Hears cid exp_stat_sn transfer_tag) }
@@ -61,6 +63,7 @@ impl Outbox {
     }
 
     /// A header arrived on a connection.
+    #[inline(always)]
     fn hear_on(&mut self, conn: usize, exp_stat_sn: u32, transfer_tag: u32)
         requires { conn < length self.old.limits.cids }
         ensures { self.new ≡ with_link conn (heard_by exp_stat_sn transfer_tag) self.old }
@@ -124,6 +127,7 @@ impl Outbox {
     }
 
     /// A command that left owes nothing more by running.
+    #[inline(never)]
     fn stop(&mut self, command: Command)
         requires { has_place command.place self.old.tracked ≡ true }
         ensures { self.new ≡ stopped_command command self.old }
@@ -137,6 +141,7 @@ impl Outbox {
     }
 
     /// A connection is lost.
+    #[inline(never)]
     fn lose_on(&mut self, conn: usize)
         requires { conn < length self.old.limits.cids }
         ensures { self.new ≡ lost_on conn self.old }
@@ -147,6 +152,7 @@ impl Outbox {
     }
 
     /// The commands at the head of a connection's trail of which nothing is under way any more leave it.
+    #[inline(always)]
     fn trail(&mut self, conn: usize)
         requires { conn < length self.old.limits.cids }
         ensures { self.new ≡ trail conn self.old }
@@ -158,6 +164,7 @@ impl Outbox {
     }
 
     /// The first command of a connection's trail, if nothing of it is under way any more.
+    #[inline(always)]
     fn next_arrived(&self, conn: usize) -> Option<Command>
         requires { conn < length self.now.limits.cids }
         ensures answer { result ≡ next_arrived conn self.now }
@@ -173,6 +180,7 @@ impl Outbox {
     }
 
     /// Nothing of a command is under way any more.
+    #[inline(never)]
     fn arrive(&mut self, command: Command)
         requires { has_place command.place self.old.tracked ≡ true }
         ensures { self.new ≡ arrived_command command self.old }
@@ -186,6 +194,7 @@ impl Outbox {
 }
 
 /// Whether a command left, and wasn't stopped since.
+#[inline(always)]
 pub(crate) fn is_running(command: &Command) -> bool
     ensures { result ≡ is_running command.now }
 {

@@ -19,6 +19,7 @@ impl Outbox {
     /// Takes the effects of one event of the session, all of them, and its numbers. Where the outbox has no place for a reply
     /// that is sent, or a command that enters, this is passed over; so it never comes to that as long as requests are taken
     /// while `may_take` alone.
+    #[inline(always)]
     pub fn take(&mut self, effects: &[Effect], numbers: Numbers)
         ensures state { self.new ≡ taken effects.now numbers self.old }
         ensures rules { KeepsToRules self.old (Takes effects.now numbers) }
@@ -104,6 +105,7 @@ impl Outbox {
     }
 
     /// The numbers of an event are those of all that goes out from now on.
+    #[inline(always)]
     fn number(&mut self, numbers: Numbers)
         ensures { self.new ≡ numbered_by numbers self.old }
     {

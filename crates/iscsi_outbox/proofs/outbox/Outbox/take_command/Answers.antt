@@ -4,7 +4,6 @@ use Rattle.iscsi_outbox_steps.specs.State.{State}
 use Rattle.iscsi_outbox_steps.specs.Steps.{in_phase_if, is_dormant, is_fresh, settle}
 use Rattle.iscsi_outbox.specs.private.Walks.{entered_one}
 use Rattle.iscsi_outbox.proofs.CloseLemmas.{close_nothing}
-use Rattle.iscsi_outbox.proofs.CommonestLemmas.{fresh_if, started_if}
 use Rattle.iscsi_outbox.proofs.outbox.Outbox.take_command.Goals as goal
 
 pub returns : goal.returns
@@ -12,9 +11,5 @@ returns c = λ attr unit.
     let r = c.args.request.now in
     let enabled = c.args.enabled in
     let enter = λ (s : State). entered_one r c.args.ticket c.args.unit s in
-    c.change_phase-2.ensures
-    ∙ started_if enabled c.settle-2.new.self
-    ∙ ap (λ (s : State). in_phase_if is_fresh Started enabled s) (c.settle-2.ensures
-    ∙ ap settle (c.change_phase.ensures
-    ∙ fresh_if enabled c.enter_one.new.self
-    ∙ ap (λ (s : State). in_phase_if is_dormant Fresh enabled s) (c.enter_one.ensures ∙ ap enter c.settle.ensures ∙ sym (close_nothing (Some r) (enter (settle c.args.self.now))))))
+    c.enable_one.ensures
+    ∙ ap (λ (s : State). in_phase_if is_fresh Started enabled (settle (in_phase_if is_dormant Fresh enabled s))) (c.enter_one.ensures ∙ ap enter c.settle.ensures ∙ sym (close_nothing (Some r) (enter (settle c.args.self.now))))
