@@ -23,6 +23,7 @@ pub(crate) struct Course {
 
 impl Course {
     /// At the begin of an event, with the request that arrives in it.
+    #[inline(always)]
     pub(crate) fn begin(own: Option<u32>, sent: u64) -> Course
         ensures { result ≡ begun own sent }
     {
@@ -35,6 +36,7 @@ impl Course {
     }
 
     /// A request executes, whose place is this.
+    #[inline(always)]
     pub(crate) fn execute(&mut self, request: &Request, place: Option<u32>)
         ensures { self.new ≡ executing request.now place self.old }
     {
@@ -43,6 +45,7 @@ impl Course {
     }
 
     /// The request that a reply is of: the one that executes, or the one that arrives.
+    #[inline(always)]
     pub(crate) fn answering(&self) -> Option<u32>
         ensures { result ≡ answering self.now }
     {
@@ -51,6 +54,7 @@ impl Course {
 }
 
 /// Why what leaves by a request stops. A Logout that no caller gave tells of a lost connection.
+#[inline(always)]
 fn reason_by(request: &Request, place: Option<u32>) -> StopReason
     ensures { result ≡ reason_by request.now place }
 {

@@ -140,6 +140,7 @@ impl Desk {
     }
 
     /// What the target is told of this call, but for what is forgotten.
+    #[inline(always)]
     pub fn actions(&self) -> &[Action]
         ensures { result.now ≡ self.now.actions }
     {
@@ -147,6 +148,7 @@ impl Desk {
     }
 
     /// What was forgotten in this call: it is told behind the actions.
+    #[inline(always)]
     pub fn forgets(&self) -> &[Action]
         ensures { result.now ≡ self.now.forgets }
     {
@@ -154,6 +156,7 @@ impl Desk {
     }
 
     /// The next call begins: nothing was told in it yet.
+    #[inline(always)]
     pub fn begin(&mut self)
         ensures { self.new ≡ record { state = self.old.state; actions = []; forgets = [] } }
     {
@@ -162,6 +165,7 @@ impl Desk {
     }
 
     /// The outbox.
+    #[inline(always)]
     pub fn outbox(&self) -> &Outbox
         ensures { result.now ≡ self.now.state.outbox }
     {

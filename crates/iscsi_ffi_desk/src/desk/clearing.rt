@@ -1,6 +1,6 @@
 //! Another session's reset of a unit, and what stopped.
 
-ghost use Rattle.std.specs.Prelude.{◌≡◌, Some, None, length};
+ghost use Rattle.std.specs.Prelude.{◌≡◌, [], Some, None, true, length};
 ghost use Rattle.iscsi_outbox_steps.specs.Steps.{cleared_of, is_running_ticket};
 ghost use Rattle.iscsi_ffi_commands.specs.Commands.{find_ticket, of_unit};
 ghost use Rattle.iscsi_ffi_steps.specs.Steps.{clear_each, clear_one, status_of};
@@ -73,6 +73,7 @@ impl Desk {
     }
 
     /// The command with this ticket, if it is kept still.
+    #[inline(always)]
     pub fn command(&self, ticket: u64) -> Option<Command>
         ensures { result ≡ find_ticket ticket self.now.state.commands }
     {
@@ -80,10 +81,21 @@ impl Desk {
     }
 
     /// How many commands are kept.
+    #[inline(always)]
     pub fn commands(&self) -> usize
         ensures { result ≡ length self.now.state.commands.items }
     {
         self.commands.len()
+    }
+
+    /// Whether no command is to be completed that never starts.
+    #[inline(always)]
+    pub fn is_none_withheld(&self) -> bool
+        ensures yes { result ≡ true → self.now.state.withheld ≡ [] }
+        ensures no { self.now.state.withheld ≡ [] → result ≡ true }
+    {
+        let tickets = &self.withheld;
+        tickets.is_empty()
     }
 
     /// The oldest of the commands that are to be completed and never start: its ticket, and the status that it is completed with.
@@ -109,6 +121,7 @@ impl Desk {
     }
 
     /// A command that was taken out, and ran, has stopped. False, and nothing changes, where none with this ticket runs.
+    #[inline(never)]
     pub fn stop_running(&mut self, ticket: u64) -> bool
         ensures answer { result ≡ is_running_ticket ticket self.old.state.outbox }
         ensures state { self.new ≡ stopped_running ticket self.old }

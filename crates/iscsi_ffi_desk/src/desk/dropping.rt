@@ -10,6 +10,7 @@ use crate::desk::Desk;
 
 impl Desk {
     /// The functions of a connection are dropped.
+    #[inline(never)]
     pub(super) fn drop_functions_on(&mut self, conn: usize)
         requires { conn < length self.old.state.outbox.limits.cids }
         ensures { self.new ≡ drop_functions_on conn self.old }
@@ -38,6 +39,7 @@ impl Desk {
     }
 
     /// All that waits on a connection is dropped.
+    #[inline(never)]
     pub(super) fn drop_waiting(&mut self, conn: usize)
         requires { conn < length self.old.state.outbox.limits.cids }
         ensures { self.new ≡ drop_waiting conn self.old }
@@ -67,6 +69,7 @@ impl Desk {
     }
 
     /// What was handed out there and isn't written never will be.
+    #[inline(never)]
     pub(super) fn drop_unwritten(&mut self, conn: usize)
         requires { conn < length self.old.state.outbox.limits.cids }
         ensures { self.new ≡ drop_unwritten (length (of_conn conn self.old.state.unwritten.handed)) conn self.old }

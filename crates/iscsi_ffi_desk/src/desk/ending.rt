@@ -10,6 +10,7 @@ use iscsi_ffi_rules::Action;
 
 impl Desk {
     /// Tells which connections have something to hand out, and which are to be closed: each once.
+    #[inline(always)]
     pub fn end(&mut self)
         ensures { self.new ≡ ended self.old }
     {
@@ -18,6 +19,7 @@ impl Desk {
     }
 
     /// Tells which connections have something to hand out that weren't told so since they last gave nothing.
+    #[inline(always)]
     fn tell_ready(&mut self)
         ensures { self.new ≡ tell_each 0 self.old.state.outbox.limits.cids self.old }
     {
@@ -27,6 +29,7 @@ impl Desk {
     }
 
     /// Tells so of one.
+    #[inline(always)]
     fn tell_ready_on(&mut self, conn: usize)
         requires { conn < length self.old.state.outbox.limits.cids }
         ensures { self.new ≡ tell_on conn (cid_at self.old.state.outbox conn) self.old }
@@ -51,6 +54,7 @@ impl Desk {
     }
 
     /// Tells which connections are to be closed that weren't told so.
+    #[inline(always)]
     fn tell_closed(&mut self)
         ensures { self.new ≡ close_each 0 self.old.state.outbox.limits.cids self.old }
     {
@@ -60,6 +64,7 @@ impl Desk {
     }
 
     /// Tells so of one.
+    #[inline(always)]
     fn tell_closed_on(&mut self, conn: usize)
         requires { conn < length self.old.state.outbox.limits.cids }
         ensures { self.new ≡ close_on conn (cid_at self.old.state.outbox conn) self.old }
@@ -72,6 +77,7 @@ impl Desk {
     }
 
     /// A connection gave nothing: it is told again when it may give something.
+    #[inline(always)]
     pub fn put_to_sleep(&mut self, conn: usize)
         requires { conn < length self.old.state.outbox.limits.cids }
         ensures { self.new ≡ asleep conn self.old }

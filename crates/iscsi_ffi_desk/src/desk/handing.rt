@@ -11,6 +11,7 @@ use iscsi_outbox::{Given, Handed, OwnPdu, Pdu};
 
 impl Desk {
     /// Whether as many PDUs of a connection are handed out and not written as may be.
+    #[inline(always)]
     pub fn is_blocked(&self, conn: usize, most: u32) -> bool
         requires { conn < length self.now.state.outbox.limits.cids }
         ensures { result ≡ is_blocked most conn self.now.state }
@@ -19,6 +20,7 @@ impl Desk {
     }
 
     /// Hands out the next PDU of a connection, with the word for what it belongs to.
+    #[inline(always)]
     pub fn next(&mut self, conn: usize, cid: u16) -> (Given, Option<u64>)
         requires { conn < length self.old.state.outbox.limits.cids }
         ensures answer { result.0 ≡ given cid self.old.state.outbox }
@@ -36,6 +38,7 @@ impl Desk {
     }
 
     /// A PDU was handed out on a connection, and is to be written: the word for what it belongs to.
+    #[inline(always)]
     fn hand_out(&mut self, conn: usize, pdu: &Pdu) -> Option<u64>
         requires { conn < length self.old.state.outbox.limits.cids }
         ensures cookie { result ≡ cookie_of_place self.old.state (request_handed self.old.state conn pdu.now) }
@@ -47,6 +50,7 @@ impl Desk {
     }
 
     /// It stands behind what is handed out there and not written, if there is room, as there is meant to be.
+    #[inline(always)]
     fn push_unwritten(&mut self, conn: usize, request: Option<u32>)
         requires { conn < length self.old.state.outbox.limits.cids }
         ensures { self.new ≡ pushed_out conn request self.old }
@@ -57,6 +61,7 @@ impl Desk {
     }
 
     /// What waited on a connection first leaves its queue: the place of the request that it belongs to.
+    #[inline(always)]
     fn leave_queue(&mut self, conn: usize, pdu: &Pdu) -> Option<u32>
         requires { conn < length self.old.state.outbox.limits.cids }
         ensures request { result ≡ request_handed self.old.state conn pdu.now }
@@ -71,6 +76,7 @@ impl Desk {
     }
 
     /// The word of the request in a place, if there is one.
+    #[inline(always)]
     fn cookie_of(&self, request: Option<u32>) -> Option<u64>
         ensures { result ≡ cookie_of_place self.now.state request }
     {
@@ -81,6 +87,7 @@ impl Desk {
     }
 
     /// The reply with this place in the log waits no more: its request.
+    #[inline(always)]
     fn take_reply(&mut self, log_place: u64) -> Option<u32>
         ensures request { result ≡ find_log_place log_place self.old.state.replies }
         ensures state { self.new ≡ reply_left log_place self.old }
@@ -98,6 +105,7 @@ impl Desk {
     }
 
     /// A PDU of a command is handed out: its request has a use more.
+    #[inline(never)]
     fn use_again(&mut self, ticket: u64) -> Option<u32>
         ensures request { result ≡ request_of_command ticket self.old.state }
         ensures state { self.new ≡ command_used ticket self.old }
@@ -110,6 +118,7 @@ impl Desk {
     }
 
     /// What was handed out first on a connection, and isn't written, has gone into the transport.
+    #[inline(always)]
     pub fn write(&mut self, conn: usize, cid: u16)
         requires { conn < length self.old.state.outbox.limits.cids }
         ensures { self.new ≡ written_on cid conn self.old }
@@ -119,6 +128,7 @@ impl Desk {
     }
 
     /// What was handed out first there is written.
+    #[inline(always)]
     fn write_oldest(&mut self, conn: usize)
         requires { conn < length self.old.state.outbox.limits.cids }
         ensures { self.new ≡ write_on conn self.old }

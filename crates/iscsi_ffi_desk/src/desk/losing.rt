@@ -18,6 +18,7 @@ impl Desk {
     }
 
     /// A header arrived on a connection, with this ExpStatSN and, if it is that of a NOP-Out, this transfer tag.
+    #[inline(always)]
     pub fn hear(&mut self, cid: u16, exp_stat_sn: u32, transfer_tag: u32)
         ensures { self.new ≡ with_outbox (heard cid exp_stat_sn transfer_tag self.old.state.outbox) self.old }
     {

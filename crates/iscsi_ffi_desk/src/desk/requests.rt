@@ -10,6 +10,7 @@ use iscsi_wire::Request;
 
 impl Desk {
     /// A request arrives with its cookie: its place. There is always one.
+    #[inline(always)]
     pub fn enter_request(&mut self, cookie: u64) -> Option<u32>
         ensures answer { result ≡ next_place self.old.state.cookies }
         ensures state { self.new ≡ entered_request cookie self.old }
@@ -22,6 +23,7 @@ impl Desk {
     }
 
     /// It is received, and held until its turn comes.
+    #[inline(always)]
     pub fn hold(&mut self, request: &Request, place: u32)
         ensures { self.new ≡ hold request.now place self.old }
     {

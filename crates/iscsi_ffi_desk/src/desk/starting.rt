@@ -19,6 +19,7 @@ use iscsi_wire::{Request, unit_of};
 
 impl Desk {
     /// Tells the resets that other sessions' commands wait for, item by item.
+    #[inline(never)]
     pub(super) fn tell_resets(&mut self, effects: &[Effect])
         ensures { self.new ≡ tell_all (resets_in self.old.state effects.now) self.old }
     {
@@ -77,6 +78,7 @@ impl Desk {
     }
 
     /// One of them does.
+    #[inline(always)]
     pub(super) fn start_ticket(&mut self, ticket: u64)
         ensures { self.new ≡ start_each (ticket ∷ []) self.old }
     {
@@ -87,6 +89,7 @@ impl Desk {
     }
 
     /// A command that was enabled starts, or is to be completed.
+    #[inline(always)]
     fn start(&mut self, command: &Command)
         ensures { self.new ≡ start command.now self.old }
     {
@@ -95,17 +98,18 @@ impl Desk {
             return;
         }
         let cookie = self.cookie(command.request);
+        self.set_stage(command.ticket, Stage::Started);
         self.tell(Action::Start {
             ticket: command.ticket,
             unit: command.unit,
             attr: command.attr,
             cookie,
         });
-        self.set_stage(command.ticket, Stage::Started);
     }
 
     /// Whether a command isn't told to start as it is enabled: another session's reset takes it out, or it is a HEAD OF QUEUE
     /// command that would bar those.
+    #[inline(always)]
     fn is_withheld(&self, command: &Command) -> bool
         ensures { result ≡ is_withheld self.now.state command.now }
     {
@@ -113,6 +117,7 @@ impl Desk {
     }
 
     /// Whether a command of this unit is left that another session's reset takes out.
+    #[inline(never)]
     fn is_clearing(&self, unit: u16) -> bool
         ensures { result ≡ is_clearing unit self.now.state.commands }
     {
@@ -121,6 +126,7 @@ impl Desk {
     }
 
     /// A command is to be completed, and never starts.
+    #[inline(never)]
     fn withhold(&mut self, ticket: u64)
         ensures { self.new ≡ record { state = withhold ticket self.old.state; actions = self.old.actions; forgets = self.old.forgets } }
     {

@@ -31,6 +31,7 @@ impl Desk {
     }
 
     /// On the one with this CID.
+    #[inline(always)]
     pub(super) fn sweep_conn(&mut self, cid: u16)
         ensures { self.new ≡ sweep (as_list (place_of self.old.state.outbox cid)) self.old }
     {
@@ -49,6 +50,7 @@ impl Desk {
     }
 
     /// On one of them.
+    #[inline(always)]
     fn sweep_one(&mut self, conn: usize)
         requires { conn < length self.old.state.outbox.limits.cids }
         ensures { self.new ≡ sweep (conn ∷ []) self.old }
@@ -59,6 +61,7 @@ impl Desk {
     }
 
     /// Whether what waits on a connection waits on: it is open, and no Logout on another one closed it.
+    #[inline(always)]
     fn keeps(&self, conn: usize) -> bool
         requires { conn < length self.now.state.outbox.limits.cids }
         ensures { result ≡ keeps (link_at self.now.state.outbox conn) }

@@ -11,6 +11,7 @@ use iscsi_rules::{Effect, Numbers};
 impl Desk {
     /// Takes the effects of one event of the session, all of them, and its numbers. `own`: the place of the request that arrives in
     /// it, if it isn't held. Those of the two commonest events are taken straight, and those of any other one part by part.
+    #[inline(always)]
     pub fn take(&mut self, own: Option<u32>, effects: &[Effect], numbers: Numbers)
         ensures { self.new ≡ takes own (record { numbers = numbers; effects = effects.now }) self.old }
     {
@@ -52,6 +53,7 @@ impl Desk {
     }
 
     /// The outbox takes them.
+    #[inline(always)]
     fn tell_outbox(&mut self, effects: &[Effect], numbers: Numbers)
         ensures { self.new ≡ with_outbox (taken effects.now numbers self.old.state.outbox) self.old }
     {

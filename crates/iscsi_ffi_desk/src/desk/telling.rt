@@ -11,6 +11,7 @@ use iscsi_ffi_rules::Action;
 
 impl Desk {
     /// Tells an action, if there is room, as there is meant to be.
+    #[inline(always)]
     pub(super) fn tell(&mut self, action: Action)
         ensures { self.new ≡ tell action self.old }
     {
@@ -20,6 +21,7 @@ impl Desk {
     }
 
     /// Tells that a request is forgotten, if there is room, as there is meant to be.
+    #[inline(always)]
     fn forget(&mut self, cookie: u64)
         ensures { self.new ≡ record { state = self.old.state; actions = self.old.actions; forgets = with_room self.old.state.room self.old.forgets (Forget cookie) } }
     {
@@ -29,6 +31,7 @@ impl Desk {
     }
 
     /// A request has one use less: with the last one it is forgotten, and its command, if it has one.
+    #[inline(always)]
     pub(super) fn release(&mut self, request: u32)
         ensures { self.new ≡ release request self.old }
     {
@@ -42,6 +45,7 @@ impl Desk {
     }
 
     /// So has the request of what may have one.
+    #[inline(always)]
     pub(super) fn release_if(&mut self, request: Option<u32>)
         ensures { self.new ≡ release_if request self.old }
     {
@@ -51,6 +55,7 @@ impl Desk {
     }
 
     /// The word of a request: 0 where there is none in this place.
+    #[inline(always)]
     pub(super) fn cookie(&self, request: u32) -> u64
         ensures { result ≡ cookie_at request self.now.state.cookies }
     {
@@ -62,6 +67,7 @@ impl Desk {
     }
 
     /// A command comes to another stage.
+    #[inline(always)]
     pub(super) fn set_stage(&mut self, ticket: u64, stage: Stage)
         ensures { self.new ≡ record { state = with_stage stage ticket self.old.state; actions = self.old.actions; forgets = self.old.forgets } }
     {

@@ -70,6 +70,7 @@ impl Desk {
     }
 
     /// An immediate one executes: the one that arrives, or a function that waited.
+    #[inline(never)]
     fn take_immediate(&mut self, first: bool, request: &Request, course: &mut Course)
         ensures { walk_of self.new course.new ≡ immediate first request.now (walk_of self.old course.old) }
     {
@@ -94,6 +95,7 @@ impl Desk {
     }
 
     /// The function that arrives waits for its turn.
+    #[inline(never)]
     fn wait(&mut self, request: &Request, course: &mut Course)
         ensures { walk_of self.new course.new ≡ wait request.now (walk_of self.old course.old) }
     {
@@ -108,6 +110,7 @@ impl Desk {
     }
 
     /// What is held at a number is taken out.
+    #[inline(never)]
     fn empty(&mut self, number: u32)
         ensures { (course : Course) → walk_of self.new course ≡ empty number (walk_of self.old course) }
     {
@@ -154,6 +157,7 @@ impl Desk {
     }
 
     /// A command that a request takes out stops, if it was told to start; else its request is over.
+    #[inline(never)]
     fn take_out(&mut self, command: &Command, why: StopReason)
         ensures { self.new ≡ take_out command.now why self.old }
     {
@@ -188,6 +192,7 @@ impl Desk {
     }
 
     /// A reply waits, if there is a request that it is of.
+    #[inline(always)]
     fn push_reply(&mut self, cid: u16, course: &mut Course)
         ensures { walk_of self.new course.new ≡ send_as (place_of self.old.state.outbox cid) (answering (walk_of self.old course.old)) (walk_of self.old course.old) }
     {
@@ -202,6 +207,7 @@ impl Desk {
     }
 
     /// Whether a reply may wait: there is room, and its place is above those of the others.
+    #[inline(always)]
     fn may_wait(&self, log_place: u64) -> bool
         ensures { result ≡ may_wait log_place self.now.state.replies }
     {
@@ -215,6 +221,7 @@ impl Desk {
     }
 
     /// The event is passed over: the request that arrives is over.
+    #[inline(never)]
     fn ignore(&mut self, course: &mut Course)
         ensures { (why : Why) → walk_of self.new course.new ≡ on_effect true (Ignore why) (walk_of self.old course.old) }
     {
@@ -224,6 +231,7 @@ impl Desk {
 }
 
 /// Whether a command was told to start, and neither completed nor was taken out.
+#[inline(always)]
 pub(super) fn is_going(command: &Command) -> bool
     ensures { result ≡ is_going command.now }
 {
@@ -234,6 +242,7 @@ pub(super) fn is_going(command: &Command) -> bool
 }
 
 /// Whether another session's reset takes it out.
+#[inline(always)]
 pub(super) fn is_marked(command: &Command) -> bool
     ensures { result ≡ is_marked command.now }
 {
