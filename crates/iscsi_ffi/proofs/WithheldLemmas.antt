@@ -33,7 +33,8 @@ step i k g ticket status first = by_list g.doing.state.withheld refl first
         ∙ ap (λ (p : ℕ × ℕ). withholding i k (happening i None (Done (p.0) (p.1)) (changed (in_state (λ s. record s { withheld = ws })) g))) (ap pair_of f)
         ∙ ap (λ (xs : List ℕ). withholding i k (happening i None (Done ticket status) (changed (in_state (λ s. record s { withheld = behind_first xs })) g))) (sym e)
 
-stop : (i : Interface) (k : ℕ) (g : Going) → first_withheld g.doing.state ≡ None → withholding i k g ≡ g
+-- there is none
+pub stop : (i : Interface) (k : ℕ) (g : Going) → first_withheld g.doing.state ≡ None → withholding i k g ≡ g
 stop i zero g none = refl
 stop i (suc k) g none = by_list g.doing.state.withheld refl none
   where

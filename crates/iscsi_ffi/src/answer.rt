@@ -59,6 +59,7 @@ pub enum Answer {
 
 impl Answer {
     /// The number of the answer, from 0 on in the order above.
+    #[inline(always)]
     pub fn code(self) -> u32
         ensures { result ≡ code_of self }
     {
@@ -89,6 +90,7 @@ impl Answer {
     }
 
     /// Why a call is refused.
+    #[inline(always)]
     pub(crate) fn of_refusal(refusal: Refusal) -> Answer
         ensures { result ≡ of_refusal refusal }
     {

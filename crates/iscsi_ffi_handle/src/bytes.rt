@@ -16,6 +16,7 @@ const HEADER: usize = 48;
 pub(crate) const MOST_BYTES: usize = 96;
 
 /// Writes a PDU to the front of a buffer, and says what it is.
+#[inline(always)]
 pub(crate) fn write_pdu(handed: &Handed, cookie: Option<u64>, buffer: &mut [u8]) -> PlainPdu
     requires { 96 ≤ length buffer.old }
     ensures buffer { buffer.new ≡ put_first (bytes_of handed.now) buffer.old }
@@ -32,6 +33,7 @@ pub(crate) fn write_pdu(handed: &Handed, cookie: Option<u64>, buffer: &mut [u8])
 }
 
 /// Writes the bytes of a PDU to the front of a buffer, and says how many there are.
+#[inline(always)]
 fn write_bytes(handed: &Handed, buffer: &mut [u8]) -> u8
     requires { 96 ≤ length buffer.old }
     ensures buffer { buffer.new ≡ put_first (bytes_of handed.now) buffer.old }
@@ -50,6 +52,7 @@ fn write_bytes(handed: &Handed, buffer: &mut [u8]) -> u8
 }
 
 /// Writes the bytes of a reply with these numbers, and says how many there are.
+#[inline(always)]
 fn write_reply(reply: &Reply, stat_sn: u32, exp: u32, max: u32, buffer: &mut [u8]) -> u8
     requires { 96 ≤ length buffer.old }
     ensures buffer { buffer.new ≡ put_first (header_of reply.now stat_sn exp max ++ tail_of reply.now) buffer.old }
@@ -61,6 +64,16 @@ fn write_reply(reply: &Reply, stat_sn: u32, exp: u32, max: u32, buffer: &mut [u8
     {
         return write_header(&scsi_header(*itt, *status, stat_sn, exp, max), buffer);
     }
+    write_encoded(reply, stat_sn, exp, max, buffer)
+}
+
+/// Writes those of any reply.
+#[inline(never)]
+fn write_encoded(reply: &Reply, stat_sn: u32, exp: u32, max: u32, buffer: &mut [u8]) -> u8
+    requires { 96 ≤ length buffer.old }
+    ensures buffer { buffer.new ≡ put_first (header_of reply.now stat_sn exp max ++ tail_of reply.now) buffer.old }
+    ensures length { result ≡ length (header_of reply.now stat_sn exp max ++ tail_of reply.now) }
+{
     let pdu = reply.encode(stat_sn, exp, max);
     let tail = pdu.tail();
     let (front, behind) = buffer.split_at_mut(HEADER);
@@ -103,6 +116,7 @@ fn pair(first: u32, second: u32) -> [u8; 8]
     (u64::from(first) * (1 << 32) + u64::from(second)).to_be_bytes()
 }
 
+#[inline(always)]
 fn kind_code(pdu: &Pdu) -> u8
     ensures { result ≡ kind_code pdu.now }
 {

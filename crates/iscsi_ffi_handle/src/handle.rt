@@ -36,6 +36,7 @@ impl Handle {
     ghost use Rattle.iscsi_ffi_handle.specs.Ready.{IsNotReady, IsReady};
 
     /// A closed handle.
+    #[inline(always)]
     pub fn closed(alloc: Global) -> Handle
         ensures { inside result ≡ None }
     {
@@ -46,6 +47,7 @@ impl Handle {
     }
 
     /// Takes the side out of an open handle of which no actions wait, and leaves it closed.
+    #[inline(always)]
     fn ready(&mut self, alloc: Global) -> Result<Box<Side>, Answer>
         ensures ready { IfOk result (λ side. IsReady (inside self.old) (inside self.new) side.value) }
         ensures refused { IfErr result (λ answer. IsNotReady (inside self.old) (inside self.new) answer) }
@@ -61,6 +63,7 @@ impl Handle {
     }
 
     /// Takes the side out, and leaves the handle closed.
+    #[inline(always)]
     fn take(&mut self, alloc: Global) -> Option<Box<Side>>
         ensures closed { inside self.new ≡ None }
         ensures side { option_map (λ b. b.value) result ≡ inside self.old }
@@ -69,6 +72,7 @@ impl Handle {
     }
 
     /// The side, if the handle is open.
+    #[inline(always)]
     fn into_side(self) -> Option<Box<Side>>
         ensures { option_map (λ b. b.value) result ≡ inside self }
     {
@@ -82,6 +86,7 @@ impl Handle {
     }
 
     /// Puts a side into a closed handle.
+    #[inline(always)]
     fn put_back(&mut self, side: Box<Side>)
         requires closed { inside self.old ≡ None }
         ensures side { inside self.new ≡ Some side.value }
@@ -94,6 +99,7 @@ impl Handle {
     }
 
     /// Ends a closed handle. Unlike its drop, this needn't ask whether there is a side to free.
+    #[inline(always)]
     fn end(self)
         requires closed { inside self ≡ None }
     {

@@ -69,6 +69,7 @@ const NOTHING: PlainAction = PlainAction {
 };
 
 /// The plain form of an action.
+#[inline(always)]
 pub(crate) fn plain_action(action: Action) -> PlainAction
     ensures { result ≡ plain_action action }
 {
@@ -121,6 +122,7 @@ pub(crate) fn plain_action(action: Action) -> PlainAction
     }
 }
 
+#[inline(always)]
 fn attribute_code(attr: Attr) -> u8
     ensures { result ≡ attribute_code attr }
 {
@@ -131,6 +133,7 @@ fn attribute_code(attr: Attr) -> u8
     }
 }
 
+#[inline(always)]
 fn reason_code(why: StopReason) -> u8
     ensures { result ≡ reason_code why }
 {

@@ -23,6 +23,7 @@ impl Side {
     /// A request PDU arrived on a connection, with the caller's word for it. Its header is heard, too.
     ///
     /// `ActionsWait`, then `UnknownConnection`, `NotJoined`, `Exhausted`, `Busy`: each changes nothing, and keeps no word.
+    #[inline(always)]
     pub fn arrive(&mut self, cid: u16, header: &[u8; 48], cookie: u64) -> Answer
         ensures { Takes (Arrives cid header.now cookie) self.old self.new result }
     {
@@ -36,6 +37,7 @@ impl Side {
     }
 
     /// A request arrives, in a call that has begun.
+    #[inline(always)]
     fn arrive_now(&mut self, cid: u16, header: &[u8; 48], cookie: u64) -> Answer
         ensures stands { (i : Interface) (s : Sides) → Begun i self.old (going s) → Begun i self.new (arrive i cid header.now cookie s).going }
         ensures answer { (i : Interface) (s : Sides) → Begun i self.old (going s) → result ≡ answer_of (arrive i cid header.now cookie s).answer }
@@ -52,6 +54,7 @@ impl Side {
     }
 
     /// Why no request is taken on this connection.
+    #[inline(always)]
     fn refusal_of(&self, cid: u16) -> Option<Refusal>
         ensures { (i : Interface) (s : Sides) → Begun i self.now (going s) → result ≡ refusal_of i s cid }
     {
@@ -71,6 +74,7 @@ impl Side {
     }
 
     /// A request is taken, which has this place.
+    #[inline(always)]
     fn take_request(&mut self, cid: u16, header: &[u8; 48], place: u32)
         ensures { (i : Interface) (g : Going) → Begun i self.old g → is_known cid i.outbox.session.conns ≡ true → nat_lt g.event i.outbox.session.events ≡ true →
             Begun i self.new (arriving i cid header.now (Some place) g) }
@@ -87,6 +91,7 @@ impl Side {
     }
 
     /// The request that arrives is held, if it is received; else this is its place.
+    #[inline(always)]
     fn place_request(&mut self, request: &Request, place: u32) -> Option<u32>
         ensures own { result ≡ own_of request.now place self.old.host.effects }
         ensures state { self.new ≡ record self.old { desk = held_of request.now place self.old.host.effects self.old.desk } }
@@ -100,6 +105,7 @@ impl Side {
 }
 
 /// Whether a request is received, and held until its turn comes, also where that is at once: by what comes of it.
+#[inline(always)]
 fn is_held_first(request: &Request, effects: &[Effect]) -> bool
     ensures { result ≡ is_held_first request.now effects.now }
 {
@@ -110,6 +116,7 @@ fn is_held_first(request: &Request, effects: &[Effect]) -> bool
 }
 
 /// The number of four bytes of a header.
+#[inline(always)]
 pub(super) fn word_at(header: &[u8; 48], from: usize) -> u32
     requires { from + 4 ≤ 48 }
     ensures { result ≡ word_at from header.now }
@@ -118,6 +125,7 @@ pub(super) fn word_at(header: &[u8; 48], from: usize) -> u32
 }
 
 /// The transfer tag that a header is heard with: that of a NOP-Out.
+#[inline(always)]
 pub(super) fn transfer_tag(header: &[u8; 48]) -> u32
     ensures { result ≡ tag_heard header.now }
 {

@@ -21,6 +21,7 @@ impl Side {
     /// status isn't looked at; one that was taken out has stopped.
     ///
     /// `ActionsWait`, then `Stale`: no command with this ticket was told to start, and is left to complete or to stop.
+    #[inline(always)]
     pub fn complete(&mut self, ticket: u64, status: u8) -> Answer
         ensures { Takes (Completes ticket status) self.old self.new result }
     {
@@ -34,6 +35,7 @@ impl Side {
     }
 
     /// A command completes, in a call that has begun.
+    #[inline(always)]
     fn complete_now(&mut self, ticket: u64, status: u8) -> Answer
         ensures stands { (i : Interface) (s : Sides) → Begun i self.old (going s) → Begun i self.new (complete i ticket status s).going }
         ensures answer { (i : Interface) (s : Sides) → Begun i self.old (going s) → result ≡ answer_of (complete i ticket status s).answer }
@@ -45,6 +47,7 @@ impl Side {
     }
 
     /// A command that is kept completes.
+    #[inline(always)]
     fn complete_as(&mut self, command: &Command, status: u8) -> Answer
         ensures stands { (i : Interface) (s : Sides) → Begun i self.old (going s) → Begun i self.new (complete_as i command.now status s).going }
         ensures answer { (i : Interface) (s : Sides) → Begun i self.old (going s) → result ≡ answer_of (complete_as i command.now status s).answer }
@@ -100,6 +103,7 @@ impl Side {
     }
 
     /// A command that was taken out, and ran, has stopped.
+    #[inline(never)]
     fn stop_now(&mut self, ticket: u64) -> Answer
         ensures stands { (i : Interface) (s : Sides) → Begun i self.old (going s) → Begun i self.new (stop_running ticket s).going }
         ensures answer { (i : Interface) (s : Sides) → Begun i self.old (going s) → result ≡ answer_of (stop_running ticket s).answer }
@@ -157,6 +161,7 @@ impl Side {
 }
 
 /// Whether a command was told to start, and neither completed nor was taken out.
+#[inline(always)]
 fn is_going(command: &Command) -> bool
     ensures { result ≡ is_going command.now }
 {
@@ -177,6 +182,7 @@ fn is_cleared(command: &Command) -> bool
 }
 
 /// With which status a command completes.
+#[inline(always)]
 fn status_of(command: &Command, status: u8) -> u8
     ensures { result ≡ (if is_marked command.now then 0x40 else status) }
 {

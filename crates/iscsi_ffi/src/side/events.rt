@@ -11,6 +11,7 @@ use iscsi_rules::Event;
 
 impl Side {
     /// An event happens, and then what is withheld is completed. `own`: the place of the request that arrives in it, if it isn't held.
+    #[inline(always)]
     pub(super) fn happen(&mut self, own: Option<u32>, event: &Event)
         ensures { (i : Interface) (g : Going) → Begun i self.old g → belongs i.outbox.session event.now ≡ true → Begun i self.new (happens i own event.now g) }
     {
@@ -19,6 +20,7 @@ impl Side {
     }
 
     /// An event happens: the session takes it, and what comes of it is noted.
+    #[inline(always)]
     fn take_event(&mut self, own: Option<u32>, event: &Event)
         ensures { (i : Interface) (g : Going) → Begun i self.old g → belongs i.outbox.session event.now ≡ true → Begun i self.new (happening i own event.now g) }
     {
@@ -30,7 +32,19 @@ impl Side {
     }
 
     /// The commands that never start are completed, the oldest first, with those that are withheld by that.
+    #[inline(always)]
     pub(super) fn complete_withheld(&mut self)
+        ensures { (i : Interface) (g : Going) → Begun i self.old g → Begun i self.new (withholding i (length g.doing.state.commands.items) g) }
+    {
+        if self.desk.is_none_withheld() {
+            return;
+        }
+        self.complete_each();
+    }
+
+    /// Each of them is.
+    #[inline(never)]
+    fn complete_each(&mut self)
         ensures { (i : Interface) (g : Going) → Begun i self.old g → Begun i self.new (withholding i (length g.doing.state.commands.items) g) }
     {
         for _done in 0..self.desk.commands() {
@@ -43,6 +57,7 @@ impl Side {
 }
 
 /// How many events there were, one later. There are no more than may be.
+#[inline(always)]
 pub(super) fn following(taken: u64, events: u64) -> u64
     ensures { taken < events → result ≡ taken + 1 }
 {

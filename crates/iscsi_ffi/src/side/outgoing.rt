@@ -24,6 +24,7 @@ impl Side {
     ///
     /// `ActionsWait`, then `Blocked`: as many of its PDUs are handed out and not written as may be; `Nothing`: none goes out now, and it
     /// is told to be ready when one may; `Over`: none goes out any more. Of a CID that isn't the session's nothing goes out.
+    #[inline(always)]
     pub fn next(&mut self, cid: u16) -> Next
         ensures { Gives (Nexts cid) self.old self.new result }
     {
@@ -37,6 +38,7 @@ impl Side {
     }
 
     /// A PDU is handed out, in a call that has begun.
+    #[inline(always)]
     fn next_now(&mut self, cid: u16) -> Next
         ensures stands { (i : Interface) (s : Sides) → Begun i self.old (going s) → Begun i self.new (next i cid s).going }
         ensures answer { (i : Interface) (s : Sides) → Begun i self.old (going s) → result ≡ given_of (next i cid s).answer }
@@ -88,6 +90,7 @@ impl Side {
     /// nothing changes.
     ///
     /// `ActionsWait`.
+    #[inline(always)]
     pub fn written(&mut self, cid: u16) -> Answer
         ensures { Takes (Writes cid) self.old self.new result }
     {
@@ -101,6 +104,7 @@ impl Side {
     }
 
     /// A PDU was written, in a call that has begun.
+    #[inline(always)]
     fn written_now(&mut self, cid: u16)
         ensures { (i : Interface) (s : Sides) → Begun i self.old (going s) → Begun i self.new (write cid s).going }
     {

@@ -11,6 +11,7 @@ use iscsi_ffi_rules::Action;
 
 impl Side {
     /// Whether actions of the last call wait.
+    #[inline(always)]
     pub fn waits(&self) -> bool
         ensures { result ≡ is_waiting self.now }
     {
@@ -18,6 +19,7 @@ impl Side {
     }
 
     /// How many do, if that fits.
+    #[inline(always)]
     pub fn waiting(&self) -> u32
         ensures { result ≡ min (length (waiting self.now)) 4294967295 }
     {
@@ -27,6 +29,7 @@ impl Side {
     }
 
     /// Hands over the next of them.
+    #[inline(always)]
     pub fn take_action(&mut self) -> Option<Action>
         ensures action { result ≡ oldest (waiting self.old) }
         ensures state { self.new ≡ taken_one self.old }
@@ -41,6 +44,7 @@ impl Side {
     }
 
     /// A call begins: nothing was told in it yet.
+    #[inline(always)]
     pub(super) fn begin(&mut self)
         ensures { (i : Interface) (g : Going) → Stands i self.old g → Begun i self.new (going (after g)) }
     {
@@ -50,6 +54,7 @@ impl Side {
     }
 
     /// A call ends: it tells who has something to hand out, and what is to be closed.
+    #[inline(always)]
     pub(super) fn end(&mut self)
         ensures { (i : Interface) (g : Going) → Begun i self.old g → Begun i self.new (ended g) }
     {

@@ -16,6 +16,7 @@ impl Handle {
     /// A request PDU arrived on a connection, with the caller's word for it: its header is the first 48 bytes.
     ///
     /// `ShortHeader` where there are fewer, then `NotOpen`, `ActionsWait`, `UnknownConnection`, `NotJoined`, `Exhausted`, `Busy`.
+    #[inline(always)]
     pub fn arrive(
         &mut self,
         alloc: Global,
@@ -44,6 +45,7 @@ impl Handle {
     /// A unit completed the command with this ticket, with this SCSI status.
     ///
     /// `NotOpen`, `ActionsWait`, then `Stale`: no command with this ticket was told to start, and is left.
+    #[inline(always)]
     pub fn complete(
         &mut self,
         alloc: Global,
@@ -205,6 +207,7 @@ impl Handle {
     /// The oldest PDU that was handed out on a connection, and isn't written, has gone into the transport.
     ///
     /// `NotOpen`, `ActionsWait`.
+    #[inline(always)]
     pub fn written(
         &mut self,
         alloc: Global,

@@ -18,6 +18,7 @@ impl Handle {
     /// Writes the next PDU of a connection to the front of a buffer of at least 96 bytes, and says what it is.
     ///
     /// `ShortBuffer`, `NotOpen`, `ActionsWait`, then `Blocked`, `Nothing`, `Over`: nothing is written there then.
+    #[inline(always)]
     pub fn next(
         &mut self,
         alloc: Global,
@@ -38,12 +39,12 @@ impl Handle {
             Ok(side) => side,
             Err(answer) => return answer,
         };
-        let answer = match side.next(cid) {
+        let answer = match &side.next(cid) {
             Next::Goes(handed, cookie) => {
-                *pdu = write_pdu(&handed, cookie, buffer);
+                *pdu = write_pdu(handed, *cookie, buffer);
                 Answer::Done
             }
-            Next::None(answer) => answer,
+            Next::None(answer) => *answer,
         };
         *told = hand_over(&mut side, actions);
         self.put_back(side);

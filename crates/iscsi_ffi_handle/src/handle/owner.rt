@@ -25,6 +25,7 @@ impl Model for Owner {
 
 impl Owner {
     /// An owner of nothing.
+    #[inline(always)]
     pub(super) fn closed(alloc: Global) -> Owner
         ensures { result.side ≡ None }
     {
@@ -35,6 +36,7 @@ impl Owner {
     }
 
     /// An owner of these parts.
+    #[inline(always)]
     pub(super) fn of_parts(parts: Parts<Side, Global>) -> Owner
         ensures { result.side ≡ Some parts.value }
     {
@@ -46,6 +48,7 @@ impl Owner {
     }
 
     /// Ends an owner of nothing.
+    #[inline(always)]
     pub(super) fn end(self)
         requires { self.side ≡ None }
     {
@@ -53,6 +56,7 @@ impl Owner {
     }
 
     /// The parts of what it owns.
+    #[inline(always)]
     pub(super) fn into_parts(self) -> Parts<Side, Global>
         requires { IsSome self.side }
         ensures { self.side ≡ Some result.value }

@@ -19,6 +19,7 @@ impl<T, A: Allocator> Model for Parts<T, A> {
 
 impl<T, A: Allocator> Parts<T, A> {
     /// Takes a box apart.
+    #[inline(always)]
     pub(super) fn of(whole: Box<T, A>) -> Parts<T, A>
     where
         T: Drop,
@@ -29,6 +30,7 @@ impl<T, A: Allocator> Parts<T, A> {
     }
 
     /// Puts the box together again.
+    #[inline(always)]
     pub(super) fn into_box(self) -> Box<T, A>
         ensures { result.value ≡ self.value }
     {

@@ -3,7 +3,7 @@ use Rattle.iscsi_ffi_rules.specs.rules.Calls.{Interface}
 use Rattle.iscsi_ffi_steps.specs.Steps.{Going}
 use Rattle.iscsi_ffi.specs.Standing.{Begun}
 use Rattle.iscsi_ffi.proofs.WithheldLemmas.{IsWithholding}
-use Rattle.iscsi_ffi.proofs.side.Side.complete_withheld.Given as goal
+use Rattle.iscsi_ffi.proofs.side.Side.complete_each.Given as goal
 
 abbrev pub invariant-loop-done : goal.invariant-loop-done
 invariant-loop-done l =
