@@ -1,10 +1,9 @@
 -- The commonest events, whole.
-use Rattle.std.proofs.Common.{◌≡◌, ◌<◌, ◌≤◌, ◌==◌, ◌∙◌, ◌||◌, ℕ, Bool, true, false, not, cond, List, [], ◌∷◌, length, get_or, Option, Some, None, refl, sym, ap, arith, eq-eqb}
+use Rattle.std.proofs.Common.{◌≡◌, ◌<◌, ◌≤◌, ◌∙◌, ◌||◌, ℕ, Bool, true, false, not, cond, List, [], ◌∷◌, length, get_or, Option, Some, None, refl, sym, ap, arith, eq-eqb}
 use Rattle.iscsi_tracked.specs.declared.command.Command.{Command}
 use Rattle.iscsi_tracked.specs.declared.command.Phase.{Phase}
 use Rattle.iscsi_tracked.specs.declared.command.Phase.TheVariants.{Dormant, Fresh, Started, Running, Gone}
-use Rattle.iscsi_tracked.specs.Tracked.{Tracked, find_ticket, in_phase, is_at, to_phase, with_command}
-use Rattle.iscsi_outbox_state.specs.declared.lane.Standing.{Standing}
+use Rattle.iscsi_tracked.specs.Tracked.{find_ticket, in_phase, is_at, to_phase, with_command}
 use Rattle.iscsi_outbox_state.specs.Lane.{Lane, count_in, is_left}
 use Rattle.iscsi_outbox_law.proofs.commands.TrackedChanges.{keeps_phase}
 use Rattle.iscsi_outbox_law.proofs.commands.TrackedLemmas.{at_place, ticket_changed}

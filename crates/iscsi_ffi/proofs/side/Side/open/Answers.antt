@@ -1,7 +1,6 @@
 use Rattle.std.proofs.Common.{sym, ◌∙◌}
 use Rattle.iscsi_session.specs.promises.Settings.{setting_of}
-use Rattle.iscsi_ffi.specs.Options.{is_valid}
-use Rattle.iscsi_ffi.proofs.OpenLemmas.{desk-valid, opened-by, session-valid, stands-opened, wanting}
+use Rattle.iscsi_ffi.proofs.OpenLemmas.{desk-valid, session-valid, stands-opened}
 use Rattle.iscsi_ffi.proofs.side.Side.open.Goals as goal
 
 pub open_host-requires : goal.open_host-requires

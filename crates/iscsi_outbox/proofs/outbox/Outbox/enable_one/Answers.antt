@@ -1,4 +1,4 @@
-use Rattle.std.proofs.Common.{◌≡◌, ℕ, not, sym, ap, ◌∙◌}
+use Rattle.std.proofs.Common.{◌≡◌, not, sym, ap, ◌∙◌}
 use Rattle.iscsi_tracked.specs.declared.command.Phase.TheVariants.{Started}
 use Rattle.iscsi_outbox_state.specs.Lane.{count_in, is_left}
 use Rattle.iscsi_outbox_steps.specs.State.{State}

@@ -1,4 +1,4 @@
-use Rattle.std.proofs.Common.{◌≡◌, true, false, not, Some, is_some, option_map, sym, ap, ◌∙◌}
+use Rattle.std.proofs.Common.{◌≡◌, not, Some, is_some, option_map, sym, ap, ◌∙◌}
 use Rattle.iscsi_outbox_steps.specs.State.{State, is_over, place_of}
 use Rattle.iscsi_outbox_steps.specs.Steps.{chosen}
 use Rattle.iscsi_outbox.specs.private.Choices.{choice_of}

@@ -1,4 +1,4 @@
-use Rattle.std.proofs.Common.{◌≡◌, Some, None, is_some, sym, ap, ◌∙◌}
+use Rattle.std.proofs.Common.{◌≡◌, Some, is_some, sym, ap, ◌∙◌}
 use Rattle.iscsi_outbox_steps.specs.State.{State, place_of}
 use Rattle.iscsi_outbox.proofs.AskLemmas.{gives_nowhere, gives_pdu_at}
 use Rattle.iscsi_outbox.proofs.outbox.Outbox.gives_pdu.Goals as goal

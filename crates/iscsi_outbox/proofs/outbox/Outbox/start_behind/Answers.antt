@@ -1,5 +1,5 @@
 use Rattle.std.proofs.Common.{ap, ◌∙◌}
-use Rattle.iscsi_tracked.specs.declared.command.Phase.TheVariants.{Fresh, Started}
+use Rattle.iscsi_tracked.specs.declared.command.Phase.TheVariants.{Started}
 use Rattle.iscsi_outbox_steps.specs.State.{State}
 use Rattle.iscsi_outbox_steps.specs.Steps.{in_phase_if, is_fresh, settle}
 use Rattle.iscsi_outbox.proofs.CommonestLemmas.{fresh_if, started_if}
