@@ -1,60 +1,14 @@
 -- The agenda: what is left of it, function by function and number by number.
-use Rattle.std.proofs.Common.{eq-eqb, inl, ◌≡◌, ℕ, ◌+◌, ◌-◌, ◌<◌, ◌≤◌, ◌==◌, ◌&&◌, ◌||◌, not, cond, Bool, true, false, List, [], ◌∷◌, ◌++◌, filter, Option, Some, None, option_map, refl, ap, sym, ◌∙◌, arith, nat_lt, nat_le, is_some, subst, append_assoc, inr, ⊎_elim, find}
-use Rattle.std.specs.List.{list_any, filter_map, list_all}
-use Rattle.std.proofs.lemmas.Bool.{cases_Bool}
-use Rattle.std.proofs.lemmas.Bool.Decides.{nat_tests}
-use Rattle.std.proofs.lemmas.List.{append-nil}
-use Rattle.iscsi_wire.specs.declared.request.Request.{Request}
-use Rattle.iscsi_wire.specs.Serial.{lift, number_of_first}
-use Rattle.iscsi_wire.specs.Fields.{connection_of, is_immediate, itt, cmd_sn}
-use Rattle.iscsi_window.specs.declared.answer.Offer.{Offer}
-use Rattle.iscsi_window.specs.declared.answer.Offer.TheVariants.{Held, Outside as OutsideWindow, Duplicate as Known}
-use Rattle.iscsi_tasks.specs.declared.member.Member.{Member}
-use Rattle.iscsi_tasks.specs.Sets.{is_enabled_in}
-use Rattle.iscsi_window.specs.Windows.{number_expected, room_of, at_place, offer_to, turned_on, advanced_if, advanced}
-use Rattle.iscsi_rules.specs.declared.effect.Why.TheVariants.{Outside, Duplicate, Stale, Closed, Data}
-use Rattle.iscsi_rules.specs.declared.event.Event.{Event}
-use Rattle.iscsi_rules.specs.declared.event.Event.TheVariants.{Done}
-use Rattle.iscsi_rules.specs.rules.Settings.{Setting, is_known}
-use Rattle.iscsi_rules.specs.rules.Trace.{Arrival, Command, Mark, Admits, Trace, first_of, is_received, live, live_in, was_free, is_among, received, after_items, number_received, is_closed}
-use Rattle.iscsi_rules.specs.rules.Execution.{exp_of, max_of, completion, sense_of_status, rejected, reply_of}
-use Rattle.iscsi_rules.specs.rules.Agenda.{with_turns, numbered, arrival_of, command_of, items_of, belongs, kind_of, arrival_as, arrival_open, arrival}
-use Rattle.iscsi_rules.specs.rules.Items.{agenda, item_of, function_item, functions_at, turn_at, immediate_item}
-use Rattle.iscsi_rules.specs.rules.Run.{newly_enabled, effects_of, effects_of_item}
-use Rattle.iscsi_session.specs.declared.fault.SessionFault.{SessionFault}
-use Rattle.iscsi_session.specs.promises.Refusals.{refusal_of}
-use Rattle.iscsi_session.specs.private.Standing.{Core, kept, is_regular, IsRegularRequest, member_of, Agrees, Settled, StandsFor, arrival_waiting}
-use Rattle.iscsi_session.specs.private.Steps.{is_gone, find_ticket, comes_on, refusal_by, set_at, with_offered, enabled_of, enabled_in, covers_ticket, left_answered, completed, Step, Appends, Continues, Runs, Handles, count_reply, is_among_open, Takes, unchanged, replied}
-use Rattle.iscsi_rules.proofs.general.BoolLemmas.{not_flip}
-use Rattle.iscsi_rules.proofs.general.ListLemmas.{list_any-map, is_known-cids, filter-swap, list_all-filter, find-passes, filtered_among, is_none}
+use Rattle.iscsi_session.proofs.Names.{eq-eqb, inl, ◌≡◌, ℕ, ◌+◌, ◌-◌, ◌<◌, ◌≤◌, ◌==◌, ◌&&◌, ◌||◌, not, cond, Bool, true, false, List, [], ◌∷◌, ◌++◌, filter, Option, Some, None, option_map, refl, ap, sym, ◌∙◌, arith, nat_lt, nat_le, is_some, subst, append_assoc, inr, ⊎_elim, find, list_any, filter_map, list_all, cases_Bool, nat_tests, append-nil, Request, lift, number_of_first, connection_of, is_immediate, itt, cmd_sn, Offer, Held, OutsideWindow, Known, Member, is_enabled_in, number_expected, room_of, at_place, offer_to, turned_on, advanced_if, advanced, Outside, Duplicate, Stale, Closed, Data, Event, Done, Setting, is_known, Arrival, Command, Mark, Admits, Trace, first_of, is_received, live, live_in, was_free, is_among, received, after_items, number_received, is_closed, exp_of, max_of, completion, sense_of_status, rejected, reply_of, with_turns, numbered, arrival_of, command_of, items_of, belongs, kind_of, arrival_as, arrival_open, arrival, agenda, item_of, function_item, functions_at, turn_at, immediate_item, newly_enabled, effects_of, effects_of_item, SessionFault, refusal_of, Core, kept, is_regular, IsRegularRequest, member_of, Agrees, Settled, StandsFor, arrival_waiting, is_gone, find_ticket, comes_on, set_at, with_offered, enabled_of, enabled_in, covers_ticket, left_answered, completed, Step, Appends, Continues, Runs, Handles, count_reply, is_among_open, Takes, unchanged, replied, not_flip, list_any-map, is_known-cids, filter-swap, list_all-filter, find-passes, filtered_among, is_none, enables, newly-untouched, wire-lift, first_passing, none_passing, ticket_alone, untouched-admits, completion_item, first_passes, quiet-completion, LeavesSome, Task, Reply, Scsi, list_all-map, HeldRequest, Effect, Waiting, may_wait, turn_taken, next_waiting, function_taken, arrival_by, comes_next, immediate_taken, after_items-append, expected_past, turn_receives_none, function_receives_none, functions_receive_none, immediate_receives_one, agenda-halves, effects_of-append, same_exp, turns, turns-more, PassedOver, Unknown, ExecutesKind, HasOneMore, RejectAnswer}
+use Rattle.iscsi_session.specs.private.Steps.{refusal_by}
 use Rattle.iscsi_session.proofs.WindowParts.{WindowAgrees-quiet, Next, next_request, passed_at, WindowAgrees-passed, read_inside}
-use Rattle.iscsi_rules.proofs.promises.MomentLemmas.{enables}
 use Rattle.iscsi_session.proofs.AgreeLemmas.{find_kept, Regular, regular_parts, regular_live, settled_expected, settled_max, Stepped, Stepped-ignored, step_ignored, Agrees-admitted, known_of, Agrees-untouched, RepliesAgree-sent}
-use Rattle.iscsi_rules.proofs.traces.NewlyLemmas.{newly-untouched}
-use Rattle.iscsi_rules.proofs.general.NumberLemmas.{wire-lift}
-use Rattle.iscsi_rules.proofs.items.CommandItems.{first_passing, none_passing, ticket_alone, untouched-admits, completion_item, first_passes, quiet-completion, LeavesSome}
 use Rattle.iscsi_session.proofs.ExecutionLemmas.{covered_in, gone_tickets, Leaving, leaving-agrees, leaving-effects, Follows, numbered_held}
-use Rattle.iscsi_tasks.specs.declared.task.Task.{Task}
-use Rattle.iscsi_wire.specs.declared.reply.Reply.{Reply}
-use Rattle.iscsi_wire.specs.declared.reply.Reply.TheVariants.{Scsi}
-use Rattle.std.proofs.lemmas.List.Folds.{list_all-map}
-use Rattle.iscsi_window.specs.declared.held_request.HeldRequest.{HeldRequest}
-use Rattle.iscsi_rules.specs.declared.effect.Effect.{Effect}
-use Rattle.iscsi_session.specs.declared.session.waiting.Waiting.{Waiting}
-use Rattle.iscsi_rules.specs.rules.Management.{may_wait}
-use Rattle.iscsi_session.specs.private.Deeds.{turn_taken, next_waiting, function_taken, arrival_by, comes_next, immediate_taken}
-use Rattle.iscsi_rules.proofs.traces.TraceLemmas.{after_items-append}
-use Rattle.iscsi_rules.proofs.general.Missing.{expected_past}
-use Rattle.iscsi_rules.proofs.items.ReceivedItems.{turn_receives_none, function_receives_none, functions_receive_none, immediate_receives_one}
-use Rattle.iscsi_rules.proofs.traces.FlowItems.{agenda-halves, effects_of-append, same_exp, turns, turns-more}
 use Rattle.iscsi_session.proofs.SinkLemmas.{started, continued, ended}
 use Rattle.iscsi_session.proofs.ManageLemmas.{next_function, no_function}
 use Rattle.iscsi_session.proofs.FunctionLemmas.{turned-item, waited-item, immediate-item}
 use Rattle.iscsi_session.proofs.DeedLemmas.{stays_expected, executed_stays, function_stays, immediate_same}
-use Rattle.iscsi_rules.specs.declared.kind.Kind.TheVariants.{PassedOver, Unknown, Executes as ExecutesKind}
-use Rattle.iscsi_rules.specs.promises.Flow.{HasOneMore}
 use Rattle.iscsi_session.proofs.WindowLemmas.{held_now, comes_alone, Delivered, delivered}
-use Rattle.iscsi_rules.specs.declared.deed.Answer.TheVariants.{Reject as RejectAnswer}
 
 -- ==== an arrival, a completion, and an event as a whole
 

@@ -1,44 +1,6 @@
 -- A session that agrees with what has happened agrees after one item more.
-use Rattle.std.proofs.Common.{◌≡◌, ℕ, ◌==◌, ◌&&◌, ◌||◌, not, cond, Bool, true, false, List, [], ◌∷◌, ◌++◌, map, filter, refl, ap, sym, ◌∙◌, arith, ◌+◌, ◌<◌, length, option_map, eq-eqb, get_or, set, length-set, ◌-◌, ◌≤◌, nat_lt, subst}
-use Rattle.std.proofs.lemmas.Bool.{eqb-true, ne_eqb, false≢true, ltb-true}
-use Rattle.std.proofs.lemmas.List.{append-nil, map-append, length_push, get_or-set_same, get_or-set_other}
-use Rattle.iscsi_tasks.specs.declared.member.Member.{Member}
-use Rattle.iscsi_tasks.specs.Sets.{is_free_among, looked_at, after_moment, next_in, given_in, Members, opened, entered_to, given_by}
-use Rattle.iscsi_rules.specs.declared.effect.Effect.TheVariants.{Enable, Ignore}
-use Rattle.iscsi_rules.specs.rules.Settings.{Setting, is_known}
-use Rattle.iscsi_rules.specs.rules.Trace.{Command, Mark, Trace, live, live_in, was_free, has, entered, leaves_ticket, is_among, first_of, sent_on, Arrival, Admits, Ignores, after_items, waiting, is_received, received}
-use Rattle.iscsi_session.specs.private.Standing.{task_of, member_of, set_of, open_of, kept, is_regular, CommandsAgree, SetsAgree, stat_sn_on, RepliesAgree, Core, WaitingAgrees, WindowAgrees, IsRegularRequest, Lasting, Agrees, Settled}
-use Rattle.iscsi_session.specs.private.Steps.{as_given, enable_effects, enable_effect, find_ticket, count_reply, Step, Appends, Handles, numbers_by}
-use Rattle.iscsi_rules.proofs.general.BoolLemmas.{and_parts, or_comm}
-use Rattle.iscsi_rules.proofs.general.ListLemmas.{list_all-filter, all_of_filter, filter-map, map-map, map_all, is_known-cids, count_by-push}
-use Rattle.iscsi_rules.proofs.promises.MomentLemmas.{enables}
-use Rattle.iscsi_rules.proofs.traces.NewlyLemmas.{all_here, filter-twice, is_here, new_in, new_in-more, was_free-stays, Untouched, never_free, live_in-untouched, newly-untouched}
-use Rattle.iscsi_rules.proofs.items.EnabledItems.{was_before, newly-one, EnabledSoFar-more, enabled_once, exact_now, same_enabled, shown-before, shown-item, EnabledSoFar-untouched}
-use Rattle.std.proofs.lemmas.Bool.Decides.{nat_tests}
-use Rattle.iscsi_rules.specs.rules.Logout.{is_open}
-use Rattle.iscsi_rules.proofs.traces.TraceLemmas.{filter-same, filter-true, live-enters, weaker}
-use Rattle.iscsi_rules.proofs.items.ClosingItems.{ClosesNone, closed-same}
-use Rattle.std.specs.List.{list_all, filter_map, list_any}
-use Rattle.std.proofs.lemmas.List.Elements.{filter-append}
-use Rattle.std.proofs.lemmas.List.Folds.{list_any-append}
-use Rattle.iscsi_commands.specs.declared.live.Live.{Live}
-use Rattle.iscsi_rules.proofs.traces.ApartLemmas.{eq_sym, unamong-filter, apart-push, apart-filter}
+use Rattle.iscsi_session.proofs.Names.{◌≡◌, ℕ, ◌==◌, ◌&&◌, ◌||◌, not, cond, Bool, true, false, List, [], ◌∷◌, ◌++◌, map, filter, refl, ap, sym, ◌∙◌, arith, ◌+◌, ◌<◌, length, option_map, eq-eqb, get_or, set, length-set, ◌-◌, ◌≤◌, nat_lt, subst, eqb-true, ne_eqb, false≢true, ltb-true, append-nil, map-append, length_push, get_or-set_same, get_or-set_other, Member, is_free_among, looked_at, after_moment, next_in, given_in, Members, opened, entered_to, given_by, Enable, Ignore, Setting, is_known, Command, Mark, Trace, live, live_in, was_free, has, entered, leaves_ticket, is_among, first_of, sent_on, Arrival, Admits, Ignores, after_items, waiting, is_received, received, task_of, member_of, set_of, open_of, kept, is_regular, CommandsAgree, SetsAgree, stat_sn_on, RepliesAgree, Core, WaitingAgrees, WindowAgrees, IsRegularRequest, Lasting, Agrees, Settled, as_given, enable_effects, enable_effect, find_ticket, count_reply, Step, Appends, Handles, numbers_by, and_parts, or_comm, list_all-filter, all_of_filter, filter-map, map-map, map_all, is_known-cids, count_by-push, enables, all_here, filter-twice, is_here, new_in, new_in-more, was_free-stays, Untouched, never_free, live_in-untouched, newly-untouched, was_before, newly-one, EnabledSoFar-more, enabled_once, exact_now, same_enabled, shown-before, shown-item, EnabledSoFar-untouched, nat_tests, is_open, filter-same, filter-true, live-enters, weaker, ClosesNone, closed-same, list_all, filter_map, list_any, filter-append, list_any-append, Live, eq_sym, unamong-filter, apart-push, apart-filter, EntersOne, LeavesSome, live-left, unfinished-untouched, untouched-admits, Task, newly_enabled, effects_of, numbers_of, wire, wire-next, EnabledSoFar, connection_of, Arrived, number_expected, room_of, Effect, Why, exp_of, max_of, ignored, HasOneMore, Waiting, ignored_receives, IsQuiet, quiet-ignored}
 use Rattle.iscsi_session.proofs.CountLemmas.{list_all-push, cids-count_reply}
-use Rattle.iscsi_rules.proofs.items.CommandItems.{EntersOne, LeavesSome, live-left, unfinished-untouched, untouched-admits}
-use Rattle.iscsi_tasks.specs.declared.task.Task.{Task}
-use Rattle.iscsi_rules.specs.rules.Run.{newly_enabled, effects_of, numbers_of}
-use Rattle.iscsi_wire.specs.Serial.{wire}
-use Rattle.iscsi_rules.proofs.general.NumberLemmas.{wire-next}
-use Rattle.iscsi_rules.specs.promises.Enabling.{EnabledSoFar}
-use Rattle.iscsi_wire.specs.Fields.{connection_of}
-use Rattle.iscsi_window.specs.Windows.{Arrived, number_expected, room_of}
-use Rattle.iscsi_rules.specs.declared.effect.Effect.{Effect}
-use Rattle.iscsi_rules.specs.declared.effect.Why.{Why}
-use Rattle.iscsi_rules.specs.rules.Execution.{exp_of, max_of, ignored}
-use Rattle.iscsi_rules.specs.promises.Flow.{HasOneMore}
-use Rattle.iscsi_session.specs.declared.session.waiting.Waiting.{Waiting}
-use Rattle.iscsi_rules.proofs.items.ReceivedItems.{ignored_receives}
-use Rattle.iscsi_rules.proofs.traces.DeliveryLemmas.{IsQuiet, quiet-ignored}
 use Rattle.iscsi_session.proofs.WindowParts.{next_expected, WindowAgrees-quiet, with_held, WindowAgrees-admitted}
 
 -- ==== which commands were free at some moment, after one item more

@@ -1,24 +1,5 @@
 -- The counts of live immediate commands, how many commands are live, and one that is found by its ticket.
-use Rattle.std.proofs.Common.{◌≡◌, ℕ, zero, suc, ◌+◌, ◌-◌, ◌*◌, ◌<◌, ◌≤◌, ◌==◌, ◌&&◌, not, cond, Bool, true, false, nat_lt, List, [], ◌∷◌, ◌++◌, length, filter, count_by, replicate, Some, refl, ap, sym, ◌∙◌, arith, eq-eqb, map, Option}
-use Rattle.std.specs.List.{list_all}
-use Rattle.std.proofs.lemmas.Bool.{eqb-true, ltb-true, false≢true}
-use Rattle.std.proofs.lemmas.Bool.Decides.{nat_tests}
-use Rattle.std.proofs.lemmas.List.{length-map, length-replicate, length_push}
-use Rattle.std.proofs.lemmas.List.Filters.{length-filter_both}
-use Rattle.std.proofs.lemmas.List.Sums.{length-filter}
-use Rattle.iscsi_commands.specs.declared.live.Live.{Live}
-use Rattle.iscsi_window.specs.Windows.{Arrived}
-use Rattle.iscsi_rules.specs.rules.Settings.{is_known}
-use Rattle.iscsi_session.specs.private.Standing.{are_known, are_ascending, is_place_known}
-use Rattle.iscsi_session.specs.private.Steps.{find_ticket, without_ticket, count_reply, counted_on, is_immediate_on, immediate_in, AreCounted, is_numbered, finished, finished_by}
-use Rattle.iscsi_rules.proofs.general.BoolLemmas.{and_parts}
-use Rattle.iscsi_rules.proofs.general.CountLemmas.{count-cons, count-filter}
-use Rattle.iscsi_rules.proofs.traces.NewlyLemmas.{filter_all}
-use Rattle.iscsi_rules.proofs.traces.TraceLemmas.{filter-true}
-use Rattle.iscsi_rules.proofs.general.ListLemmas.{count_by-push, is_known-cids, list_all-filter, find-found, find-passes, list_all-same, fewer_counted}
-use Rattle.std.proofs.lemmas.List.Folds.{list_all-append}
-use Rattle.iscsi_window.specs.declared.held_request.HeldRequest.{HeldRequest}
-use Rattle.std.proofs.Math.Nat.{mul-suc}
+use Rattle.iscsi_session.proofs.Names.{◌≡◌, ℕ, zero, suc, ◌+◌, ◌-◌, ◌*◌, ◌<◌, ◌≤◌, ◌==◌, ◌&&◌, not, cond, Bool, true, false, nat_lt, List, [], ◌∷◌, ◌++◌, length, filter, count_by, replicate, Some, refl, ap, sym, ◌∙◌, arith, eq-eqb, map, Option, list_all, eqb-true, ltb-true, false≢true, nat_tests, length-map, length-replicate, length_push, length-filter_both, length-filter, Live, Arrived, is_known, are_known, are_ascending, is_place_known, find_ticket, without_ticket, count_reply, counted_on, is_immediate_on, immediate_in, AreCounted, is_numbered, finished, finished_by, and_parts, count-cons, count-filter, filter_all, filter-true, count_by-push, is_known-cids, list_all-filter, find-found, find-passes, list_all-same, fewer_counted, list_all-append, HeldRequest, mul-suc}
 
 -- one more that passes
 pub list_all-push : {A : Type 0} (p : A → Bool) (xs : List A) (x : A) → list_all p xs ≡ true → p x ≡ true → list_all p (xs ++ x ∷ []) ≡ true

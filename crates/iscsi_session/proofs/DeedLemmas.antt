@@ -1,34 +1,7 @@
 -- What a request does that executes, by what a session keeps: when it does that, and what stays as it was.
-use Rattle.std.proofs.Common.{◌≡◌, ℕ, ℤ, ◌+◌, ◌<◌, ◌≤◌, ◌==◌, ◌&&◌, not, cond, Bool, true, false, length, count_by, is_some, Option, Some, None, refl, ap, sym, ◌∙◌, arith, ◌-◌, subst, filter, List, [], ◌∷◌, map, length-set}
-use Rattle.std.proofs.lemmas.Bool.Decides.{nat_tests}
-use Rattle.std.proofs.lemmas.Int.{to_z-of_z}
-use Rattle.std.proofs.lemmas.Bool.{false≢true, cond_both}
-use Rattle.iscsi_window.specs.declared.held_request.HeldRequest.{HeldRequest}
-use Rattle.iscsi_wire.specs.declared.request.Request.{Request}
-use Rattle.iscsi_wire.specs.Fields.{connection_of, is_immediate, opcode, ref_cmd_sn}
-use Rattle.iscsi_window.specs.Windows.{HasRoom, IsInside, place_in, Arrived, number_expected, at_place, advanced, advanced_if, with_unfinished}
-use Rattle.iscsi_tasks.specs.declared.task.Task.{Task}
-use Rattle.iscsi_tasks.specs.declared.cover.Cover.TheVariants.{All as AllOfThem, Below}
-use Rattle.iscsi_tasks.specs.Sets.{is_covered}
-use Rattle.iscsi_rules.specs.declared.deed.Answer.TheVariants.{Respond}
-use Rattle.iscsi_rules.specs.declared.effect.Effect.TheVariants.{Immediate}
-use Rattle.iscsi_rules.specs.declared.deed.Answer.{Answer}
-use Rattle.iscsi_rules.specs.declared.deed.Deed.{Deed}
-use Rattle.iscsi_rules.specs.declared.deed.Deed.TheVariants.{Nothing, Wait, Reply, Enter, Void, Empty, Abort, AbortEarlier, AbortAll, CloseConn, CloseSession}
-use Rattle.iscsi_rules.specs.rules.Settings.{is_known}
-use Rattle.iscsi_rules.specs.rules.Execution.{unit_named, reply_of}
-use Rattle.iscsi_rules.specs.rules.Management.{may_wait}
-use Rattle.iscsi_rules.specs.rules.Deeds.{Facts, of_unit, function_deed}
-use Rattle.iscsi_session.specs.private.Standing.{Core, is_held}
-use Rattle.iscsi_session.specs.private.Steps.{set_at, is_numbered, is_gone, covers_ticket, after_effect, left_answered, KeepsPace, completed, set_staying, commands_left, all_commands_left, emptied_place, logged_out}
-use Rattle.iscsi_session.specs.private.Deeds.{refusal_by, missing_by, facts_by, deed_by, waits_by, arrival_by, Fits, IsReady, most_emptied, carried, position_by, executed, turn_taken, next_position, function_taken, immediate_taken}
-use Rattle.iscsi_rules.proofs.general.BoolLemmas.{and_first, and_second}
-use Rattle.iscsi_rules.proofs.general.ListLemmas.{fewer_counted, filter-shorter, count_by-map}
-use Rattle.iscsi_rules.proofs.items.DeedTable.{named_below, Befits, befits_function, befits_deed, through_function}
+use Rattle.iscsi_session.proofs.Names.{◌≡◌, ℕ, ℤ, ◌+◌, ◌<◌, ◌≤◌, ◌==◌, ◌&&◌, not, cond, Bool, true, false, length, count_by, is_some, Option, Some, None, refl, ap, sym, ◌∙◌, arith, ◌-◌, subst, filter, List, [], ◌∷◌, map, length-set, nat_tests, to_z-of_z, false≢true, cond_both, HeldRequest, Request, connection_of, is_immediate, opcode, ref_cmd_sn, HasRoom, IsInside, place_in, Arrived, number_expected, at_place, advanced, advanced_if, with_unfinished, Task, AllOfThem, Below, is_covered, Respond, Immediate, Answer, Deed, Nothing, Wait, Enter, Void, Empty, Abort, AbortEarlier, AbortAll, CloseConn, CloseSession, is_known, unit_named, reply_of, may_wait, Facts, of_unit, function_deed, Core, is_held, set_at, is_numbered, is_gone, covers_ticket, after_effect, left_answered, KeepsPace, completed, set_staying, commands_left, all_commands_left, emptied_place, logged_out, refusal_by, missing_by, facts_by, deed_by, waits_by, arrival_by, Fits, IsReady, most_emptied, carried, position_by, executed, turn_taken, next_position, function_taken, immediate_taken, and_first, and_second, fewer_counted, filter-shorter, count_by-map, named_below, Befits, befits_function, befits_deed, through_function, Waiting, Live, sum_by-cons}
+use Rattle.iscsi_rules.specs.declared.deed.Deed.TheVariants.{Reply}
 use Rattle.iscsi_session.proofs.WindowLemmas.{emptied_changes, voided_changes}
-use Rattle.iscsi_session.specs.declared.session.waiting.Waiting.{Waiting}
-use Rattle.iscsi_commands.specs.declared.live.Live.{Live}
-use Rattle.std.proofs.lemmas.List.Sums.{sum_by-cons}
 
 -- ---- what stays
 

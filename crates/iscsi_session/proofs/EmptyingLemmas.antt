@@ -1,28 +1,6 @@
 -- The held requests that a Logout takes out, one after the other and in the window.
-use Rattle.std.proofs.Common.{◌≡◌, ℕ, zero, suc, ◌+◌, cond, Bool, true, false, List, [], ◌∷◌, length, map, set, slice_index_or, not, count_by, is_some, Option, Some, None, refl, arith, add-one, ◌-◌, ◌<◌, ◌&&◌, ◌||◌, ◌++◌, filter, get_or, nat_lt, nat_le, ap, sym, ◌∙◌}
-use Rattle.std.specs.List.{list_all}
-use Rattle.std.proofs.lemmas.Bool.{false≢true}
-use Rattle.std.proofs.lemmas.List.Sums.{sum_by-cons}
-use Rattle.iscsi_window.specs.declared.held_request.HeldRequest.{HeldRequest}
-use Rattle.iscsi_wire.specs.Serial.{wire, number_of_first}
-use Rattle.iscsi_window.specs.Windows.{holds_from, Arrived, number_expected, is_asked}
+use Rattle.iscsi_session.proofs.Names.{◌≡◌, ℕ, zero, suc, ◌+◌, cond, Bool, true, false, List, [], ◌∷◌, length, map, set, slice_index_or, not, count_by, is_some, Option, Some, None, refl, arith, add-one, ◌-◌, ◌<◌, ◌&&◌, ◌||◌, ◌++◌, filter, get_or, nat_lt, nat_le, ap, sym, ◌∙◌, list_all, false≢true, sum_by-cons, HeldRequest, wire, number_of_first, holds_from, Arrived, number_expected, is_asked, is_held, is_place_known, place_of, WindowAgrees, emptied_place, emptied_from, is_clear_below, and_parts, nat_tests, append-nil, length-map, get_or-map, connection_of, Effect, Setting, Arrival, Command, Mark, Empties, Leaves, Trace, shown, received, contains, is_received, is_delivered, is_emptied, held, admitted, exp_of, delivers, request_at, all_held, held-number, unreceived_unheld, IsQuiet, same_range, EmptiesThese, SameNumbers, empties-these, held_from, held_from-none, held_from-parts, is_number_of, joined-same}
 use Rattle.iscsi_rules.specs.declared.effect.Effect.TheVariants.{Empty}
-use Rattle.iscsi_session.specs.private.Standing.{is_held, is_place_known, place_of, WindowAgrees}
-use Rattle.iscsi_session.specs.private.Steps.{emptied_place, emptied_from, is_clear_below}
-use Rattle.iscsi_rules.proofs.general.BoolLemmas.{and_parts}
-use Rattle.std.proofs.lemmas.Bool.Decides.{nat_tests}
-use Rattle.std.proofs.lemmas.List.{append-nil, length-map}
-use Rattle.std.proofs.Math.ListN.{get_or-map}
-use Rattle.iscsi_wire.specs.Fields.{connection_of}
-use Rattle.iscsi_rules.specs.declared.effect.Effect.{Effect}
-use Rattle.iscsi_rules.specs.rules.Settings.{Setting}
-use Rattle.iscsi_rules.specs.rules.Trace.{Arrival, Command, Mark, Empties, Leaves, Trace, shown, received, contains, is_received, is_delivered, is_emptied, held, admitted}
-use Rattle.iscsi_rules.specs.rules.Execution.{exp_of}
-use Rattle.iscsi_rules.specs.promises.Executed.{delivers, request_at}
-use Rattle.iscsi_rules.specs.rules.Logout.{all_held}
-use Rattle.iscsi_rules.proofs.traces.HeldLemmas.{held-number, unreceived_unheld}
-use Rattle.iscsi_rules.proofs.traces.DeliveryLemmas.{IsQuiet, same_range}
-use Rattle.iscsi_rules.proofs.items.EmptyingMarks.{EmptiesThese, SameNumbers, empties-these, held_from, held_from-none, held_from-parts, is_number_of, joined-same}
 use Rattle.iscsi_session.proofs.WindowParts.{expected_past_next}
 
 -- the first place that is concerned is given up, and what is left to do after it: the first place stands for number n

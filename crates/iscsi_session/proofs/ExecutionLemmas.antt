@@ -1,40 +1,7 @@
 -- A request executes: it is answered, a command enters, or nothing more happens.
-use Rattle.std.proofs.Common.{⊎_elim, ◌≡◌, ℕ, ◌+◌, ◌<◌, not, cond, Bool, true, false, List, [], ◌∷◌, length, map, count_by, get_or, None, refl, ap, sym, ◌∙◌, arith, Some, ◌-◌, ◌≤◌, ◌==◌, ◌&&◌, ◌++◌, filter, set, append_assoc}
-use Rattle.std.proofs.lemmas.Bool.{cases_Bool, cond_both, lt-ltb, eqb-true}
-use Rattle.std.proofs.lemmas.List.{append-nil, get_or-set_same, set-set}
-use Rattle.iscsi_wire.specs.declared.reply.Reply.{Reply}
-use Rattle.iscsi_wire.specs.Fields.{connection_of, is_immediate, itt}
-use Rattle.iscsi_window.specs.Windows.{Arrived, number_expected, at_place, turned_on, with_unfinished}
-use Rattle.iscsi_tasks.specs.Sets.{opened, Members}
-use Rattle.iscsi_rules.specs.declared.effect.Effect.{Effect}
-use Rattle.iscsi_rules.specs.rules.Settings.{Setting, is_known}
-use Rattle.iscsi_rules.specs.rules.Trace.{Arrival, Command, Mark, Enters, Sends, Trace, waiting, waiting_by, enters, leaves_ticket, sent_on, entered, live, live_in, Delivers, Leaves, is_among, are_apart}
-use Rattle.iscsi_rules.specs.rules.Execution.{unfinished, reply_of, reply_on, next_command}
-use Rattle.iscsi_rules.specs.rules.Run.{effects_of_mark, effects_of_item, newly_enabled, stat_sn_of}
-use Rattle.iscsi_session.specs.private.Standing.{Core, kept, is_regular, task_of, member_of, WindowAgrees, RepliesAgree, SetsAgree, WaitingAgrees, Lasting, Agrees, set_of, CommandsAgree}
-use Rattle.iscsi_session.specs.private.Steps.{count_reply, Step, unchanged, after_effect, replied, new_live, number_by, event_by, new_task, started, command_entered, set_staying, covered_tickets, set_at, as_given, all_given, enable_effects, is_numbered, is_gone, staying, leave_each, has_covered, left_answered}
-use Rattle.iscsi_rules.proofs.general.BoolLemmas.{and_both, and_parts, and_comm, alike, alike_same}
+use Rattle.iscsi_session.proofs.Names.{⊎_elim, ◌≡◌, ℕ, ◌+◌, ◌<◌, not, cond, Bool, true, false, List, [], ◌∷◌, length, map, count_by, get_or, None, refl, ap, sym, ◌∙◌, arith, Some, ◌-◌, ◌≤◌, ◌==◌, ◌&&◌, ◌++◌, filter, set, append_assoc, cases_Bool, cond_both, lt-ltb, eqb-true, append-nil, get_or-set_same, set-set, Reply, connection_of, is_immediate, itt, Arrived, number_expected, at_place, turned_on, with_unfinished, opened, Members, Effect, Setting, is_known, Arrival, Command, Mark, Enters, Sends, Trace, waiting, waiting_by, enters, leaves_ticket, sent_on, entered, live, live_in, Delivers, Leaves, is_among, are_apart, unfinished, reply_of, reply_on, next_command, effects_of_mark, effects_of_item, newly_enabled, stat_sn_of, Core, kept, is_regular, task_of, member_of, WindowAgrees, RepliesAgree, SetsAgree, WaitingAgrees, Lasting, Agrees, set_of, CommandsAgree, count_reply, Step, unchanged, after_effect, replied, new_live, number_by, event_by, new_task, started, command_entered, set_staying, covered_tickets, set_at, as_given, all_given, enable_effects, is_numbered, is_gone, staying, leave_each, has_covered, left_answered, and_both, and_parts, and_comm, alike, alike_same, count_by-map, count_by-push, list_any-map, list_all-filter, any_filter, any_same, fewer_counted, map_all, filter-map, map-map, none_out, IsQuiet, never_free, Untouched, newly-untouched, filter_all, filter-twice, is_here, all_here, new_in, new_in-none, ClosesNone, closes-more, EntersOne, LeavesSome, live_in-left, live_in-left_elsewhere, are_all_in, among_passing, leaving-calm, leaving-closes, leaving-enters, leaving-sends, leaving-shown, leaving-tickets, quiet-leaving, quiet_none, quiet_sends, quiet_enters, HeldRequest, Deliver, Leave, Send, Respond, held-number, admitted_of_held, filter_map, TaskReply, Task, Live, weaker, unamong-filter, apart-filter, enables, EnabledSoFar-left, newly-one, nat_tests}
 use Rattle.iscsi_session.proofs.AgreeLemmas.{open_of-same, RepliesAgree-quiet, RepliesAgree-sent, EnabledSoFar-entered, live-entered, CommandsAgree-entered, Agrees-untouched, SetEntry, SetsAgree-entered, set_of-same, noted_given, noted_effects, CommandsAgree-left, set-changed, units_live}
-use Rattle.iscsi_rules.proofs.general.ListLemmas.{count_by-map, count_by-push, list_any-map, list_all-filter, any_filter, any_same, fewer_counted, map_all, filter-map, map-map, none_out}
-use Rattle.iscsi_rules.proofs.traces.DeliveryLemmas.{IsQuiet}
 use Rattle.iscsi_session.proofs.WindowParts.{Turned, WindowAgrees-started, Next, WindowAgrees-turned}
-use Rattle.iscsi_rules.proofs.traces.NewlyLemmas.{never_free, Untouched, newly-untouched, filter_all, filter-twice, is_here, all_here, new_in, new_in-none}
-use Rattle.iscsi_rules.proofs.items.ClosingItems.{ClosesNone, closes-more}
-use Rattle.iscsi_rules.proofs.items.CommandItems.{EntersOne, LeavesSome, live_in-left, live_in-left_elsewhere, are_all_in, among_passing, leaving-calm, leaving-closes, leaving-enters, leaving-sends, leaving-shown, leaving-tickets, quiet-leaving}
-use Rattle.iscsi_rules.proofs.items.EmptyingMarks.{quiet_none, quiet_sends, quiet_enters}
-use Rattle.iscsi_window.specs.declared.held_request.HeldRequest.{HeldRequest}
-use Rattle.iscsi_rules.specs.declared.effect.Effect.TheVariants.{Deliver, Leave, Send}
-use Rattle.iscsi_rules.specs.declared.deed.Answer.TheVariants.{Respond}
-use Rattle.iscsi_rules.proofs.traces.HeldLemmas.{held-number, admitted_of_held}
-use Rattle.std.specs.List.{filter_map}
-use Rattle.iscsi_wire.specs.declared.reply.Reply.TheVariants.{Task as TaskReply}
-use Rattle.iscsi_tasks.specs.declared.task.Task.{Task}
-use Rattle.iscsi_commands.specs.declared.live.Live.{Live}
-use Rattle.iscsi_rules.proofs.traces.TraceLemmas.{weaker}
-use Rattle.iscsi_rules.proofs.traces.ApartLemmas.{unamong-filter, apart-filter}
-use Rattle.iscsi_rules.proofs.promises.MomentLemmas.{enables}
-use Rattle.iscsi_rules.proofs.items.EnabledItems.{EnabledSoFar-left, newly-one}
-use Rattle.std.proofs.lemmas.Bool.Decides.{nat_tests}
 
 -- ---- an execution
 

@@ -1,27 +1,6 @@
 -- What ABORT TASK finds: a session's lookups against those of the definitions.
-use Rattle.std.proofs.Common.{◌≡◌, ℕ, suc, ◌+◌, ◌-◌, ◌<◌, ◌≤◌, ◌==◌, ◌&&◌, ⊎_elim, cond, Bool, true, false, List, [], ◌∷◌, length, map, filter, find, take, get_or, position, Option, Some, None, option_map, nat_lt, refl, ap, ◌∙◌, arith, ◌^◌, sym}
-use Rattle.std.specs.List.{range_with_len}
-use Rattle.std.proofs.lemmas.Bool.{cases_lt, false≢true}
-use Rattle.std.proofs.lemmas.Bool.Decides.{nat_tests}
-use Rattle.iscsi_window.specs.declared.held_request.HeldRequest.{HeldRequest}
-use Rattle.iscsi_wire.specs.declared.request.Request.{Request}
-use Rattle.iscsi_wire.specs.Serial.{lift, wire}
-use Rattle.iscsi_wire.specs.Fields.{itt, lun, unit_of, is_immediate, rtt, cmd_sn}
-use Rattle.iscsi_window.specs.Windows.{Arrived, number_expected, is_unit, holds_command, find_held, at_place, turned_on}
-use Rattle.iscsi_commands.specs.declared.live.Live.{Live}
-use Rattle.iscsi_rules.specs.rules.Settings.{Setting}
-use Rattle.iscsi_rules.specs.rules.Trace.{Arrival, Command, Trace, first_of, held, held_among, live, Mark, Delivers, Executes, waiting}
-use Rattle.iscsi_rules.specs.rules.Execution.{exp_of, max_of}
-use Rattle.iscsi_rules.specs.rules.Management.{is_to, held_command, live_with_tag}
-use Rattle.iscsi_session.specs.private.Standing.{Core, held_of, place_of, kept, WindowAgrees, arrival_waiting, Agrees, Settled}
-use Rattle.iscsi_session.specs.private.Deeds.{tagged_in, missing_by, Fits}
-use Rattle.iscsi_rules.proofs.traces.HeldLemmas.{held-number, held_received, is_sought, none_below, admitted_of_held, held_command-below, held_command-held, held_command-none}
-use Rattle.iscsi_rules.proofs.general.PlaceLemmas.{position-cons}
-use Rattle.iscsi_rules.specs.declared.deed.Deed.{Deed}
-use Rattle.iscsi_rules.specs.rules.Deeds.{facts_of}
-use Rattle.iscsi_rules.specs.rules.Agenda.{arrival_of}
+use Rattle.iscsi_session.proofs.Names.{◌≡◌, ℕ, suc, ◌+◌, ◌-◌, ◌<◌, ◌≤◌, ◌==◌, ◌&&◌, ⊎_elim, cond, Bool, true, false, List, [], ◌∷◌, length, map, filter, find, take, get_or, position, Option, Some, None, option_map, nat_lt, refl, ap, ◌∙◌, arith, ◌^◌, sym, range_with_len, cases_lt, false≢true, nat_tests, HeldRequest, Request, lift, wire, itt, lun, unit_of, is_immediate, rtt, cmd_sn, Arrived, number_expected, is_unit, holds_command, find_held, at_place, turned_on, Live, Setting, Arrival, Command, Trace, first_of, held, held_among, live, Mark, Delivers, Executes, waiting, exp_of, max_of, is_to, held_command, live_with_tag, Core, held_of, place_of, kept, WindowAgrees, arrival_waiting, Agrees, Settled, tagged_in, missing_by, Fits, held-number, held_received, is_sought, none_below, admitted_of_held, held_command-below, held_command-held, held_command-none, position-cons, Deed, facts_of, arrival_of, last_number, within_window}
 use Rattle.iscsi_session.proofs.WindowParts.{Next, WindowAgrees-turned, expected_past_next}
-use Rattle.iscsi_rules.proofs.general.NumberLemmas.{last_number, within_window}
 use Rattle.iscsi_session.proofs.AgreeLemmas.{settled_expected, settled_max, Agrees-waits}
 use Rattle.iscsi_session.proofs.DeedLemmas.{is_of_number, missing_parts}
 

@@ -1,56 +1,11 @@
 -- A request executes, whatever it does: at its turn, at its arrival, or once it has waited.
-use Rattle.std.proofs.Common.{⊎_elim, ◌≡◌, ℕ, ◌+◌, ◌==◌, ◌&&◌, Bool, true, false, [], ◌∷◌, Option, Some, None, option_map, refl, ap, sym, ◌∙◌, arith, ℤ, pos, ◌-ℤ◌, ◌-◌, ◌<◌, ◌≤◌, not, cond, nat_lt, List, ◌++◌, map, filter, subst}
-use Rattle.std.specs.List.{list_any, list_all, filter_map, flat_map}
-use Rattle.iscsi_wire.specs.declared.request.Request.{Request}
-use Rattle.iscsi_wire.specs.Serial.{wire, lift, number_of_first}
-use Rattle.iscsi_wire.specs.Fields.{function, itt, rtt, cid, cmd_sn, connection_of, is_immediate, opcode, ref_cmd_sn}
-use Rattle.iscsi_window.specs.Windows.{number_expected, find_held, number_shown, room_of, at_place, with_place, turned_on, advanced_if}
-use Rattle.iscsi_commands.specs.declared.live.Live.{Live}
-use Rattle.iscsi_rules.specs.declared.effect.Effect.{Effect}
-use Rattle.iscsi_rules.specs.rules.Settings.{Setting, is_known}
-use Rattle.iscsi_rules.specs.rules.Trace.{Arrival, Command, Mark, Trace, live, live_in, Executes, Delivers, Voids, Empties, Waits, Leaves, admits_at, contains, is_received, held, waiting, waiting_by, waiting_through, sent_on}
-use Rattle.iscsi_rules.specs.rules.Execution.{unit_named, exp_of, max_of, reply_of}
-use Rattle.iscsi_rules.specs.rules.Management.{live_with_tag, held_command, may_wait, waiting_on, answer, is_before, refusal}
-use Rattle.iscsi_rules.specs.rules.Deeds.{Facts, function_deed, deed_of, of_unit, facts_of, if_found, deed_marks}
-use Rattle.iscsi_session.specs.private.Standing.{Core, kept, member_of, CommandsAgree, SetsAgree, task_of, WindowAgrees, arrival_waiting, WaitingAgrees, Agrees, Settled}
-use Rattle.iscsi_session.specs.private.Deeds.{facts_by, refusal_by, deed_by, waits_by, arrival_by, Fits, position_by, carried, executed, turn_taken, next_waiting, next_position, function_taken, immediate_taken}
-use Rattle.iscsi_rules.proofs.general.BoolLemmas.{and_true, and_parts}
-use Rattle.iscsi_rules.proofs.general.ListLemmas.{list_any-map, any_filter, any_same, count_by-map, list_all-filter, find-passes, find-found, filter-map}
-use Rattle.iscsi_rules.proofs.traces.NewlyLemmas.{Untouched, live_in-untouched, newly-untouched}
-use Rattle.iscsi_rules.proofs.items.DeedTable.{named_below, never_waits}
+use Rattle.iscsi_session.proofs.Names.{⊎_elim, ◌≡◌, ℕ, ◌+◌, ◌==◌, ◌&&◌, Bool, true, false, [], ◌∷◌, Option, Some, None, option_map, refl, ap, sym, ◌∙◌, arith, ℤ, pos, ◌-ℤ◌, ◌-◌, ◌<◌, ◌≤◌, not, cond, nat_lt, List, ◌++◌, map, filter, subst, list_any, list_all, filter_map, flat_map, Request, wire, lift, number_of_first, function, itt, rtt, cid, cmd_sn, connection_of, is_immediate, opcode, ref_cmd_sn, number_expected, find_held, number_shown, room_of, at_place, with_place, turned_on, advanced_if, Live, Effect, Setting, is_known, Arrival, Command, Mark, Trace, live, live_in, Executes, Delivers, Voids, Empties, Waits, Leaves, admits_at, contains, is_received, held, waiting, waiting_by, waiting_through, sent_on, unit_named, exp_of, max_of, reply_of, live_with_tag, held_command, may_wait, waiting_on, answer, is_before, refusal, Facts, function_deed, deed_of, of_unit, facts_of, if_found, deed_marks, Core, kept, member_of, CommandsAgree, SetsAgree, task_of, WindowAgrees, arrival_waiting, WaitingAgrees, Agrees, Settled, facts_by, refusal_by, deed_by, waits_by, arrival_by, Fits, position_by, carried, executed, turn_taken, next_waiting, next_position, function_taken, immediate_taken, and_true, and_parts, list_any-map, any_filter, any_same, count_by-map, list_all-filter, find-passes, find-found, filter-map, Untouched, live_in-untouched, newly-untouched, named_below, never_waits, nat_tests, cases_Bool, false≢true, eqb-true, append-nil, map-append, length-map, list_all-append, filter_map-append, HeldRequest, is_covered, Deliver, Immediate, Waiting, arrival_of, execution, waiting_item, immediate_item, item_of, function_item, effects_of_mark, filter-same, IsQuiet, received-quiet, held-quiet, held-number, admitted_of_held, ClosesNone, closes-more, no_abort_task, may_immediate, position_eq, position_lt, wire-lift, quiet_executes, TaskReply, AllOfThem, Below, Answer, Respond, Deed, Nothing, Wait, Enter, Void, Empty, Abort, AbortEarlier, AbortAll, CloseConn, CloseSession, is_immediate_on, count_reply, and_then, after_effect, waiting_in, replied, number_by, event_by, covers_ticket, apart-filter, ticket_alone}
+use Rattle.iscsi_rules.specs.declared.deed.Deed.TheVariants.{Reply}
 use Rattle.iscsi_session.proofs.AgreeLemmas.{CommandsAgree-untouched, SetsAgree-untouched, RepliesAgree-sent, settled_expected, settled_max, Agrees-untouched, Agrees-waits}
 use Rattle.iscsi_session.proofs.FindLemmas.{tagged_in-is, Found, numbered_deed, Found-arrived, Found-turned}
 use Rattle.iscsi_session.proofs.ExecutionLemmas.{Begun, untouched-begun, Follows, nothing_more, answered, enters_unit, covered_in, leaving-item, turned_core, numbered_held, turn-begun}
 use Rattle.iscsi_session.proofs.LogoutItem.{open_same, session_ends, conn_closes}
-use Rattle.std.proofs.lemmas.Bool.Decides.{nat_tests}
-use Rattle.std.proofs.lemmas.Bool.{cases_Bool, false≢true, eqb-true}
-use Rattle.std.proofs.lemmas.List.{append-nil, map-append, length-map}
-use Rattle.std.proofs.lemmas.List.Folds.{list_all-append}
-use Rattle.std.proofs.lemmas.List.Elements.{filter_map-append}
-use Rattle.iscsi_window.specs.declared.held_request.HeldRequest.{HeldRequest}
-use Rattle.iscsi_tasks.specs.Sets.{is_covered}
-use Rattle.iscsi_rules.specs.declared.effect.Effect.TheVariants.{Deliver, Immediate}
-use Rattle.iscsi_session.specs.declared.session.waiting.Waiting.{Waiting}
-use Rattle.iscsi_rules.specs.rules.Agenda.{arrival_of}
-use Rattle.iscsi_rules.specs.rules.Items.{execution, waiting_item, immediate_item, item_of, function_item}
-use Rattle.iscsi_rules.specs.rules.Run.{effects_of_mark}
-use Rattle.iscsi_rules.proofs.traces.TraceLemmas.{filter-same}
-use Rattle.iscsi_rules.proofs.traces.DeliveryLemmas.{IsQuiet, received-quiet, held-quiet}
-use Rattle.iscsi_rules.proofs.traces.HeldLemmas.{held-number, admitted_of_held}
 use Rattle.iscsi_session.proofs.WindowParts.{Next, Turned, WindowAgrees-quiet, inside_bounds, WindowAgrees-voided, WindowAgrees-emptied, VoidedAt, voided_at, emptied_at}
-use Rattle.iscsi_rules.proofs.items.ClosingItems.{ClosesNone, closes-more}
-use Rattle.iscsi_rules.proofs.items.ReceivedItems.{no_abort_task, may_immediate}
-use Rattle.iscsi_rules.proofs.general.NumberLemmas.{position_eq, position_lt, wire-lift}
-use Rattle.iscsi_rules.proofs.items.EmptyingMarks.{quiet_executes}
-use Rattle.iscsi_wire.specs.declared.reply.Reply.TheVariants.{Task as TaskReply}
-use Rattle.iscsi_tasks.specs.declared.cover.Cover.TheVariants.{All as AllOfThem, Below}
-use Rattle.iscsi_rules.specs.declared.deed.Answer.{Answer}
-use Rattle.iscsi_rules.specs.declared.deed.Answer.TheVariants.{Respond}
-use Rattle.iscsi_rules.specs.declared.deed.Deed.{Deed}
-use Rattle.iscsi_rules.specs.declared.deed.Deed.TheVariants.{Nothing, Wait, Reply, Enter, Void, Empty, Abort, AbortEarlier, AbortAll, CloseConn, CloseSession}
-use Rattle.iscsi_session.specs.private.Steps.{is_immediate_on, count_reply, and_then, after_effect, waiting_in, replied, number_by, event_by, covers_ticket}
-use Rattle.iscsi_rules.proofs.traces.ApartLemmas.{apart-filter}
-use Rattle.iscsi_rules.proofs.items.CommandItems.{ticket_alone}
 use Rattle.iscsi_session.proofs.DeedLemmas.{fits_deed, fits_function, is_of_number, missing_parts, is_whole, whole_function, immediate_is}
 
 -- ==== a session finds what the definitions find, and so it does what they say

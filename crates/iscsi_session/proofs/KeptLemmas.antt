@@ -1,32 +1,6 @@
 -- The live commands that a session keeps, beside its task sets.
-use Rattle.std.proofs.Common.{◌≡◌, ℕ, ◌+◌, ◌<◌, ◌==◌, ◌&&◌, cond, Bool, true, false, nat_lt, nat_le, List, [], ◌∷◌, ◌++◌, length, map, filter, get_or, set, Option, Some, None, refl, arith, length-set, eq-eqb, zero, suc, ◌≤◌, ◌||◌, not, count_by, All, take, is_some, ap, sym, ◌∙◌, drop, find}
-use Rattle.std.specs.List.{list_all, list_any, AllPairs, range_with_len, flat_map}
-use Rattle.std.proofs.lemmas.Bool.{cond_both, leb-true, cases_eq, eqb-true, false≢true, ltb-true, ne_eqb, lt-ltb}
-use Rattle.std.proofs.lemmas.Bool.Decides.{nat_tests}
-use Rattle.std.proofs.lemmas.List.{append-nil, map-append, get_or-set_same, get_or-set_other, length-map, get_or_default, get_or-take, length-take-le, at_drop_more, set-get_or}
-use Rattle.std.proofs.lemmas.List.Elements.{filter-append, All-head, All-tail}
-use Rattle.std.proofs.lemmas.List.Folds.{list_all-map, list_any_none, list_any_more}
-use Rattle.std.proofs.lemmas.List.Sums.{AllPass-from_list_all, sum_by-cons}
-use Rattle.iscsi_tasks.specs.declared.task.Task.{Task}
-use Rattle.iscsi_tasks.specs.declared.member.Member.{Member}
-use Rattle.iscsi_rules.proofs.traces.ApartLemmas.{eq_sym}
-use Rattle.iscsi_tasks.specs.Sets.{is_enabled_in, Members, opened, entered_to, given_by, tasks_in, left_by, with_ticket, uncovered, is_new, next_in, given_in}
-use Rattle.iscsi_commands.specs.declared.live.Live.{Live}
-use Rattle.iscsi_session.specs.private.Standing.{Match, AreRoomy, are_ascending, are_within, tickets_of, tickets_in}
-use Rattle.iscsi_session.specs.private.Steps.{enabled_of, covers_ticket, has_covered, set_staying, covered_tickets, find_ticket, without_ticket, as_given, all_given, is_numbered, is_gone, staying, finished_by, leave_each, without_tickets, ungiven, ungiven_in, enable_effects}
-use Rattle.iscsi_rules.proofs.general.BoolLemmas.{and_parts, and_both, and_comm, and_true, and_false, or_first, or_second}
-use Rattle.iscsi_rules.proofs.general.ListLemmas.{list_all-filter, any_filter, any_same, list_any-map, count_by-map, filter-swap, filter-map, map-map, find-found, filter-shorter, filter_every, filter_here, fewer_counted, none_out}
-use Rattle.iscsi_rules.proofs.traces.TraceLemmas.{weaker, filter-same, filter-true}
+use Rattle.iscsi_session.proofs.Names.{◌≡◌, ℕ, ◌+◌, ◌<◌, ◌==◌, ◌&&◌, cond, Bool, true, false, nat_lt, nat_le, List, [], ◌∷◌, ◌++◌, length, map, filter, get_or, set, Option, Some, None, refl, arith, length-set, eq-eqb, zero, suc, ◌≤◌, ◌||◌, not, count_by, All, take, is_some, ap, sym, ◌∙◌, drop, find, list_all, list_any, AllPairs, range_with_len, flat_map, cond_both, leb-true, cases_eq, eqb-true, false≢true, ltb-true, ne_eqb, lt-ltb, nat_tests, append-nil, map-append, get_or-set_same, get_or-set_other, length-map, get_or_default, get_or-take, length-take-le, at_drop_more, set-get_or, filter-append, All-head, All-tail, list_all-map, list_any_none, list_any_more, AllPass-from_list_all, sum_by-cons, Task, Member, eq_sym, is_enabled_in, Members, opened, entered_to, given_by, tasks_in, left_by, with_ticket, uncovered, is_new, next_in, given_in, Live, Match, AreRoomy, are_ascending, are_within, tickets_of, tickets_in, enabled_of, covers_ticket, has_covered, set_staying, covered_tickets, find_ticket, without_ticket, as_given, all_given, is_numbered, is_gone, staying, finished_by, leave_each, without_tickets, ungiven, ungiven_in, enable_effects, and_parts, and_both, and_comm, and_true, and_false, or_first, or_second, list_all-filter, any_filter, any_same, list_any-map, count_by-map, filter-swap, filter-map, map-map, find-found, filter-shorter, filter_every, filter_here, fewer_counted, none_out, weaker, filter-same, filter-true, tickets-given_in, tickets-moment, none_filtered, tickets, gone_each, none_covered, none_found, one_gone, rising, some_covered, IsSome, Arrived, with_unfinished, Leave, Enable, filter-twice, both_all, fewer, none_above, AreTagsApart, get_or-set_at}
 use Rattle.iscsi_session.proofs.CountLemmas.{list_all-push}
-use Rattle.iscsi_rules.proofs.traces.SetLemmas.{tickets-given_in, tickets-moment, none_filtered, tickets, gone_each, none_covered, none_found, one_gone, rising, some_covered}
-use Rattle.std.specs.Prelude.{IsSome}
-use Rattle.iscsi_window.specs.Windows.{Arrived, with_unfinished}
-use Rattle.iscsi_rules.specs.declared.effect.Effect.TheVariants.{Leave, Enable}
-use Rattle.iscsi_rules.proofs.traces.NewlyLemmas.{filter-twice, both_all}
-use Rattle.iscsi_rules.proofs.general.CountLemmas.{fewer}
-use Rattle.iscsi_rules.proofs.general.NumberLemmas.{none_above}
-use Rattle.iscsi_commands.specs.Commands.{AreTagsApart}
-use Rattle.std.proofs.lemmas.Grind.{get_or-set_at}
 
 -- ---- no call but entering and leaving changes the tickets
 

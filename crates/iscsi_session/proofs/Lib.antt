@@ -1,3 +1,4 @@
+pub mod Names
 pub mod RefusalLemmas
 pub mod AgreeLemmas
 pub mod OpenLemmas

@@ -1,40 +1,10 @@
 -- A Logout Request executes.
-use Rattle.std.proofs.Common.{⊎_elim, ◌≡◌, ℕ, zero, suc, ◌+◌, ◌<◌, ◌≤◌, not, Bool, List, [], ◌∷◌, ◌++◌, length, filter, count_by, refl, ap, sym, ◌∙◌, arith, length-set, ◌==◌, ◌&&◌, ◌||◌, cond, true, false, map, nat_lt, Option, Some, None, append_assoc}
-use Rattle.std.proofs.lemmas.Bool.{cases_Bool}
-use Rattle.std.specs.List.{list_any, flat_map, range_with_len, list_all}
-use Rattle.std.proofs.lemmas.List.{get_or-set_same, get_or-set_other, length-map}
-use Rattle.iscsi_tasks.specs.declared.task.Task.{Task}
-use Rattle.iscsi_tasks.specs.Sets.{opened, is_covered}
-use Rattle.iscsi_session.specs.private.Standing.{Core, Agrees, WindowAgrees, CommandsAgree, arrival_waiting, open_of, task_of}
-use Rattle.iscsi_session.specs.private.Steps.{set_staying, covered_tickets, set_at, is_numbered, is_gone, leave_each, commands_left, all_commands_left, is_among_open, still_open, after_effect, all_given, enable_effects, cover_of, session_closes, logged_out}
-use Rattle.iscsi_rules.proofs.traces.TraceLemmas.{filter-same, filter-true}
-use Rattle.iscsi_rules.proofs.traces.NewlyLemmas.{filter-twice, Untouched, live-untouched, filter_all, filter-none}
-use Rattle.iscsi_rules.proofs.general.ListLemmas.{any_in_range, flat_map_in_range, list_all-filter, list_all-same, list_any-map, any_filter, any_flat_map, filter-flat_map, map-flat_map, filter-map, filtered_among}
-use Rattle.std.proofs.lemmas.List.Elements.{filter_map-append}
-use Rattle.std.proofs.Math.ListN.{get_or-map}
-use Rattle.iscsi_wire.specs.declared.reply.Reply.TheVariants.{Logout}
-use Rattle.iscsi_wire.specs.Fields.{connection_of, itt}
-use Rattle.iscsi_window.specs.Windows.{is_asked}
-use Rattle.iscsi_rules.specs.declared.effect.Effect.{Effect}
-use Rattle.iscsi_rules.specs.declared.effect.Effect.TheVariants.{Leave, Send, CloseConn, CloseSession}
-use Rattle.iscsi_session.specs.declared.session.waiting.Waiting.{Waiting}
-use Rattle.iscsi_rules.specs.rules.Settings.{Setting, is_known}
-use Rattle.iscsi_rules.specs.rules.Trace.{Arrival, Command, Mark, Leaves, Empties, ClosesConn, ClosesSession, Trace, waiting, waiting_by, waiting_through, closes_conn, closes_session, has, is_ended, enters, entered, leaves_ticket, live, live_in, is_among}
-use Rattle.iscsi_rules.specs.rules.Logout.{live_of_units, is_open, is_last_open, taken_out, parting, end_session, close_conn}
-use Rattle.iscsi_rules.specs.rules.Management.{may_wait}
-use Rattle.iscsi_rules.specs.rules.Run.{effects_of_mark, effects_of_item, newly_enabled, stat_sn_of}
-use Rattle.iscsi_rules.proofs.promises.MomentLemmas.{enables}
+use Rattle.iscsi_session.proofs.Names.{⊎_elim, ◌≡◌, ℕ, zero, suc, ◌+◌, ◌<◌, ◌≤◌, not, Bool, List, [], ◌∷◌, ◌++◌, length, filter, count_by, refl, ap, sym, ◌∙◌, arith, length-set, ◌==◌, ◌&&◌, ◌||◌, cond, true, false, map, nat_lt, Option, Some, None, append_assoc, cases_Bool, list_any, flat_map, range_with_len, list_all, get_or-set_same, get_or-set_other, length-map, Task, opened, is_covered, Core, Agrees, WindowAgrees, CommandsAgree, arrival_waiting, open_of, task_of, set_staying, covered_tickets, set_at, is_numbered, is_gone, leave_each, commands_left, all_commands_left, is_among_open, still_open, after_effect, all_given, enable_effects, cover_of, session_closes, logged_out, filter-same, filter-true, filter-twice, Untouched, live-untouched, filter_all, filter-none, any_in_range, flat_map_in_range, list_all-filter, list_all-same, list_any-map, any_filter, any_flat_map, filter-flat_map, map-flat_map, filter-map, filtered_among, filter_map-append, get_or-map, Logout, connection_of, itt, is_asked, Effect, Leave, Send, Waiting, Setting, is_known, Arrival, Command, Mark, Leaves, Empties, ClosesConn, ClosesSession, Trace, waiting, waiting_by, waiting_through, closes_conn, closes_session, has, is_ended, enters, entered, leaves_ticket, live, live_in, is_among, live_of_units, is_open, is_last_open, taken_out, parting, end_session, close_conn, may_wait, effects_of_mark, effects_of_item, newly_enabled, stat_sn_of, enables, or_false, and_false, alike, alike_same, eq_sym, unamong-filter, quiet_none, LeavesSome, live_in-left, among_passing, any_in_units, enters_only, leaves_only, EnabledSoFar-left, closed-same, closing_marks, quiet-closing, untouched-closing, untouched-emptied, emptied_any, emptied_sends, emptied_shown, emptied_waits, is_nil, last_is, left_any, left_sends, left_shown, left_waits, nil_is, nat_tests}
+use Rattle.iscsi_rules.specs.declared.effect.Effect.TheVariants.{CloseConn, CloseSession}
 use Rattle.iscsi_session.proofs.AgreeLemmas.{RepliesAgree-sent, CommandsAgree-left, units_live}
-use Rattle.iscsi_rules.proofs.general.BoolLemmas.{or_false, and_false, alike, alike_same}
-use Rattle.iscsi_rules.proofs.traces.ApartLemmas.{eq_sym, unamong-filter}
-use Rattle.iscsi_rules.proofs.items.EmptyingMarks.{quiet_none}
-use Rattle.iscsi_rules.proofs.items.CommandItems.{LeavesSome, live_in-left, among_passing, any_in_units, enters_only, leaves_only}
-use Rattle.iscsi_rules.proofs.items.EnabledItems.{EnabledSoFar-left}
-use Rattle.iscsi_rules.proofs.items.ClosingItems.{closed-same, closing_marks, quiet-closing, untouched-closing, untouched-emptied, emptied_any, emptied_sends, emptied_shown, emptied_waits, is_nil, last_is, left_any, left_sends, left_shown, left_waits, nil_is}
 use Rattle.iscsi_session.proofs.ExecutionLemmas.{Begun, Follows, WindowAgrees-fewer, numbered_live, gone_tickets, leaving_shown, SetLeft, set_left}
 use Rattle.iscsi_session.proofs.DeedLemmas.{Keeps, left_keeps}
 use Rattle.iscsi_session.proofs.EmptyingLemmas.{taken_requests, emptied_from-is, WindowAgrees-logged_out}
-use Rattle.std.proofs.lemmas.Bool.Decides.{nat_tests}
 
 -- ==== the covered commands of several units leave: what it comes to at once, in place of one unit after the other
 

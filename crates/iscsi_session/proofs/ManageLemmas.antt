@@ -1,37 +1,8 @@
 -- The functions that wait, and how many effects are to come.
-use Rattle.std.proofs.Common.{find, Some, All, ◌&&◌, nat_lt, is_some, ◌-◌, ◌≡◌, ℕ, ◌+◌, ◌*◌, ◌<◌, ◌≤◌, ◌==◌, not, cond, true, List, [], ◌∷◌, ◌++◌, length, filter, ap, arith, count_by, suc, nat_le, get_or, sym, ◌∙◌, Bool, false, drop, map, position, None, refl}
-use Rattle.std.specs.List.{list_all}
-use Rattle.std.proofs.lemmas.Bool.Decides.{nat_tests}
-use Rattle.std.proofs.lemmas.List.{length_push, length-map}
-use Rattle.std.proofs.lemmas.List.Folds.{list_all-append}
-use Rattle.std.proofs.lemmas.List.Sums.{length-filter, count_by-le-length, sum_by-cons, AllPass-from_list_all}
-use Rattle.iscsi_wire.specs.declared.request.Request.{Request}
-use Rattle.iscsi_wire.specs.Fields.{connection_of}
-use Rattle.iscsi_tasks.specs.Sets.{Members, opened}
-use Rattle.iscsi_session.specs.declared.session.waiting.Waiting.{Waiting}
-use Rattle.iscsi_rules.specs.rules.Settings.{is_known, Setting}
-use Rattle.iscsi_session.specs.private.Standing.{Core, is_held, Match, tickets_of, tickets_in, are_within, arrival_waiting}
-use Rattle.iscsi_session.specs.private.Invariant.{IsSessionSound}
-use Rattle.iscsi_session.specs.private.Steps.{waiting_in, command_entered, ungiven, owed, ungiven_in}
-use Rattle.iscsi_rules.proofs.general.ListLemmas.{count_by-map, count_by-push, find-passes, filter-map}
-use Rattle.iscsi_rules.proofs.traces.SetLemmas.{ungiven_given}
+use Rattle.iscsi_session.proofs.Names.{find, Some, All, ◌&&◌, nat_lt, is_some, ◌-◌, ◌≡◌, ℕ, ◌+◌, ◌*◌, ◌<◌, ◌≤◌, ◌==◌, not, cond, true, List, [], ◌∷◌, ◌++◌, length, filter, ap, arith, count_by, suc, nat_le, get_or, sym, ◌∙◌, Bool, false, drop, map, position, None, refl, list_all, nat_tests, length_push, length-map, list_all-append, length-filter, count_by-le-length, sum_by-cons, AllPass-from_list_all, Request, connection_of, Members, opened, Waiting, is_known, Setting, Core, is_held, Match, tickets_of, tickets_in, are_within, arrival_waiting, IsSessionSound, waiting_in, command_entered, ungiven, owed, ungiven_in, count_by-map, count_by-push, find-passes, filter-map, ungiven_given, Member, Live, one_unit, may_wait, Arrived, advanced, offered_in, comes_next, All-weaker, number_of_first, find_nowhere, Arrival, Trace, waiting, function_item, functions_at, position-cons, filter-same, first_function, waits_itself}
 use Rattle.iscsi_session.proofs.CountLemmas.{few_live, few_of}
 use Rattle.iscsi_session.proofs.KeptLemmas.{ungiven_in-set}
-use Rattle.iscsi_tasks.specs.declared.member.Member.{Member}
-use Rattle.iscsi_commands.specs.declared.live.Live.{Live}
-use Rattle.iscsi_rules.proofs.general.NumberLemmas.{one_unit}
-use Rattle.iscsi_rules.specs.rules.Management.{may_wait}
-use Rattle.iscsi_window.specs.Windows.{Arrived, advanced, offered_in}
-use Rattle.iscsi_session.specs.private.Deeds.{comes_next}
 use Rattle.iscsi_session.proofs.WindowLemmas.{held_now, comes_alone, delivered}
-use Rattle.std.proofs.lemmas.List.Elements.{All-weaker}
-use Rattle.iscsi_wire.specs.Serial.{number_of_first}
-use Rattle.iscsi_slots.proofs.SortedLemmas.{find_nowhere}
-use Rattle.iscsi_rules.specs.rules.Trace.{Arrival, Trace, waiting}
-use Rattle.iscsi_rules.specs.rules.Items.{function_item, functions_at}
-use Rattle.iscsi_rules.proofs.general.PlaceLemmas.{position-cons}
-use Rattle.iscsi_rules.proofs.traces.TraceLemmas.{filter-same}
-use Rattle.iscsi_rules.proofs.items.WaitingItems.{first_function, waits_itself}
 
 -- the functions that a session finds for the next number are those of the number
 at_turn : (first turned : ℕ) (ws : List Waiting) → filter (λ b. b.number == number_of_first first + turned) (map (arrival_waiting first) ws) ≡ map (arrival_waiting first) (filter (λ w. w.turn == turned) ws)

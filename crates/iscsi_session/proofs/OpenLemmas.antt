@@ -1,23 +1,7 @@
 -- A session that was opened, and how many requests one holds.
-use Rattle.std.proofs.Common.{◌≡◌, ℕ, ◌+◌, ◌*◌, ◌==◌, List, [], ◌∷◌, length, map, filter, replicate, Some, None, is_some, refl, ap, sym, ◌∙◌, arith, count_by}
-use Rattle.std.proofs.lemmas.List.{length-map, length-replicate}
-use Rattle.iscsi_wire.specs.Serial.{wire}
-use Rattle.iscsi_window.specs.Windows.{number_expected, opened}
-use Rattle.iscsi_tasks.specs.Sets.{opened as opened_set}
-use Rattle.iscsi_rules.specs.declared.event.Event.{Event}
-use Rattle.iscsi_rules.specs.rules.Settings.{Setting}
-use Rattle.iscsi_rules.specs.rules.Trace.{Trace, first_of, held, live}
-use Rattle.iscsi_rules.specs.rules.Run.{trace_of}
-use Rattle.iscsi_session.specs.promises.Bounds.{held_count, effect_bound_of}
-use Rattle.iscsi_session.specs.private.Standing.{Core, Settled, StandsFor, place_of, is_held, stat_sn_on, kept, arrival_waiting}
-use Rattle.iscsi_rules.proofs.items.EnabledItems.{EnabledSoFar-none}
-use Rattle.iscsi_rules.proofs.traces.HeldLemmas.{unreceived_unheld}
-use Rattle.iscsi_rules.proofs.items.ClosingItems.{all_open}
-use Rattle.iscsi_rules.proofs.general.CountLemmas.{count_places}
-use Rattle.iscsi_rules.proofs.general.PlaceLemmas.{nothing_at}
-use Rattle.iscsi_rules.proofs.traces.SetLemmas.{set_opened}
+use Rattle.iscsi_session.proofs.Names.{◌≡◌, ℕ, ◌+◌, ◌*◌, ◌==◌, List, [], ◌∷◌, length, map, filter, replicate, Some, None, is_some, refl, ap, sym, ◌∙◌, arith, count_by, length-map, length-replicate, wire, number_expected, opened_set, Event, Setting, Trace, first_of, held, live, trace_of, held_count, effect_bound_of, Core, Settled, StandsFor, place_of, is_held, stat_sn_on, kept, arrival_waiting, EnabledSoFar-none, unreceived_unheld, all_open, count_places, nothing_at, set_opened, nat_tests}
+use Rattle.iscsi_window.specs.Windows.{opened}
 use Rattle.iscsi_session.proofs.AgreeLemmas.{settled_expected}
-use Rattle.std.proofs.lemmas.Bool.Decides.{nat_tests}
 
 first_number : (cid : ℕ) (cs : List (ℕ × ℕ)) → stat_sn_on cid cs ≡ wire (elim (first_of (filter (λ c. c.0 == cid) cs)) [ Some c ↦ c.1 | None ↦ 0 ] + 0)
 first_number cid [] = refl

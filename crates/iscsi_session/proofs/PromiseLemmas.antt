@@ -1,32 +1,8 @@
 -- Where a session stands for some events, their log keeps the promises.
-use Rattle.std.proofs.Common.{◌≡◌, ℕ, ◌+◌, ◌-◌, ◌<◌, ⊎_elim, false, length, arith, List}
-use Rattle.std.proofs.lemmas.Bool.{cases_lt}
-use Rattle.iscsi_window.specs.Windows.{number_expected}
-use Rattle.iscsi_rules.specs.declared.event.Event.{Event}
-use Rattle.iscsi_rules.specs.rules.Settings.{Setting}
-use Rattle.iscsi_rules.specs.rules.Trace.{Trace, received, is_received}
-use Rattle.iscsi_rules.specs.rules.Execution.{max_of}
-use Rattle.iscsi_rules.specs.rules.Run.{after_event, run_of}
-use Rattle.iscsi_session.specs.private.Standing.{Core, Settled, StandsFor}
-use Rattle.iscsi_session.specs.private.Steps.{KeepsPace}
-use Rattle.iscsi_rules.specs.promises.Flow.{HasOneMore, Flows, FlowsThrough}
-use Rattle.iscsi_rules.proofs.traces.FlowItems.{exp_stays}
+use Rattle.iscsi_session.proofs.Names.{◌≡◌, ℕ, ◌+◌, ◌-◌, ◌<◌, ⊎_elim, false, length, arith, List, cases_lt, number_expected, Event, Setting, Trace, received, is_received, max_of, after_event, run_of, Core, Settled, StandsFor, KeepsPace, HasOneMore, Flows, FlowsThrough, exp_stays, delivered, EnablesByTheRule, ClosesHoldIn, KeepsPromises, log_delivers, log_effects, rule_means, aborts_hold_in, closes_hold_in, starts_once, answers_once_in, counts_replies, keeps_order, means_what_it_says, nat_tests}
+use Rattle.iscsi_rules.specs.promises.Executed.{executed}
 use Rattle.iscsi_session.proofs.WindowParts.{no_place}
 use Rattle.iscsi_session.proofs.AgreeLemmas.{settled_expected, settled_max}
-use Rattle.iscsi_rules.specs.promises.Executed.{delivered, executed}
-use Rattle.iscsi_rules.specs.promises.Enabling.{EnablesByTheRule}
-use Rattle.iscsi_rules.specs.promises.Closes.{ClosesHoldIn}
-use Rattle.iscsi_rules.specs.promises.Promises.{KeepsPromises}
-use Rattle.iscsi_rules.proofs.traces.DeliveryLemmas.{log_delivers}
-use Rattle.iscsi_rules.proofs.promises.MomentLemmas.{log_effects, rule_means}
-use Rattle.iscsi_rules.proofs.promises.AbortTheorem.{aborts_hold_in}
-use Rattle.iscsi_rules.proofs.promises.CloseTheorem.{closes_hold_in}
-use Rattle.iscsi_rules.proofs.promises.LifeTheorem.{starts_once}
-use Rattle.iscsi_rules.proofs.promises.AnswerTheorem.{answers_once_in}
-use Rattle.iscsi_rules.proofs.promises.NumberingLemmas.{counts_replies}
-use Rattle.iscsi_rules.proofs.promises.OrderRuns.{keeps_order}
-use Rattle.iscsi_rules.proofs.promises.MeaningTheorem.{means_what_it_says}
-use Rattle.std.proofs.lemmas.Bool.Decides.{nat_tests}
 
 -- ==== arrived numbers and the window, from event to event
 

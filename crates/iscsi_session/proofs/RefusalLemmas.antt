@@ -1,13 +1,5 @@
 -- The first event of a run that is refused.
-use Rattle.std.proofs.Common.{◌≡◌, ◌≢◌, ℕ, ◌+◌, Bool, true, false, not, cond, List, Option, Some, None, ◌<◌, ◌⊎◌, length, take, drop, get_or, Ok, Err, arith, length-take}
-use Rattle.iscsi_rules.specs.declared.event.Event.{Event}
-use Rattle.iscsi_session.specs.declared.fault.SessionFault.{SessionFault}
-use Rattle.iscsi_session.specs.declared.fault.SessionFault.TheVariants.{UnknownConnection, Exhausted, NoMemory}
-use Rattle.iscsi_rules.specs.rules.Settings.{Setting}
-use Rattle.iscsi_rules.specs.rules.Agenda.{belongs}
-use Rattle.iscsi_session.specs.promises.Refusals.{first_refusal, refusal_of, RefusesAs, RunRefusesAs}
-use Rattle.std.proofs.lemmas.List.{drop_more}
-use Rattle.std.proofs.lemmas.Bool.Decides.{nat_tests}
+use Rattle.iscsi_session.proofs.Names.{◌≡◌, ◌≢◌, ℕ, ◌+◌, Bool, true, false, not, cond, List, Option, Some, None, ◌<◌, ◌⊎◌, length, take, drop, get_or, Ok, Err, arith, length-take, Event, SessionFault, UnknownConnection, Exhausted, NoMemory, Setting, belongs, first_refusal, refusal_of, RefusesAs, RunRefusesAs, drop_more, nat_tests}
 
 -- an event that isn't refused comes on a connection of the session
 pub taken_belongs : (o : Setting) (h : List Event) (e : Event) → refusal_of o h e ≡ None → belongs o e ≡ true

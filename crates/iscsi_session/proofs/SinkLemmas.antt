@@ -1,8 +1,5 @@
 -- Effects that are appended one after another.
-use Rattle.std.proofs.Common.{◌≡◌, ℕ, List, [], ◌++◌, refl, ap, sym, ◌∙◌, subst, append_assoc}
-use Rattle.std.proofs.lemmas.List.{append-nil}
-use Rattle.iscsi_rules.specs.declared.effect.Effect.{Effect}
-use Rattle.iscsi_session.specs.private.Steps.{Appends, Continues}
+use Rattle.iscsi_session.proofs.Names.{◌≡◌, ℕ, List, [], ◌++◌, refl, ap, sym, ◌∙◌, subst, append_assoc, append-nil, Effect, Appends, Continues}
 
 module _ {S : Type 0} {has : S → List ℕ → List Effect → Type 0} where
   -- none was

@@ -1,26 +1,8 @@
 -- What holds of every session holds on, where only some of its fields change.
-use Rattle.std.proofs.Common.{◌≡◌, ◌+◌, ◌<◌, ◌≤◌, ◌==◌, not, ap, arith, nat_lt, length, filter, count_by, is_some, Bool, true, List, Option, ℕ, cond, ◌++◌, [], ◌∷◌, ◌∙◌, take, drop, get_or, set, length-set, refl}
-use Rattle.std.specs.List.{list_all}
-use Rattle.iscsi_wire.specs.Fields.{connection_of}
-use Rattle.iscsi_window.specs.declared.held_request.HeldRequest.{HeldRequest}
-use Rattle.iscsi_window.specs.Windows.{Arrived, advanced}
-use Rattle.iscsi_tasks.specs.Sets.{Members, opened}
-use Rattle.iscsi_commands.specs.declared.live.Live.{Live}
-use Rattle.iscsi_session.specs.declared.session.waiting.Waiting.{Waiting}
-use Rattle.iscsi_rules.specs.rules.Settings.{is_known}
-use Rattle.iscsi_rules.specs.rules.Management.{may_wait}
-use Rattle.iscsi_session.specs.private.Standing.{Core, is_place_known, Match, AreRoomy}
-use Rattle.iscsi_session.specs.private.Steps.{count_reply, AreCounted, is_numbered, set_staying, is_gone, staying, finished_by}
-use Rattle.iscsi_session.specs.private.Invariant.{IsWindowSound, AreCommandsSound, AreFunctionsSound, IsSessionSound}
-use Rattle.iscsi_rules.proofs.general.ListLemmas.{count_by-push, list_all-filter, fewer_counted}
-use Rattle.iscsi_rules.proofs.traces.TraceLemmas.{weaker}
-use Rattle.iscsi_rules.proofs.general.NumberLemmas.{later_event}
+use Rattle.iscsi_session.proofs.Names.{◌≡◌, ◌+◌, ◌<◌, ◌≤◌, ◌==◌, not, ap, arith, nat_lt, length, filter, count_by, is_some, Bool, true, List, Option, ℕ, cond, ◌++◌, [], ◌∷◌, ◌∙◌, take, drop, get_or, set, length-set, refl, list_all, connection_of, HeldRequest, Arrived, advanced, Members, opened, Live, Waiting, is_known, may_wait, Core, is_place_known, Match, AreRoomy, count_reply, AreCounted, is_numbered, set_staying, is_gone, staying, finished_by, IsWindowSound, AreCommandsSound, AreFunctionsSound, IsSessionSound, count_by-push, list_all-filter, fewer_counted, weaker, later_event, nat_tests, Task, written}
 use Rattle.iscsi_session.proofs.WindowLemmas.{Changed, Advanced}
 use Rattle.iscsi_session.proofs.CountLemmas.{length-replied, AreCounted-replied, list_all-push, are_known-replied, are_places_known-replied}
 use Rattle.iscsi_session.proofs.KeptLemmas.{ascending-push, within-push, ascending-kept, Match-staying, roomy_set}
-use Rattle.std.proofs.lemmas.Bool.Decides.{nat_tests}
-use Rattle.iscsi_tasks.specs.declared.task.Task.{Task}
-use Rattle.iscsi_rules.proofs.general.PlaceLemmas.{written}
 
 -- ---- the window
 

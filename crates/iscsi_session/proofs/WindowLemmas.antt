@@ -1,24 +1,5 @@
 -- What an offer and a completion change of what a session keeps.
-use Rattle.std.proofs.Common.{◌≡◌, ◌⊎◌, ℕ, ◌+◌, ◌-◌, ◌<◌, cond, true, false, List, length, Option, Some, None, is_some, refl, arith, count_by, length-set, get_or-set_same, not}
-use Rattle.std.specs.List.{list_all}
-use Rattle.std.specs.Option.{option_flatten}
-use Rattle.std.proofs.lemmas.Bool.Decides.{nat_tests}
-use Rattle.std.proofs.lemmas.List.{length_push}
-use Rattle.iscsi_session.specs.private.Standing.{Core, is_held, is_place_known}
-use Rattle.iscsi_session.specs.private.Deeds.{next_waiting, comes_next}
-use Rattle.iscsi_wire.specs.declared.request.Request.{Request}
-use Rattle.iscsi_window.specs.declared.held_request.HeldRequest.{HeldRequest}
-use Rattle.iscsi_wire.specs.Fields.{connection_of, is_immediate}
-use Rattle.iscsi_window.specs.declared.answer.Offer.TheVariants.{Held}
-use Rattle.iscsi_window.specs.declared.answer.Place.{Place}
-use Rattle.iscsi_window.specs.declared.answer.Place.TheVariants.{Inside, Outside as NoPlace}
-use Rattle.iscsi_window.specs.Windows.{Arrived, at_place, advanced, offer_to, place_in, IsInside, held_at, is_received_at, is_next, received_at, offered_in, voided, emptied, emptied_if, with_place}
-use Rattle.iscsi_rules.specs.rules.Settings.{is_known}
-use Rattle.iscsi_session.specs.private.Invariant.{IsWindowSound}
-use Rattle.iscsi_rules.proofs.general.PlaceLemmas.{all_set, all_shift, some_within}
-use Rattle.iscsi_rules.proofs.general.CountLemmas.{count_replaced, count_set, count_shift}
-use Rattle.iscsi_rules.proofs.general.BoolLemmas.{and_parts, not_true}
-use Rattle.iscsi_rules.proofs.general.ListLemmas.{is_none}
+use Rattle.iscsi_session.proofs.Names.{get_or-set_same, ◌≡◌, ◌⊎◌, ℕ, ◌+◌, ◌-◌, ◌<◌, cond, true, false, List, length, Option, Some, None, is_some, refl, arith, count_by, length-set, not, list_all, option_flatten, nat_tests, length_push, Core, is_held, is_place_known, next_waiting, comes_next, Request, HeldRequest, connection_of, is_immediate, Held, Place, Inside, NoPlace, Arrived, at_place, advanced, offer_to, place_in, IsInside, held_at, is_received_at, is_next, received_at, offered_in, voided, emptied, emptied_if, with_place, is_known, IsWindowSound, all_set, all_shift, some_within, count_replaced, count_set, count_shift, and_parts, not_true, is_none}
 
 -- ---- a turn
 

@@ -1,25 +1,5 @@
 -- A window that agrees with what has happened agrees after one item more.
-use Rattle.std.proofs.Common.{◌≡◌, ℕ, ◌+◌, ◌-◌, ◌<◌, ◌≤◌, false, List, [], ◌∷◌, ◌++◌, Some, None, cond, option_map, Bool, refl, ap, sym, ◌∙◌, arith, ◌==◌, ⊎_elim, true, length, drop, get_or, set, Option, eq-eqb, ◌≢◌, length-set, length-drop, filter_map, ne_eqb, ◌^◌, ◌||◌, subst}
-use Rattle.std.proofs.lemmas.List.{append-nil, length_push, get_or-set_same, get_or-set_other}
-use Rattle.iscsi_window.specs.declared.held_request.HeldRequest.{HeldRequest}
-use Rattle.iscsi_wire.specs.Serial.{number_of_first, wire, lift}
-use Rattle.iscsi_rules.specs.rules.Settings.{Setting}
-use Rattle.iscsi_rules.specs.rules.Trace.{Arrival, Mark, Admits, Delivers, Trace, shown, received, contains, is_received, is_delivered, is_emptied, held, admits_at, admitted, Voids, Empties, first_of, delivers_number}
-use Rattle.iscsi_rules.specs.promises.Executed.{request_at, executed_below, delivers}
-use Rattle.iscsi_session.specs.private.Standing.{held_of, place_of, IsRegularRequest, WindowAgrees}
-use Rattle.std.proofs.lemmas.Bool.{cases_lt, cases_eq, eqb-true}
-use Rattle.std.proofs.lemmas.Grind.{elements, get_or-set_at}
-use Rattle.iscsi_window.specs.Windows.{Arrived, number_expected, room_of, at_place, with_place, with_unfinished, turned_on, IsInside, place_in, is_received_at, voided, emptied}
-use Rattle.iscsi_rules.specs.rules.Execution.{exp_of}
-use Rattle.iscsi_rules.proofs.general.BoolLemmas.{or_none, or_second, or_false}
-use Rattle.iscsi_rules.proofs.general.Missing.{expected_is, expected_low, expected_gone}
-use Rattle.iscsi_rules.proofs.traces.HeldLemmas.{held-delivered, admitted-number, admitted-cases, held-admits, held-here, held-number, held-turned, request_at-turned, admitted_of_held, held_unemptied, received-admits, request_at-admits, held_received, unreceived_unheld}
-use Rattle.iscsi_rules.proofs.traces.DeliveryLemmas.{held-quiet, IsQuiet, same_range, received-quiet, executed_below-quiet, delivered-quiet, admitted-quiet, executed_below-more}
-use Rattle.iscsi_rules.proofs.general.PlaceLemmas.{has_first, last_none}
-use Rattle.std.proofs.lemmas.Bool.Decides.{nat_tests}
-use Rattle.std.specs.List.{list_any}
-use Rattle.iscsi_window.specs.declared.answer.Place.TheVariants.{Inside}
-use Rattle.iscsi_rules.proofs.items.EmptyingMarks.{EmptiesOne, VoidsOne, admitted-empties, admitted-voids, emptied-empties, empties-one, held-gone, held-other, held-voids, received-empties, received-voids, request_at-empties, request_at-voids, voids-one}
+use Rattle.iscsi_session.proofs.Names.{filter_map, ne_eqb, ◌≡◌, ℕ, ◌+◌, ◌-◌, ◌<◌, ◌≤◌, false, List, [], ◌∷◌, ◌++◌, Some, None, cond, option_map, Bool, refl, ap, sym, ◌∙◌, arith, ◌==◌, ⊎_elim, true, length, drop, get_or, set, Option, eq-eqb, ◌≢◌, length-set, length-drop, ◌^◌, ◌||◌, subst, append-nil, length_push, get_or-set_same, get_or-set_other, HeldRequest, number_of_first, wire, lift, Setting, Arrival, Mark, Admits, Delivers, Trace, shown, received, contains, is_received, is_delivered, is_emptied, held, admits_at, admitted, Voids, Empties, first_of, delivers_number, request_at, executed_below, delivers, held_of, place_of, IsRegularRequest, WindowAgrees, cases_lt, cases_eq, eqb-true, elements, get_or-set_at, Arrived, number_expected, room_of, at_place, with_place, with_unfinished, turned_on, IsInside, place_in, is_received_at, voided, emptied, exp_of, or_none, or_second, or_false, expected_is, expected_low, expected_gone, held-delivered, admitted-number, admitted-cases, held-admits, held-here, held-number, held-turned, request_at-turned, admitted_of_held, held_unemptied, received-admits, request_at-admits, held_received, unreceived_unheld, held-quiet, IsQuiet, same_range, received-quiet, executed_below-quiet, delivered-quiet, admitted-quiet, executed_below-more, has_first, last_none, nat_tests, list_any, Inside, EmptiesOne, VoidsOne, admitted-empties, admitted-voids, emptied-empties, empties-one, held-gone, held-other, held-voids, received-empties, received-voids, request_at-empties, request_at-voids, voids-one}
 
 -- ---- the next number
 

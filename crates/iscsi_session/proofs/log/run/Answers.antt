@@ -1,22 +1,8 @@
-use Rattle.std.proofs.Common.{arith, ◌≡◌, ◌<◌, ◌∙◌, [], List, length, take, drop, ap, sym, subst, inl, inr, ⊎_elim, false}
-use Rattle.std.specs.Prelude.{Result, Ok, Err, OnOk, is_err}
-use Rattle.std.proofs.lemmas.Grind.{common_steps}
-use Rattle.std.proofs.lemmas.List.{take_more, take_all}
-use Rattle.std.proofs.lemmas.Result.{err_from_is_err_and}
-use Rattle.iscsi_rules.specs.declared.effect.Numbers.{Numbers}
-use Rattle.iscsi_rules.specs.declared.event.Event.{Event}
-use Rattle.iscsi_rules.specs.rules.Settings.{Setting}
-use Rattle.iscsi_session.specs.promises.Settings.{setting_of}
-use Rattle.iscsi_rules.specs.rules.Run.{run_of}
-use Rattle.iscsi_rules.specs.promises.Flow.{FlowsThrough}
-use Rattle.iscsi_session.specs.promises.Refusals.{refusal_of, refusal_of_options, first_refusal}
-use Rattle.iscsi_session.specs.private.Standing.{StandsFor}
-use Rattle.iscsi_rules.proofs.traces.RunLemmas.{run_of-push}
-use Rattle.iscsi_rules.proofs.traces.FlowItems.{FlowsThrough-push}
+use Rattle.iscsi_session.proofs.Names.{arith, ◌≡◌, ◌<◌, ◌∙◌, [], List, length, take, drop, ap, sym, subst, inl, inr, ⊎_elim, false, Result, OnOk, is_err, common_steps, take_more, take_all, err_from_is_err_and, Numbers, Event, Setting, setting_of, run_of, FlowsThrough, refusal_of, refusal_of_options, first_refusal, StandsFor, run_of-push, FlowsThrough-push, nat_tests}
+use Rattle.std.specs.Prelude.{Ok, Err}
 use Rattle.iscsi_session.proofs.RefusalLemmas.{taken_none, refused_cases, refusal_more, refusal_here, event_refused, run_taken}
 use Rattle.iscsi_session.proofs.PromiseLemmas.{promises_kept}
 use Rattle.iscsi_session.proofs.log.run.Goals as goal
-use Rattle.std.proofs.lemmas.Bool.Decides.{nat_tests}
 
 pub returns-in_err-numbers-clause-refused : goal.returns-in_err-numbers-clause-refused
 returns-in_err-numbers-clause-refused c =

@@ -1,10 +1,4 @@
-use Rattle.std.proofs.Common.{◌≡◌, take, drop}
-use Rattle.iscsi_rules.specs.rules.Settings.{Setting}
-use Rattle.iscsi_session.specs.promises.Settings.{setting_of}
-use Rattle.iscsi_rules.specs.rules.Run.{run_of}
-use Rattle.iscsi_rules.specs.promises.Flow.{FlowsThrough}
-use Rattle.iscsi_session.specs.promises.Refusals.{first_refusal}
-use Rattle.iscsi_session.specs.private.Standing.{StandsFor}
+use Rattle.iscsi_session.proofs.Names.{◌≡◌, take, drop, Setting, setting_of, run_of, FlowsThrough, first_refusal, StandsFor}
 use Rattle.iscsi_session.proofs.log.run.Given as goal
 
 -- the session stands for the events so far, of which the log is, and nothing was refused

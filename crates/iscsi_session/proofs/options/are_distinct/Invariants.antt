@@ -1,5 +1,4 @@
-use Rattle.std.proofs.Common.{◌≡◌, drop}
-use Rattle.iscsi_rules.specs.rules.Settings.{are_distinct}
+use Rattle.iscsi_session.proofs.Names.{◌≡◌, drop, are_distinct}
 use Rattle.iscsi_session.proofs.options.are_distinct.Given as goal
 
 -- those that were looked at are unlike all after them

@@ -1,18 +1,8 @@
-use Rattle.std.proofs.Common.{Option, ◌+◌, [], rules, ℕ, ◌*◌, ◌≡◌, ◌≤◌, ap, arith, length, is_some, replicate, None, refl, List, vec_capacity}
-use Rattle.std.proofs.lemmas.Bool.Decides.{nat_tests}
-use Rattle.iscsi_window.specs.declared.held_request.HeldRequest.{HeldRequest}
+use Rattle.iscsi_session.proofs.Names.{Option, ◌+◌, [], rules, ℕ, ◌*◌, ◌≡◌, ◌≤◌, ap, arith, length, is_some, replicate, None, refl, List, vec_capacity, nat_tests, HeldRequest, opened_set, Connected, setting_of, is_place_known, tickets_of, set_opened, none_counted, all_none, so_many}
 use Rattle.iscsi_window.specs.Windows.{opened}
-use Rattle.iscsi_tasks.specs.Sets.{opened as opened_set}
-use Rattle.iscsi_connections.specs.Connected.{Connected}
-use Rattle.iscsi_session.specs.promises.Settings.{setting_of}
-use Rattle.iscsi_session.specs.private.Standing.{is_place_known, tickets_of}
 use Rattle.iscsi_session.proofs.CountLemmas.{AreCounted-opened}
 use Rattle.iscsi_session.proofs.OpenLemmas.{Settled-opened}
 use Rattle.iscsi_session.proofs.session.make_on.Goals as goal
-use Rattle.iscsi_rules.proofs.traces.SetLemmas.{set_opened}
-use Rattle.iscsi_rules.proofs.general.CountLemmas.{none_counted}
-use Rattle.iscsi_rules.proofs.general.PlaceLemmas.{all_none}
-use Rattle.std.proofs.lemmas.List.{length-replicate as so_many}
 
 pub invariant_of-result : goal.invariant_of-result
 invariant_of-result c =

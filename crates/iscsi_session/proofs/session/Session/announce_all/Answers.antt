@@ -1,12 +1,7 @@
-use Rattle.std.proofs.Common.{◌∙◌, ◌+◌, ◌-◌, ◌<◌, ℕ, arith, length-set, refl, List, [], ap, ◌≡◌}
-use Rattle.iscsi_rules.specs.declared.effect.Effect.{Effect}
-use Rattle.std.specs.List.{range_with_len, flat_map}
+use Rattle.iscsi_session.proofs.Names.{◌∙◌, ◌+◌, ◌-◌, ◌<◌, ℕ, arith, length-set, refl, List, [], ap, ◌≡◌, Effect, range_with_len, flat_map, Core, set_at, all_given, enable_effects, range_step}
 use Rattle.iscsi_session.proofs.SinkLemmas.{continued, ended}
-use Rattle.iscsi_session.specs.private.Standing.{Core}
-use Rattle.iscsi_session.specs.private.Steps.{set_at, all_given, enable_effects}
 use Rattle.iscsi_session.proofs.KeptLemmas.{given_set, told_more, told_all, told_later}
 use Rattle.iscsi_session.proofs.session.Session.announce_all.Goals as goal
-use Rattle.iscsi_rules.proofs.general.ListLemmas.{range_step}
 
 abbrev told_from : Core → ℕ → ℕ → List Effect
 told_from s from count = flat_map (λ unit. enable_effects unit (set_at s unit).list) (range_with_len from count)

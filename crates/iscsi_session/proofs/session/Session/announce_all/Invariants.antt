@@ -1,7 +1,4 @@
-use Rattle.std.proofs.Common.{◌≡◌, ◌+◌, ◌-◌, ◌<◌, ◌≤◌, ℕ, length, get_or}
-use Rattle.std.specs.List.{range_with_len, flat_map}
-use Rattle.iscsi_tasks.specs.Sets.{opened}
-use Rattle.iscsi_session.specs.private.Steps.{Continues, set_at, all_given, enable_effects, all_told, owed}
+use Rattle.iscsi_session.proofs.Names.{◌≡◌, ◌+◌, ◌-◌, ◌<◌, ◌≤◌, ℕ, length, get_or, range_with_len, flat_map, opened, Continues, set_at, all_given, enable_effects, all_told, owed}
 use Rattle.iscsi_session.proofs.session.Session.announce_all.Given as goal
 
 -- the units that were told, and what is still to be told

@@ -1,7 +1,4 @@
-use Rattle.std.proofs.Common.{◌≡◌, ◌∙◌, ◌<◌, ◌++◌, length, take, drop, get_or, set, length-set, ap, arith, refl}
-use Rattle.iscsi_tasks.specs.Sets.{opened}
-use Rattle.iscsi_session.specs.private.Steps.{all_given}
-use Rattle.iscsi_rules.proofs.general.PlaceLemmas.{written}
+use Rattle.iscsi_session.proofs.Names.{◌≡◌, ◌∙◌, ◌<◌, ◌++◌, length, take, drop, get_or, set, length-set, ap, arith, refl, opened, all_given, written}
 use Rattle.iscsi_session.proofs.KeptLemmas.{owed-given, Match-given, roomy_set}
 use Rattle.iscsi_session.proofs.SoundLemmas.{sets_sound}
 use Rattle.iscsi_session.proofs.session.Session.announce_enabled.Given.{Over}

@@ -1,10 +1,4 @@
-use Rattle.std.proofs.Common.{◌≡◌, ◌∙◌, sym, subst, refl, true, false, List}
-use Rattle.iscsi_wire.specs.Fields.{request_of}
-use Rattle.iscsi_wire.specs.declared.request.Request.{Request}
-use Rattle.iscsi_rules.specs.rules.Trace.{Mark}
-use Rattle.iscsi_rules.specs.promises.Flow.{HasOneMore}
-use Rattle.iscsi_session.specs.private.Standing.{Core}
-use Rattle.iscsi_session.specs.private.Steps.{is_among_open, Handles}
+use Rattle.iscsi_session.proofs.Names.{◌≡◌, ◌∙◌, sym, subst, refl, true, false, List, request_of, Request, Mark, HasOneMore, Core, is_among_open, Handles}
 use Rattle.iscsi_session.proofs.AgreeLemmas.{handled, known_of}
 use Rattle.iscsi_session.proofs.AgendaLemmas.{opened_arrival, closed_arrival}
 use Rattle.iscsi_session.proofs.session.Session.arrive.Goals as goal

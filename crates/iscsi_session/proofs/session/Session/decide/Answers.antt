@@ -1,15 +1,6 @@
-use Rattle.std.proofs.Common.{◌≡◌, ◌==◌, ◌∙◌, ⊎_elim, cond, Bool, true, false, ℕ, refl, ap, sym, arith}
-use Rattle.std.proofs.lemmas.Bool.{false≢true, eqb-true}
-use Rattle.iscsi_wire.specs.declared.request.Request.{Request}
-use Rattle.iscsi_wire.specs.Fields.{opcode}
-use Rattle.iscsi_wire.specs.declared.opcode.Opcode.{Opcode}
-use Rattle.iscsi_wire.specs.declared.opcode.Opcode.TheVariants.{NopOut, ScsiCommand, TaskManagement, Text, DataOut, Logout, Snack, Unknown}
-use Rattle.iscsi_wire.specs.Codes.{opcode_named}
-use Rattle.iscsi_rules.specs.rules.Deeds.{command_deed}
-use Rattle.iscsi_session.specs.private.Standing.{Core}
-use Rattle.iscsi_session.specs.private.Deeds.{facts_by, deed_by}
+use Rattle.iscsi_session.proofs.Names.{◌≡◌, ◌==◌, ◌∙◌, ⊎_elim, cond, Bool, true, false, ℕ, refl, ap, sym, arith, false≢true, eqb-true, Request, opcode, Opcode, NopOut, ScsiCommand, TaskManagement, Text, DataOut, Snack, opcode_named, command_deed, Core, facts_by, deed_by, nat_tests}
+use Rattle.iscsi_wire.specs.declared.opcode.Opcode.TheVariants.{Logout, Unknown}
 use Rattle.iscsi_session.proofs.session.Session.decide.Goals as goal
-use Rattle.std.proofs.lemmas.Bool.Decides.{nat_tests}
 
 -- one that has the table of the SCSI Command
 abbrev is_other : Opcode → Bool

@@ -1,11 +1,6 @@
-use Rattle.std.proofs.Common.{◌≡◌, None, option_map, ap, arith}
-use Rattle.iscsi_wire.specs.Fields.{rtt}
-use Rattle.iscsi_commands.specs.declared.live.Live.{Live}
-use Rattle.iscsi_rules.specs.rules.Deeds.{of_unit}
-use Rattle.iscsi_session.specs.private.Deeds.{tagged_in, facts_by}
+use Rattle.iscsi_session.proofs.Names.{◌≡◌, None, option_map, ap, arith, rtt, Live, of_unit, tagged_in, facts_by, nat_tests}
 use Rattle.iscsi_session.proofs.session.Session.decide_abort.Goals as goal
 use Rattle.iscsi_session.proofs.session.Session.decide_abort.Goals.{After-find_held}
-use Rattle.std.proofs.lemmas.Bool.Decides.{nat_tests}
 
 -- what is found of the unit
 held_is : (c : After-find_held) → (facts_by c.args.self.now c.args.request.now).held ≡ c.find_held.result

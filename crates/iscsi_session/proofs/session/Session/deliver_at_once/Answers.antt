@@ -1,13 +1,4 @@
-use Rattle.std.proofs.Common.{◌≡◌, ◌<◌, ◌-◌, ◌+◌, ◌∙◌, Some, true, length, subst, ap, sym, arith, is_some, count_by}
-use Rattle.iscsi_wire.specs.declared.request.Request.{Request}
-use Rattle.iscsi_wire.specs.Fields.{connection_of}
-use Rattle.iscsi_window.specs.Windows.{Arrived}
-use Rattle.iscsi_rules.specs.rules.Settings.{is_known}
-use Rattle.iscsi_session.specs.contracts.session.Session.{the_view}
-use Rattle.iscsi_rules.specs.declared.effect.Effect.TheVariants.{Deliver}
-use Rattle.iscsi_session.specs.private.Standing.{Core}
-use Rattle.iscsi_session.specs.private.Steps.{Takes, after_effect, with_offered}
-use Rattle.iscsi_session.specs.private.Deeds.{turn_taken, executed, comes_next}
+use Rattle.iscsi_session.proofs.Names.{◌≡◌, ◌<◌, ◌-◌, ◌+◌, ◌∙◌, Some, true, length, subst, ap, sym, arith, is_some, count_by, Request, connection_of, Arrived, is_known, the_view, Deliver, Core, Takes, after_effect, with_offered, turn_taken, executed, comes_next}
 use Rattle.iscsi_session.proofs.WindowLemmas.{held_now, comes_alone, Delivered, delivered, grown_sound}
 use Rattle.iscsi_session.proofs.ManageLemmas.{turned_counts}
 use Rattle.iscsi_session.proofs.SoundLemmas.{window_sound, advanced_sound}

@@ -1,18 +1,9 @@
-use Rattle.std.proofs.Common.{◌≡◌, ◌∙◌, false, Some, ap, sym, subst, arith, is_some, count_by}
-use Rattle.iscsi_wire.specs.Fields.{is_immediate}
-use Rattle.iscsi_window.specs.Windows.{Arrived}
-use Rattle.iscsi_session.specs.contracts.session.Session.{the_view}
-use Rattle.iscsi_rules.specs.declared.effect.Effect.TheVariants.{Deliver}
-use Rattle.iscsi_session.specs.private.Standing.{Core, is_held}
-use Rattle.iscsi_session.specs.private.Steps.{Takes, after_effect}
-use Rattle.iscsi_session.specs.private.Deeds.{executed, position_by, deed_by}
-use Rattle.iscsi_rules.proofs.general.BoolLemmas.{and_first, not_true}
+use Rattle.iscsi_session.proofs.Names.{◌≡◌, ◌∙◌, false, Some, ap, sym, subst, arith, is_some, count_by, is_immediate, Arrived, the_view, Deliver, Core, is_held, Takes, after_effect, executed, position_by, deed_by, and_first, not_true, nat_tests}
 use Rattle.iscsi_session.proofs.WindowLemmas.{Advanced, advanced_at}
 use Rattle.iscsi_session.proofs.DeedLemmas.{carried_counted, fits_deed}
 use Rattle.iscsi_session.proofs.session.Session.deliver_next.Given.{Over}
 use Rattle.iscsi_session.proofs.session.Session.deliver_next.Goals as goal
 use Rattle.iscsi_session.proofs.session.Session.deliver_next.Goals.{In-Some-held}
-use Rattle.std.proofs.lemmas.Bool.Decides.{nat_tests}
 
 -- the number has turned, and this was held for it
 turned : (over : Over) (c : In-Some-held over) → Advanced c.self.inside.window (Some c.in-Some-held.field-0)

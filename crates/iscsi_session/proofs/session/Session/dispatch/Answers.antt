@@ -1,8 +1,4 @@
-use Rattle.std.proofs.Common.{◌∙◌, sym, subst, refl, List}
-use Rattle.iscsi_rules.specs.rules.Trace.{Mark}
-use Rattle.iscsi_rules.specs.promises.Flow.{HasOneMore}
-use Rattle.iscsi_session.specs.private.Steps.{Handles}
-use Rattle.iscsi_rules.proofs.items.ReceivedItems.{is_numbered_arrival}
+use Rattle.iscsi_session.proofs.Names.{◌∙◌, sym, subst, refl, List, Mark, HasOneMore, Handles, is_numbered_arrival}
 use Rattle.iscsi_session.proofs.AgreeLemmas.{handled, known_of}
 use Rattle.iscsi_session.proofs.AgendaLemmas.{passed_over, rejected_opcode, at_once}
 use Rattle.iscsi_session.proofs.session.Session.dispatch.Goals as goal

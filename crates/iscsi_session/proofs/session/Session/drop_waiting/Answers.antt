@@ -1,8 +1,4 @@
-use Rattle.std.proofs.Common.{not, arith, ap}
-use Rattle.iscsi_wire.specs.Fields.{connection_of}
-use Rattle.iscsi_window.specs.Windows.{is_asked}
-use Rattle.iscsi_slots.specs.Queued.{Queued}
-use Rattle.iscsi_session.specs.declared.session.waiting.Waiting.{Waiting}
+use Rattle.iscsi_session.proofs.Names.{not, arith, ap, connection_of, is_asked, Queued, Waiting}
 use Rattle.iscsi_session.proofs.SoundLemmas.{fewer_sound}
 use Rattle.iscsi_session.proofs.session.Session.drop_waiting.Goals as goal
 

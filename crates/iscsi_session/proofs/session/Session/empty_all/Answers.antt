@@ -1,10 +1,7 @@
-use Rattle.std.proofs.Common.{sym, arith, ◌∙◌, ◌≡◌, length, true}
-use Rattle.iscsi_window.specs.Windows.{Arrived, number_expected}
-use Rattle.iscsi_session.specs.private.Steps.{is_clear_below}
+use Rattle.iscsi_session.proofs.Names.{sym, arith, ◌∙◌, ◌≡◌, length, true, Arrived, number_expected, is_clear_below, nat_tests}
 use Rattle.iscsi_session.proofs.SinkLemmas.{ended, continued}
 use Rattle.iscsi_session.proofs.EmptyingLemmas.{dropped_all}
 use Rattle.iscsi_session.proofs.session.Session.empty_all.Goals as goal
-use Rattle.std.proofs.lemmas.Bool.Decides.{nat_tests}
 
 pub returns-clause-done : goal.returns-clause-done
 returns-clause-done over c =

@@ -1,6 +1,4 @@
-use Rattle.std.proofs.Common.{◌≡◌, ◌+◌, ◌≤◌, true, length, count_by}
-use Rattle.iscsi_session.specs.private.Standing.{is_held}
-use Rattle.iscsi_session.specs.private.Steps.{Continues, is_clear_below, all_emptied}
+use Rattle.iscsi_session.proofs.Names.{◌≡◌, ◌+◌, ◌≤◌, true, length, count_by, is_held, Continues, is_clear_below, all_emptied}
 use Rattle.iscsi_session.proofs.session.Session.empty_all.Given as goal
 
 -- those that were taken out and those that are still to be are the whole, and the places that were looked at have none

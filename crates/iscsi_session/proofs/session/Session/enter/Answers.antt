@@ -1,17 +1,4 @@
-use Rattle.std.proofs.Common.{rules, w64, refl, ◌≡◌, ◌∙◌, ◌<◌, ◌≤◌, not, cond, ap, sym, false, arith, length, ◌+◌, ℕ, List, [], ◌∷◌, get_or, set, take, drop, ◌++◌, length-set, append_assoc}
-use Rattle.std.proofs.lemmas.Bool.{leb-false}
-use Rattle.std.proofs.lemmas.Bool.Decides.{nat_tests}
-use Rattle.iscsi_slots.specs.Queued.{Queued}
-use Rattle.iscsi_rules.proofs.general.PlaceLemmas.{written}
-use Rattle.std.proofs.lemmas.Int.{to_z-of_z}
-use Rattle.iscsi_wire.specs.declared.request.Request.{Request}
-use Rattle.iscsi_wire.specs.Fields.{is_immediate}
-use Rattle.iscsi_window.specs.Windows.{Arrived}
-use Rattle.iscsi_tasks.specs.Sets.{Members, opened, entered_to, given_by}
-use Rattle.iscsi_commands.specs.declared.live.Live.{Live}
-use Rattle.iscsi_session.specs.private.Standing.{Core}
-use Rattle.iscsi_session.specs.private.Invariant.{IsWindowSound}
-use Rattle.iscsi_session.specs.private.Steps.{new_live, new_task, started}
+use Rattle.iscsi_session.proofs.Names.{rules, w64, refl, ◌≡◌, ◌∙◌, ◌<◌, ◌≤◌, not, cond, ap, sym, false, arith, length, ◌+◌, ℕ, List, [], ◌∷◌, get_or, set, take, drop, ◌++◌, length-set, append_assoc, leb-false, nat_tests, Queued, written, to_z-of_z, Request, is_immediate, Arrived, Members, opened, entered_to, given_by, Live, Core, IsWindowSound, new_live, new_task, started}
 use Rattle.iscsi_session.proofs.CountLemmas.{AreCounted-entered, room_for_one}
 use Rattle.iscsi_session.proofs.KeptLemmas.{Match-entered, roomy_set, few_in}
 use Rattle.iscsi_session.proofs.SoundLemmas.{places_sound, commands_sound, entered_sound}

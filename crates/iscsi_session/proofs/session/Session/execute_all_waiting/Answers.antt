@@ -1,10 +1,7 @@
-use Rattle.std.proofs.Common.{◌∙◌, ap, sym, arith, refl}
-use Rattle.iscsi_session.specs.private.Standing.{Core}
-use Rattle.iscsi_session.specs.private.Deeds.{next_waiting}
+use Rattle.iscsi_session.proofs.Names.{◌∙◌, ap, sym, arith, refl, Core, next_waiting, is_none}
 use Rattle.iscsi_session.proofs.AgendaLemmas.{functions-on, functions-end}
 use Rattle.iscsi_session.proofs.DeedLemmas.{function_stays}
 use Rattle.iscsi_session.proofs.session.Session.execute_all_waiting.Goals as goal
-use Rattle.iscsi_rules.proofs.general.ListLemmas.{is_none}
 
 pub loop-preserved : goal.loop-preserved
 loop-preserved over c =

@@ -1,10 +1,4 @@
-use Rattle.std.proofs.Common.{◌≡◌, ◌≤◌, ◌+◌, ◌*◌, length}
-use Rattle.iscsi_window.specs.Windows.{number_expected}
-use Rattle.iscsi_rules.specs.rules.Settings.{Setting}
-use Rattle.iscsi_rules.specs.rules.Trace.{Trace}
-use Rattle.iscsi_rules.specs.rules.Items.{functions_at}
-use Rattle.iscsi_session.specs.private.Standing.{Agrees}
-use Rattle.iscsi_session.specs.private.Steps.{KeepsPace, owed}
+use Rattle.iscsi_session.proofs.Names.{◌≡◌, ◌≤◌, ◌+◌, ◌*◌, length, number_expected, Setting, Trace, functions_at, Agrees, KeepsPace, owed}
 use Rattle.iscsi_session.proofs.AgendaLemmas.{Leads, left_functions}
 use Rattle.iscsi_session.proofs.session.Session.execute_all_waiting.Given as goal
 

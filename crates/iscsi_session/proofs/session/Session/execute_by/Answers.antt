@@ -1,6 +1,4 @@
-use Rattle.std.proofs.Common.{rules, w64, arith}
-use Rattle.std.proofs.lemmas.Int.{to_z-of_z}
-use Rattle.iscsi_session.specs.private.Deeds.{deed_by}
+use Rattle.iscsi_session.proofs.Names.{rules, w64, arith, to_z-of_z, deed_by}
 use Rattle.iscsi_session.proofs.DeedLemmas.{fits_deed, ready, executed_stays, Stays}
 use Rattle.iscsi_session.proofs.session.Session.execute_by.Goals as goal
 

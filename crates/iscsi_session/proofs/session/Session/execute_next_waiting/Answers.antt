@@ -1,25 +1,9 @@
-use Rattle.std.proofs.Common.{Bool, w64, to_z, ◌≡◌, ◌==◌, ◌≤◌, ◌+◌, ◌∙◌, not, find, filter, Some, length, count_by, pos, ◌-ℤ◌, ℤ, List, refl, ap, arith, append_assoc, eq-eqb, subst}
-use Rattle.std.proofs.lemmas.Int.{ints, to_z_pos}
-use Rattle.iscsi_wire.specs.Serial.{number_of_first}
-use Rattle.iscsi_window.specs.Windows.{number_expected}
-use Rattle.iscsi_slots.specs.Queued.{Queued}
-use Rattle.iscsi_rules.specs.rules.Management.{may_wait}
-use Rattle.iscsi_rules.specs.rules.Deeds.{function_deed}
-use Rattle.iscsi_rules.specs.declared.deed.Deed.{Deed}
-use Rattle.iscsi_session.specs.private.Standing.{Core, is_held}
-use Rattle.iscsi_session.specs.private.Steps.{after_effect, owed}
-use Rattle.iscsi_session.specs.private.Deeds.{Fits, facts_by, carried, next_waiting, next_position, function_taken}
-use Rattle.iscsi_rules.specs.declared.effect.Effect.TheVariants.{Immediate}
-use Rattle.iscsi_session.specs.declared.session.waiting.Waiting.{Waiting}
-use Rattle.iscsi_session.specs.contracts.session.Session.{the_view}
-use Rattle.iscsi_rules.proofs.general.ListLemmas.{find-passes}
-use Rattle.iscsi_rules.proofs.general.CountLemmas.{fewer_left}
+use Rattle.iscsi_session.proofs.Names.{Bool, w64, to_z, ◌≡◌, ◌==◌, ◌≤◌, ◌+◌, ◌∙◌, not, find, filter, Some, length, count_by, pos, ◌-ℤ◌, ℤ, List, refl, ap, arith, append_assoc, eq-eqb, subst, ints, to_z_pos, number_of_first, number_expected, Queued, may_wait, function_deed, Deed, Core, is_held, after_effect, owed, Fits, facts_by, carried, next_waiting, next_position, function_taken, Immediate, Waiting, the_view, find-passes, fewer_left, nat_tests}
 use Rattle.iscsi_session.proofs.DeedLemmas.{Whole, whole, whole_function, fits_function, carried_stays}
 use Rattle.iscsi_session.proofs.SoundLemmas.{fewer_sound}
 use Rattle.iscsi_session.proofs.session.Session.execute_next_waiting.Given.{Over}
 use Rattle.iscsi_session.proofs.session.Session.execute_next_waiting.Goals as goal
 use Rattle.iscsi_session.proofs.session.Session.execute_next_waiting.Goals.{In-Some, After-decide_function-deed}
-use Rattle.std.proofs.lemmas.Bool.Decides.{nat_tests}
 
 -- the number of the next turn, as a cast reads it
 next : (over : Over) (c : In-Some over) → to_z w64 c.turned-number.result ≡ pos (number_expected c.self.inside.window) -ℤ pos (number_of_first c.self.inside.window.first)

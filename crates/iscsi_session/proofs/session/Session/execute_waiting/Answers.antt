@@ -1,11 +1,8 @@
-use Rattle.std.proofs.Common.{◌≡◌, None, arith}
-use Rattle.iscsi_session.specs.private.Deeds.{next_waiting}
-use Rattle.iscsi_rules.proofs.general.ListLemmas.{is_none}
+use Rattle.iscsi_session.proofs.Names.{◌≡◌, None, arith, next_waiting, is_none, nat_tests}
 use Rattle.iscsi_session.proofs.AgendaLemmas.{none_wait}
 use Rattle.iscsi_session.proofs.session.Session.execute_waiting.Given.{Over}
 use Rattle.iscsi_session.proofs.session.Session.execute_waiting.Goals as goal
 use Rattle.iscsi_session.proofs.session.Session.execute_waiting.Goals.{Else-has_due}
-use Rattle.std.proofs.lemmas.Bool.Decides.{nat_tests}
 
 none_due : (over : Over) (c : Else-has_due over) → next_waiting c.args.self.now ≡ None
 none_due over c = grind (arith, nat_tests, is_none)

@@ -1,7 +1,4 @@
-use Rattle.std.proofs.Common.{◌≡◌, ◌∙◌, ◌<◌, ◌++◌, length, take, drop, get_or, set, ap, sym, arith}
-use Rattle.iscsi_tasks.specs.Sets.{opened}
-use Rattle.iscsi_session.specs.private.Steps.{ungiven_in, owed, set_staying, covered_tickets, covers_by, staying, finished_by}
-use Rattle.iscsi_session.specs.private.Standing.{Core}
+use Rattle.iscsi_session.proofs.Names.{◌≡◌, ◌∙◌, ◌<◌, ◌++◌, length, take, drop, get_or, set, ap, sym, arith, opened, ungiven_in, owed, set_staying, covered_tickets, covers_by, staying, finished_by, Core}
 use Rattle.iscsi_session.proofs.KeptLemmas.{ungiven_in-staying, covered_live, without_covered}
 use Rattle.iscsi_session.proofs.SoundLemmas.{sets_written, left_sound}
 use Rattle.iscsi_session.proofs.session.Session.leave.Goals.{After-deref_mut, After-deref}

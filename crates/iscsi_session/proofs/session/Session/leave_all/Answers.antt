@@ -1,9 +1,5 @@
-use Rattle.std.proofs.Common.{◌≡◌, ◌∙◌, ℕ, arith, length-set, refl}
+use Rattle.iscsi_session.proofs.Names.{◌≡◌, ◌∙◌, ℕ, arith, length-set, refl, Core, is_covered, commands_left, cover_of, range_step}
 use Rattle.iscsi_session.proofs.SinkLemmas.{continued}
-use Rattle.iscsi_session.specs.private.Standing.{Core}
-use Rattle.iscsi_tasks.specs.Sets.{is_covered}
-use Rattle.iscsi_session.specs.private.Steps.{commands_left, cover_of}
-use Rattle.iscsi_rules.proofs.general.ListLemmas.{range_step}
 use Rattle.iscsi_session.proofs.session.Session.leave_all.Goals as goal
 
 pub loop-unit-preserved : goal.loop-unit-preserved

@@ -1,7 +1,4 @@
-use Rattle.std.proofs.Common.{◌≡◌, ◌+◌, ◌-◌, ◌≤◌, length}
-use Rattle.std.specs.List.{range_with_len}
-use Rattle.iscsi_tasks.specs.Sets.{is_covered}
-use Rattle.iscsi_session.specs.private.Steps.{Continues, all_commands_left, cover_of, owed}
+use Rattle.iscsi_session.proofs.Names.{◌≡◌, ◌+◌, ◌-◌, ◌≤◌, length, range_with_len, is_covered, Continues, all_commands_left, cover_of, owed}
 use Rattle.iscsi_session.proofs.session.Session.leave_all.Given as goal
 
 -- the units that are done and those that are still to do are the whole

@@ -1,12 +1,4 @@
-use Rattle.std.proofs.Common.{subst, ◌≡◌, ◌∙◌, ◌+◌, ◌≤◌, ◌<◌, ◌++◌, true, Some, List, length, get_or, set, take, drop, ap, sym, arith, length-set, ◌==◌, ◌&&◌, nat_le, nat_lt, ℕ}
-use Rattle.std.proofs.lemmas.Bool.{ltb-true}
-use Rattle.iscsi_tasks.specs.Sets.{Members, opened}
-use Rattle.iscsi_commands.specs.declared.live.Live.{Live}
-use Rattle.iscsi_session.specs.private.Standing.{Core}
-use Rattle.iscsi_session.specs.private.Steps.{find_ticket, without_ticket, enabled_in, staying, finished_by, covers_ticket, set_staying, has_covered, ungiven_in, owed}
-use Rattle.iscsi_rules.proofs.general.BoolLemmas.{and_second}
-use Rattle.iscsi_rules.proofs.general.ListLemmas.{find-passes}
-use Rattle.iscsi_rules.proofs.general.CountLemmas.{fewer}
+use Rattle.iscsi_session.proofs.Names.{subst, ◌≡◌, ◌∙◌, ◌+◌, ◌≤◌, ◌<◌, ◌++◌, true, Some, List, length, get_or, set, take, drop, ap, sym, arith, length-set, ◌==◌, ◌&&◌, nat_le, nat_lt, ℕ, ltb-true, Members, opened, Live, Core, find_ticket, without_ticket, enabled_in, staying, finished_by, covers_ticket, set_staying, has_covered, ungiven_in, owed, and_second, find-passes, fewer}
 use Rattle.iscsi_session.proofs.CountLemmas.{found_ticket}
 use Rattle.iscsi_session.proofs.KeptLemmas.{enabled_found, enabled_covered, ungiven_in-staying, rises, one_live, one_leaves}
 use Rattle.iscsi_session.proofs.SoundLemmas.{sets_written, left_sound}

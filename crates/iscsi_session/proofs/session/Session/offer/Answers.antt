@@ -1,7 +1,4 @@
-use Rattle.std.proofs.Common.{◌≡◌, ◌<◌, ◌-◌, ◌+◌, ◌⊎◌, ⊎_elim, sym, subst, arith, count_by, is_some, true}
-use Rattle.iscsi_wire.specs.Fields.{connection_of}
-use Rattle.iscsi_rules.specs.rules.Settings.{is_known}
-use Rattle.iscsi_session.specs.private.Standing.{Core}
+use Rattle.iscsi_session.proofs.Names.{◌≡◌, ◌<◌, ◌-◌, ◌+◌, ◌⊎◌, ⊎_elim, sym, subst, arith, count_by, is_some, true, connection_of, is_known, Core}
 use Rattle.iscsi_session.proofs.WindowLemmas.{Grown, held_or_same, grown_sound}
 use Rattle.iscsi_session.proofs.SoundLemmas.{window_sound, same_sound}
 use Rattle.iscsi_session.proofs.session.Session.offer.Goals as goal

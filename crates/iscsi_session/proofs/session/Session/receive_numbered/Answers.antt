@@ -1,10 +1,6 @@
-use Rattle.std.proofs.Common.{◌≡◌, ◌∙◌, true, Some, ap, sym, subst, refl, arith}
-use Rattle.iscsi_wire.specs.declared.request.Request.{Request}
-use Rattle.iscsi_session.specs.private.Standing.{Core}
+use Rattle.iscsi_session.proofs.Names.{◌≡◌, ◌∙◌, true, Some, ap, sym, subst, refl, arith, Request, Core, KeepsPace, with_offered, turn_taken, comes_next}
 use Rattle.iscsi_session.proofs.AgreeLemmas.{handled}
 use Rattle.iscsi_session.proofs.AgendaLemmas.{offered_known, carried_at_once, held_handled}
-use Rattle.iscsi_session.specs.private.Steps.{KeepsPace, with_offered}
-use Rattle.iscsi_session.specs.private.Deeds.{turn_taken, comes_next}
 use Rattle.iscsi_session.proofs.WindowLemmas.{held_now, comes_alone, comes_first, Delivered, delivered}
 use Rattle.iscsi_session.proofs.DeedLemmas.{pace-turned, turned_taken}
 use Rattle.iscsi_session.proofs.session.Session.receive_numbered.Goals as goal

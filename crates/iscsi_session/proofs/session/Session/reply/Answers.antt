@@ -1,7 +1,4 @@
-use Rattle.std.proofs.Common.{refl, sym, subst, vec_capacity}
-use Rattle.iscsi_connections.specs.Connected.{Connected}
-use Rattle.iscsi_session.specs.contracts.session.Session.{the_view}
-use Rattle.iscsi_session.specs.private.Invariant.{IsSessionSound}
+use Rattle.iscsi_session.proofs.Names.{refl, sym, subst, vec_capacity, Connected, the_view, IsSessionSound}
 use Rattle.iscsi_session.proofs.SoundLemmas.{replied_sound}
 use Rattle.iscsi_session.proofs.session.Session.reply.Goals as goal
 

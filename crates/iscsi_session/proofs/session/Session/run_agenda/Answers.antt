@@ -1,10 +1,7 @@
-use Rattle.std.proofs.Common.{◌∙◌, ap, sym, refl, arith, count_by}
-use Rattle.iscsi_window.specs.Windows.{at_place}
-use Rattle.iscsi_session.specs.private.Standing.{Core, is_held}
+use Rattle.iscsi_session.proofs.Names.{◌∙◌, ap, sym, refl, arith, count_by, at_place, Core, is_held, nat_tests}
 use Rattle.iscsi_session.proofs.AgendaLemmas.{whole_of, left_before, begun, Leads-functions, turned-one, turns_done}
 use Rattle.iscsi_session.proofs.DeedLemmas.{same_expected, pace-turned, turned_taken}
 use Rattle.iscsi_session.proofs.session.Session.run_agenda.Goals as goal
-use Rattle.std.proofs.lemmas.Bool.Decides.{nat_tests}
 
 pub loop-self-preserved : goal.loop-self-preserved
 loop-self-preserved over c =

@@ -1,8 +1,4 @@
-use Rattle.std.proofs.Common.{◌≤◌, ◌≡◌, ◌+◌, ◌*◌, List, length, count_by, is_some}
-use Rattle.iscsi_rules.specs.rules.Settings.{Setting}
-use Rattle.iscsi_rules.specs.rules.Trace.{Trace, Mark}
-use Rattle.iscsi_session.specs.private.Standing.{is_held}
-use Rattle.iscsi_session.specs.private.Steps.{KeepsPace, owed}
+use Rattle.iscsi_session.proofs.Names.{◌≤◌, ◌≡◌, ◌+◌, ◌*◌, List, length, count_by, is_some, Setting, Trace, Mark, is_held, KeepsPace, owed}
 use Rattle.iscsi_session.proofs.AgendaLemmas.{Leads, left_after}
 use Rattle.iscsi_session.proofs.session.Session.run_agenda.Given as goal
 

@@ -1,7 +1,4 @@
-use Rattle.std.proofs.Common.{◌∙◌, ◌++◌, refl, ap, sym, arith, List, [], ◌∷◌, length, length-append}
-use Rattle.iscsi_rules.specs.declared.effect.Effect.{Effect}
-use Rattle.iscsi_rules.specs.rules.Run.{next_entry}
-use Rattle.iscsi_rules.proofs.promises.NumberingLemmas.{counts_replies}
+use Rattle.iscsi_session.proofs.Names.{◌∙◌, ◌++◌, refl, ap, sym, arith, List, [], ◌∷◌, length, length-append, Effect, next_entry, counts_replies}
 use Rattle.iscsi_session.proofs.AgendaLemmas.{refusal_as}
 use Rattle.iscsi_session.proofs.OpenLemmas.{bound_is}
 use Rattle.iscsi_session.proofs.session.Session.step.Goals as goal

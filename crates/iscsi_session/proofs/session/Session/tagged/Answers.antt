@@ -1,5 +1,4 @@
-use Rattle.std.proofs.Common.{rules, ◌≡◌, ◌==◌}
-use Rattle.iscsi_session.specs.private.Deeds.{tagged_in}
+use Rattle.iscsi_session.proofs.Names.{rules, ◌≡◌, ◌==◌, tagged_in}
 use Rattle.iscsi_session.proofs.KeptLemmas.{passing, find_passing}
 use Rattle.iscsi_session.proofs.session.Session.tagged.Goals as goal
 use Rattle.iscsi_session.proofs.session.Session.tagged.Goals.{After-find_tagged}

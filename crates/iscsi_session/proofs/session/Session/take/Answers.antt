@@ -1,14 +1,4 @@
-use Rattle.std.proofs.Common.{◌≡◌, ◌∙◌, ◌+◌, ap, arith, List, length, ⊎_elim}
-use Rattle.std.proofs.lemmas.List.{length_push}
-use Rattle.iscsi_rules.specs.declared.event.Event.{Event}
-use Rattle.iscsi_rules.specs.rules.Settings.{Setting}
-use Rattle.iscsi_rules.specs.rules.Run.{trace_of}
-use Rattle.iscsi_rules.specs.rules.Agenda.{items_of}
-use Rattle.iscsi_rules.specs.promises.Flow.{HasOneMore}
-use Rattle.iscsi_rules.proofs.traces.RunLemmas.{trace_of-push}
-use Rattle.iscsi_rules.proofs.traces.FlowItems.{belong_more}
-use Rattle.iscsi_session.specs.private.Standing.{Core, StandsFor}
-use Rattle.iscsi_session.specs.private.Steps.{KeepsPace, Handles}
+use Rattle.iscsi_session.proofs.Names.{◌≡◌, ◌∙◌, ◌+◌, ap, arith, List, length, ⊎_elim, length_push, Event, Setting, trace_of, items_of, HasOneMore, trace_of-push, belong_more, Core, StandsFor, KeepsPace, Handles}
 use Rattle.iscsi_session.proofs.PromiseLemmas.{Flows-step}
 use Rattle.iscsi_session.proofs.ManageLemmas.{few}
 use Rattle.iscsi_session.proofs.AgreeLemmas.{settled_numbers}

@@ -1,5 +1,4 @@
-use Rattle.std.proofs.Common.{◌≤◌, cond, arith}
-use Rattle.iscsi_window.specs.Windows.{place_in, is_received_at}
+use Rattle.iscsi_session.proofs.Names.{◌≤◌, cond, arith, place_in, is_received_at}
 use Rattle.iscsi_session.proofs.WindowLemmas.{voided_changes}
 use Rattle.iscsi_session.proofs.SoundLemmas.{window_sound, changed_sound}
 use Rattle.iscsi_session.proofs.session.Session.void_number.Goals as goal

@@ -1,13 +1,6 @@
-use Rattle.std.proofs.Common.{◌≡◌, ◌<◌, ◌+◌, ◌-◌, nat_lt, true, refl, ap, arith}
-use Rattle.std.proofs.lemmas.Bool.Decides.{nat_tests}
-use Rattle.std.proofs.lemmas.List.Folds.{list_all-append}
-use Rattle.iscsi_slots.specs.Queued.{Queued}
-use Rattle.iscsi_session.specs.declared.session.waiting.Waiting.{Waiting}
-use Rattle.iscsi_session.specs.private.Deeds.{Fits}
-use Rattle.iscsi_rules.specs.declared.deed.Deed.TheVariants.{Wait}
+use Rattle.iscsi_session.proofs.Names.{◌≡◌, ◌<◌, ◌+◌, ◌-◌, nat_lt, true, refl, ap, arith, nat_tests, list_all-append, Queued, Waiting, Fits, Wait, the_view}
 use Rattle.iscsi_session.proofs.ManageLemmas.{Waits, waits_more}
 use Rattle.iscsi_session.proofs.SoundLemmas.{functions_sound}
-use Rattle.iscsi_session.specs.contracts.session.Session.{the_view}
 use Rattle.iscsi_session.proofs.session.Session.wait.Given.{Over}
 use Rattle.iscsi_session.proofs.session.Session.wait.Goals as goal
 use Rattle.iscsi_session.proofs.session.Session.wait.Goals.{After-exp}

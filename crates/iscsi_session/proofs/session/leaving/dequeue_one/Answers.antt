@@ -1,7 +1,4 @@
-use Rattle.std.proofs.Common.{◌≡◌, ◌∙◌, ◌++◌, List, [], ◌∷◌, ap, sym, get_or}
-use Rattle.std.proofs.lemmas.List.{get_or_default}
-use Rattle.iscsi_tasks.specs.Sets.{Members, opened}
-use Rattle.iscsi_session.specs.private.Steps.{has_covered, covers_ticket}
+use Rattle.iscsi_session.proofs.Names.{◌≡◌, ◌∙◌, ◌++◌, List, [], ◌∷◌, ap, sym, get_or, get_or_default, Members, opened, has_covered, covers_ticket}
 use Rattle.iscsi_session.proofs.KeptLemmas.{one_leaving, noted}
 use Rattle.iscsi_session.proofs.session.leaving.dequeue_one.Goals as goal
 use Rattle.iscsi_session.proofs.session.leaving.dequeue_one.Goals.{After-is_some}

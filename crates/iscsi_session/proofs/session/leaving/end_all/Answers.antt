@@ -1,16 +1,9 @@
-use Rattle.std.proofs.Common.{◌∙◌, ◌<◌, ◌≤◌, ◌==◌, ℕ, not, List, length, count_by, get_or, ap, sym, arith, rules, [], ◌∷◌}
-use Rattle.std.specs.Prelude.{IsSome}
-use Rattle.iscsi_rules.proofs.general.ListLemmas.{fewer_counted, list_all-filter}
-use Rattle.iscsi_commands.specs.declared.live.Live.{Live}
-use Rattle.iscsi_rules.specs.declared.effect.Effect.TheVariants.{Leave}
+use Rattle.iscsi_session.proofs.Names.{◌∙◌, ◌<◌, ◌≤◌, ◌==◌, ℕ, not, List, length, count_by, get_or, ap, sym, arith, rules, [], ◌∷◌, IsSome, fewer_counted, list_all-filter, Live, Leave, leave_each, find_ticket, without_ticket, is_numbered, is_known, nat_tests}
 use Rattle.iscsi_session.proofs.SinkLemmas.{started, continued}
-use Rattle.iscsi_session.specs.private.Steps.{leave_each, find_ticket, without_ticket, is_numbered}
 use Rattle.iscsi_session.proofs.KeptLemmas.{ascending-kept, without_none, without_more, leave_next, there_yet, finished_none, finished_on, without_shorter}
-use Rattle.iscsi_rules.specs.rules.Settings.{is_known}
 use Rattle.iscsi_session.proofs.session.leaving.end_all.Goals.{In-loop-k}
 use Rattle.iscsi_session.proofs.session.leaving.end_all.Given.{Over}
 use Rattle.iscsi_session.proofs.session.leaving.end_all.Goals as goal
-use Rattle.std.proofs.lemmas.Bool.Decides.{nat_tests}
 
 pub loop-k-init : goal.loop-k-init
 loop-k-init over c = search (rules, arith, sym (without_none c.args.live.now.items), sym (finished_none c.args.window.now c.args.live.now.items), started {has = over.S.EffectSink.has} {whole = leave_each c.args.unit c.args.tickets.now} {out = c.args.out.now})

@@ -1,6 +1,4 @@
-use Rattle.std.proofs.Common.{◌≡◌, ◌+◌, ◌≤◌, true, length, count_by, take, drop}
-use Rattle.iscsi_session.specs.private.Standing.{are_ascending, are_known}
-use Rattle.iscsi_session.specs.private.Steps.{Continues, AreCounted, is_numbered, finished_by, leave_each, without_tickets}
+use Rattle.iscsi_session.proofs.Names.{◌≡◌, ◌+◌, ◌≤◌, true, length, count_by, take, drop, are_ascending, are_known, Continues, AreCounted, is_numbered, finished_by, leave_each, without_tickets}
 use Rattle.iscsi_session.proofs.session.leaving.end_all.Given as goal
 
 -- those are over whose tickets came so far

@@ -1,5 +1,4 @@
-use Rattle.std.proofs.Common.{ℕ, not, cond, ap, arith}
-use Rattle.iscsi_session.specs.private.Steps.{is_numbered}
+use Rattle.iscsi_session.proofs.Names.{ℕ, not, cond, ap, arith, is_numbered}
 use Rattle.iscsi_session.proofs.CountLemmas.{count-left}
 use Rattle.iscsi_session.proofs.session.leaving.end_command.Goals as goal
 

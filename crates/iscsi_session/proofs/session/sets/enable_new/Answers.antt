@@ -1,5 +1,4 @@
-use Rattle.std.proofs.Common.{◌∙◌, sym, arith, [], ◌∷◌}
-use Rattle.iscsi_rules.specs.declared.effect.Effect.TheVariants.{Enable}
+use Rattle.iscsi_session.proofs.Names.{◌∙◌, sym, arith, [], ◌∷◌, Enable}
 use Rattle.iscsi_session.proofs.SinkLemmas.{continued, ended}
 use Rattle.iscsi_session.proofs.KeptLemmas.{given_one, given_all}
 use Rattle.iscsi_session.proofs.session.sets.enable_new.Goals as goal

@@ -1,6 +1,4 @@
-use Rattle.std.proofs.Common.{◌≡◌, ◌+◌, count_by, ◌≤◌}
-use Rattle.iscsi_tasks.specs.Sets.{is_new}
-use Rattle.iscsi_session.specs.private.Steps.{Continues, all_given, enable_effects}
+use Rattle.iscsi_session.proofs.Names.{◌≡◌, ◌+◌, count_by, ◌≤◌, is_new, Continues, all_given, enable_effects}
 use Rattle.iscsi_session.proofs.session.sets.enable_new.Given as goal
 
 -- what was given and what is new still are the whole

@@ -1,5 +1,4 @@
-use Rattle.std.proofs.Common.{◌≡◌, ◌≤◌, replicate, vec_capacity}
-use Rattle.iscsi_tasks.specs.Sets.{opened}
+use Rattle.iscsi_session.proofs.Names.{◌≡◌, ◌≤◌, replicate, vec_capacity, opened}
 use Rattle.iscsi_session.proofs.session.sets.open.Given as goal
 
 -- so many sets are open

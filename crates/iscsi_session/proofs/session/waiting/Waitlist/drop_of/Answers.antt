@@ -1,9 +1,4 @@
-use Rattle.std.proofs.Common.{rules, ◌≡◌, ◌<◌, filter, not}
-use Rattle.std.proofs.lemmas.Fn.{filter_same}
-use Rattle.std.proofs.lemmas.List.Kept.{AllPairs-filter}
-use Rattle.iscsi_wire.specs.Fields.{connection_of}
-use Rattle.iscsi_window.specs.Windows.{is_asked}
-use Rattle.iscsi_session.specs.declared.session.waiting.Waiting.{Waiting}
+use Rattle.iscsi_session.proofs.Names.{rules, ◌≡◌, ◌<◌, filter, not, filter_same, AllPairs-filter, connection_of, is_asked, Waiting}
 use Rattle.iscsi_session.proofs.session.waiting.Waitlist.drop_of.Goals as goal
 use Rattle.iscsi_session.proofs.session.waiting.Waitlist.drop_of.Goals.{After-retain}
 

@@ -1,6 +1,4 @@
-use Rattle.std.proofs.Common.{◌≡◌, ◌==◌, find, arith, None}
-use Rattle.std.proofs.lemmas.Bool.Decides.{nat_tests}
-use Rattle.iscsi_session.specs.declared.session.waiting.Waiting.{Waiting}
+use Rattle.iscsi_session.proofs.Names.{◌≡◌, ◌==◌, find, arith, None, nat_tests, Waiting}
 use Rattle.iscsi_session.proofs.ManageLemmas.{none_due}
 use Rattle.iscsi_session.proofs.session.waiting.Waitlist.has_due.Goals as goal
 

@@ -1,15 +1,6 @@
-use Rattle.std.proofs.Common.{◌≡◌, ◌<◌, ◌==◌, ◌∙◌, position, remove, length, get_or, [], Some, None, List, arith, ap, sym}
-use Rattle.std.proofs.lemmas.List.Quantifiers.{position-Some, all_pairs_remove}
-use Rattle.std.proofs.lemmas.Bool.{ltb-true, ltb-false}
-use Rattle.std.proofs.lemmas.List.Edits.{get_or-remove_below, get_or-remove_above, length-remove}
-use Rattle.std.specs.VecDeque.{deque_capacity}
-use Rattle.iscsi_slots.specs.Queued.{queued}
-use Rattle.iscsi_slots.proofs.SortedLemmas.{remove_is}
-use Rattle.iscsi_rules.proofs.general.PlaceLemmas.{found_there, found_nowhere}
-use Rattle.iscsi_session.specs.declared.session.waiting.Waiting.{Waiting}
+use Rattle.iscsi_session.proofs.Names.{◌≡◌, ◌<◌, ◌==◌, ◌∙◌, position, remove, length, get_or, [], Some, None, List, arith, ap, sym, position-Some, all_pairs_remove, ltb-true, ltb-false, get_or-remove_below, get_or-remove_above, length-remove, deque_capacity, queued, remove_is, found_there, found_nowhere, Waiting, nat_tests}
 use Rattle.iscsi_session.proofs.session.waiting.Waitlist.take_first.Goals as goal
 use Rattle.iscsi_session.proofs.session.waiting.Waitlist.take_first.Goals.{In-Some}
-use Rattle.std.proofs.lemmas.Bool.Decides.{nat_tests}
 
 -- some function, for where a list is empty
 some_waiting : Waiting
