@@ -1,14 +1,13 @@
 -- The agenda: what is left of it, function by function and number by number.
 use Rattle.iscsi_session.proofs.Names.{eq-eqb, inl, ◌≡◌, ℕ, ◌+◌, ◌-◌, ◌<◌, ◌≤◌, ◌==◌, ◌&&◌, ◌||◌, not, cond, Bool, true, false, List, [], ◌∷◌, ◌++◌, filter, Option, Some, None, option_map, refl, ap, sym, ◌∙◌, arith, nat_lt, nat_le, is_some, subst, append_assoc, inr, ⊎_elim, find, list_any, filter_map, list_all, cases_Bool, nat_tests, append-nil, Request, lift, number_of_first, connection_of, is_immediate, itt, cmd_sn, Offer, Held, OutsideWindow, Known, Member, is_enabled_in, number_expected, room_of, at_place, offer_to, turned_on, advanced_if, advanced, Outside, Duplicate, Stale, Closed, Data, Event, Done, Setting, is_known, Arrival, Command, Mark, Admits, Trace, first_of, is_received, live, live_in, was_free, is_among, received, after_items, number_received, is_closed, exp_of, max_of, completion, sense_of_status, rejected, reply_of, with_turns, numbered, arrival_of, command_of, items_of, belongs, kind_of, arrival_as, arrival_open, arrival, agenda, item_of, function_item, functions_at, turn_at, immediate_item, newly_enabled, effects_of, effects_of_item, SessionFault, refusal_of, Core, kept, is_regular, IsRegularRequest, member_of, Agrees, Settled, StandsFor, arrival_waiting, is_gone, find_ticket, comes_on, set_at, with_offered, enabled_of, enabled_in, covers_ticket, left_answered, completed, Step, Appends, Continues, Runs, Handles, count_reply, is_among_open, Takes, unchanged, replied, not_flip, list_any-map, is_known-cids, filter-swap, list_all-filter, find-passes, filtered_among, is_none, enables, newly-untouched, wire-lift, first_passing, none_passing, ticket_alone, untouched-admits, completion_item, first_passes, quiet-completion, LeavesSome, Task, Reply, Scsi, list_all-map, HeldRequest, Effect, Waiting, may_wait, turn_taken, next_waiting, function_taken, arrival_by, comes_next, immediate_taken, after_items-append, expected_past, turn_receives_none, function_receives_none, functions_receive_none, immediate_receives_one, agenda-halves, effects_of-append, same_exp, turns, turns-more, PassedOver, Unknown, ExecutesKind, HasOneMore, RejectAnswer}
 use Rattle.iscsi_session.specs.private.Steps.{refusal_by}
-use Rattle.iscsi_session.proofs.WindowParts.{WindowAgrees-quiet, Next, next_request, passed_at, WindowAgrees-passed, read_inside}
+use Rattle.iscsi_session.proofs.WindowLemmas.{WindowAgrees-quiet, Next, next_request, passed_at, WindowAgrees-passed, read_inside, held_now, comes_alone, Delivered, delivered}
 use Rattle.iscsi_session.proofs.AgreeLemmas.{find_kept, Regular, regular_parts, regular_live, settled_expected, settled_max, Stepped, Stepped-ignored, step_ignored, Agrees-admitted, known_of, Agrees-untouched, RepliesAgree-sent}
 use Rattle.iscsi_session.proofs.ExecutionLemmas.{covered_in, gone_tickets, Leaving, leaving-agrees, leaving-effects, Follows, numbered_held}
-use Rattle.iscsi_session.proofs.SinkLemmas.{started, continued, ended}
-use Rattle.iscsi_session.proofs.ManageLemmas.{next_function, no_function}
+use Rattle.iscsi_session.proofs.KeptLemmas.{started, continued, ended}
+use Rattle.iscsi_session.proofs.SoundLemmas.{next_function, no_function}
 use Rattle.iscsi_session.proofs.FunctionLemmas.{turned-item, waited-item, immediate-item}
 use Rattle.iscsi_session.proofs.DeedLemmas.{stays_expected, executed_stays, function_stays, immediate_same}
-use Rattle.iscsi_session.proofs.WindowLemmas.{held_now, comes_alone, Delivered, delivered}
 
 -- ==== an arrival, a completion, and an event as a whole
 

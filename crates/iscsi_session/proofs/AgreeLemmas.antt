@@ -1,7 +1,7 @@
 -- A session that agrees with what has happened agrees after one item more.
 use Rattle.iscsi_session.proofs.Names.{◌≡◌, ℕ, ◌==◌, ◌&&◌, ◌||◌, not, cond, Bool, true, false, List, [], ◌∷◌, ◌++◌, map, filter, refl, ap, sym, ◌∙◌, arith, ◌+◌, ◌<◌, length, option_map, eq-eqb, get_or, set, length-set, ◌-◌, ◌≤◌, nat_lt, subst, eqb-true, ne_eqb, false≢true, ltb-true, append-nil, map-append, length_push, get_or-set_same, get_or-set_other, Member, is_free_among, looked_at, after_moment, next_in, given_in, Members, opened, entered_to, given_by, Enable, Ignore, Setting, is_known, Command, Mark, Trace, live, live_in, was_free, has, entered, leaves_ticket, is_among, first_of, sent_on, Arrival, Admits, Ignores, after_items, waiting, is_received, received, task_of, member_of, set_of, open_of, kept, is_regular, CommandsAgree, SetsAgree, stat_sn_on, RepliesAgree, Core, WaitingAgrees, WindowAgrees, IsRegularRequest, Lasting, Agrees, Settled, as_given, enable_effects, enable_effect, find_ticket, count_reply, Step, Appends, Handles, numbers_by, and_parts, or_comm, list_all-filter, all_of_filter, filter-map, map-map, map_all, is_known-cids, count_by-push, enables, all_here, filter-twice, is_here, new_in, new_in-more, was_free-stays, Untouched, never_free, live_in-untouched, newly-untouched, was_before, newly-one, EnabledSoFar-more, enabled_once, exact_now, same_enabled, shown-before, shown-item, EnabledSoFar-untouched, nat_tests, is_open, filter-same, filter-true, live-enters, weaker, ClosesNone, closed-same, list_all, filter_map, list_any, filter-append, list_any-append, Live, eq_sym, unamong-filter, apart-push, apart-filter, EntersOne, LeavesSome, live-left, unfinished-untouched, untouched-admits, Task, newly_enabled, effects_of, numbers_of, wire, wire-next, EnabledSoFar, connection_of, Arrived, number_expected, room_of, Effect, Why, exp_of, max_of, ignored, HasOneMore, Waiting, ignored_receives, IsQuiet, quiet-ignored}
-use Rattle.iscsi_session.proofs.CountLemmas.{list_all-push, cids-count_reply}
-use Rattle.iscsi_session.proofs.WindowParts.{next_expected, WindowAgrees-quiet, with_held, WindowAgrees-admitted}
+use Rattle.iscsi_session.proofs.KeptLemmas.{list_all-push, cids-count_reply}
+use Rattle.iscsi_session.proofs.WindowLemmas.{next_expected, WindowAgrees-quiet, with_held, WindowAgrees-admitted}
 
 -- ==== which commands were free at some moment, after one item more
 

@@ -50,13 +50,10 @@ of_named units r unit none some named = sym (ap (λ x. of_unit x none some) name
 
 fits : (s : Core) (r : Request) (d : Deed) → Befits (facts_by s r) r d → Fits s r d
 fits s r Wait b = absurd b
-fits s r (Enter unit) b = grind (arith, nat_tests, named_below, of_named)
 fits s r Void b = b.1
-fits s r (Empty unit sn) b = grind (arith, nat_tests, named_below, of_named)
-fits s r (Abort unit ticket) b = grind (arith, nat_tests, named_below, of_named)
 fits s r (AbortEarlier unit) b = named_below (length s.sets) r unit b.0
 fits s r (AbortAll unit) b = named_below (length s.sets) r unit b
-fits s r _ b = tt
+fits s r d b = grind (arith, nat_tests, named_below, of_named)
 
 pub fits_function : (s : Core) (r : Request) → Fits s r (function_deed (facts_by s r) r)
 fits_function s r = fits s r _ (befits_function (facts_by s r) r)
@@ -119,24 +116,22 @@ left_stays : (s : Core) (r : Request) (unit : ℕ) (covers : Task → Bool) → 
 left_stays s r unit covers = omega (arith, fewer_counted is_numbered (λ l. not (is_gone covers (set_at s unit) l.ticket)) s.live)
 
 pub carried_stays : (s : Core) (r : Request) (number : ℤ) (event : ℕ) (d : Deed) → Fits s r d → Stays (begins r d) s (carried s r number event d).core
-carried_stays s r number event (Enter unit) fits = grind arith
 carried_stays s r number event Void fits = omega (arith, voided_changes s.window (ref_cmd_sn r) (missing_parts s r fits).1)
 carried_stays s r number event (Empty unit sn) fits = omega (arith, emptied_changes s.window sn)
+carried_stays s r number event (CloseConn closing) fits = (logged_out_parts s r (Some closing)).0
+carried_stays s r number event CloseSession fits = (logged_out_parts s r None).0
 carried_stays s r number event (Abort unit ticket) fits = left_stays s r unit (covers_ticket ticket)
 carried_stays s r number event (AbortEarlier unit) fits = left_stays s r unit (is_covered (Below number event))
 carried_stays s r number event (AbortAll unit) fits = left_stays s r unit (is_covered AllOfThem)
-carried_stays s r number event (CloseConn closing) fits = (logged_out_parts s r (Some closing)).0
-carried_stays s r number event CloseSession fits = (logged_out_parts s r None).0
-carried_stays s r number event _ fits = omega arith
+carried_stays s r number event d fits = grind arith
 
 -- a numbered request voids no number
 pub carried_counted : (s : Core) (r : Request) (number : ℤ) (event : ℕ) (d : Deed) → Fits s r d → is_immediate r ≡ false → count_by is_some (carried s r number event d).core.window.places ≡ count_by is_some s.window.places
 carried_counted s r number event Void fits numbered = absurd (false≢true (sym numbered ∙ (missing_parts s r fits).0))
-carried_counted s r number event (Enter unit) fits numbered = grind arith
 carried_counted s r number event (Empty unit sn) fits numbered = let g = emptied_changes s.window sn in omega (arith, g.counted)
 carried_counted s r number event (CloseConn closing) fits numbered = (logged_out_parts s r (Some closing)).1
 carried_counted s r number event CloseSession fits numbered = (logged_out_parts s r None).1
-carried_counted s r number event _ fits numbered = refl
+carried_counted s r number event d fits numbered = grind arith
 
 -- ==== what a turn leaves as it was, and a function that has waited: the numbers that have turned, and the events. A turn begins one command at the most
 
@@ -176,8 +171,7 @@ immediate_is s r d other = grind (arith, nat_tests)
 
 -- it takes out no more than is held
 pub emptied_most : (s : Core) (d : Deed) → most_emptied s d ≤ count_by is_held s.window.places
-emptied_most s (CloseConn conn) = omega arith
-emptied_most s _ = omega arith
+emptied_most s d = grind arith
 
 pub ruleset arrival_steps = (false≢true, fits_arrival, ready, at_once_stays, immediate_is, emptied_most, nat_tests)
 
@@ -211,9 +205,8 @@ pace-turned s = by_place (at_place s.window 0) refl
         omega (arith, executed_stays (record s { window = advanced s.window }) h.request h.event, turned, same)
 
 pub turned_taken : (s : Core) (p : Option (Option HeldRequest)) → (turn_taken s p).core.taken ≡ s.taken
-turned_taken s None = refl
-turned_taken s (Some None) = refl
 turned_taken s (Some (Some h)) = (executed_stays (record s { window = advanced s.window }) h.request h.event).taken
+turned_taken s p = grind arith
 
 -- ---- a number that code reads
 

@@ -1,7 +1,7 @@
 -- A request executes: it is answered, a command enters, or nothing more happens.
 use Rattle.iscsi_session.proofs.Names.{⊎_elim, ◌≡◌, ℕ, ◌+◌, ◌<◌, not, cond, Bool, true, false, List, [], ◌∷◌, length, map, count_by, get_or, None, refl, ap, sym, ◌∙◌, arith, Some, ◌-◌, ◌≤◌, ◌==◌, ◌&&◌, ◌++◌, filter, set, append_assoc, cases_Bool, cond_both, lt-ltb, eqb-true, append-nil, get_or-set_same, set-set, Reply, connection_of, is_immediate, itt, Arrived, number_expected, at_place, turned_on, with_unfinished, opened, Members, Effect, Setting, is_known, Arrival, Command, Mark, Enters, Sends, Trace, waiting, waiting_by, enters, leaves_ticket, sent_on, entered, live, live_in, Delivers, Leaves, is_among, are_apart, unfinished, reply_of, reply_on, next_command, effects_of_mark, effects_of_item, newly_enabled, stat_sn_of, Core, kept, is_regular, task_of, member_of, WindowAgrees, RepliesAgree, SetsAgree, WaitingAgrees, Lasting, Agrees, set_of, CommandsAgree, count_reply, Step, unchanged, after_effect, replied, new_live, number_by, event_by, new_task, started, command_entered, set_staying, covered_tickets, set_at, as_given, all_given, enable_effects, is_numbered, is_gone, staying, leave_each, has_covered, left_answered, and_both, and_parts, and_comm, alike, alike_same, count_by-map, count_by-push, list_any-map, list_all-filter, any_filter, any_same, fewer_counted, map_all, filter-map, map-map, none_out, IsQuiet, never_free, Untouched, newly-untouched, filter_all, filter-twice, is_here, all_here, new_in, new_in-none, ClosesNone, closes-more, EntersOne, LeavesSome, live_in-left, live_in-left_elsewhere, are_all_in, among_passing, leaving-calm, leaving-closes, leaving-enters, leaving-sends, leaving-shown, leaving-tickets, quiet-leaving, quiet_none, quiet_sends, quiet_enters, HeldRequest, Deliver, Leave, Send, Respond, held-number, admitted_of_held, filter_map, TaskReply, Task, Live, weaker, unamong-filter, apart-filter, enables, EnabledSoFar-left, newly-one, nat_tests}
 use Rattle.iscsi_session.proofs.AgreeLemmas.{open_of-same, RepliesAgree-quiet, RepliesAgree-sent, EnabledSoFar-entered, live-entered, CommandsAgree-entered, Agrees-untouched, SetEntry, SetsAgree-entered, set_of-same, noted_given, noted_effects, CommandsAgree-left, set-changed, units_live}
-use Rattle.iscsi_session.proofs.WindowParts.{Turned, WindowAgrees-started, Next, WindowAgrees-turned}
+use Rattle.iscsi_session.proofs.WindowLemmas.{Turned, WindowAgrees-started, Next, WindowAgrees-turned}
 
 -- ---- an execution
 

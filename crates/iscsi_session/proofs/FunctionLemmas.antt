@@ -4,8 +4,8 @@ use Rattle.iscsi_rules.specs.declared.deed.Deed.TheVariants.{Reply}
 use Rattle.iscsi_session.proofs.AgreeLemmas.{CommandsAgree-untouched, SetsAgree-untouched, RepliesAgree-sent, settled_expected, settled_max, Agrees-untouched, Agrees-waits}
 use Rattle.iscsi_session.proofs.FindLemmas.{tagged_in-is, Found, numbered_deed, Found-arrived, Found-turned}
 use Rattle.iscsi_session.proofs.ExecutionLemmas.{Begun, untouched-begun, Follows, nothing_more, answered, enters_unit, covered_in, leaving-item, turned_core, numbered_held, turn-begun}
-use Rattle.iscsi_session.proofs.LogoutItem.{open_same, session_ends, conn_closes}
-use Rattle.iscsi_session.proofs.WindowParts.{Next, Turned, WindowAgrees-quiet, inside_bounds, WindowAgrees-voided, WindowAgrees-emptied, VoidedAt, voided_at, emptied_at}
+use Rattle.iscsi_session.proofs.LogoutLemmas.{open_same, session_ends, conn_closes}
+use Rattle.iscsi_session.proofs.WindowLemmas.{Next, Turned, WindowAgrees-quiet, inside_bounds, WindowAgrees-voided, WindowAgrees-emptied, VoidedAt, voided_at, emptied_at}
 use Rattle.iscsi_session.proofs.DeedLemmas.{fits_deed, fits_function, is_of_number, missing_parts, is_whole, whole_function, immediate_is}
 
 -- ==== a session finds what the definitions find, and so it does what they say

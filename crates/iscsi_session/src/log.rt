@@ -15,7 +15,7 @@ use std::alloc::Global;
 /// Opens a session and takes the events, one after the other.
 ///
 /// The refusal of the options, or else of the first event that is refused, is the answer.
-#[tactic(auto, using(crate::proofs::RefusalLemmas::options_refused, crate::proofs::RefusalLemmas::event_refused, crate::proofs::RefusalLemmas::taken_none, std::proofs::lemmas::Result::err_from_is_err_and, std::proofs::lemmas::Bool::Decides::nat_tests))]
+#[tactic(auto, using(crate::proofs::RunLemmas::options_refused, crate::proofs::RunLemmas::event_refused, crate::proofs::RunLemmas::taken_none, std::proofs::lemmas::Result::err_from_is_err_and, std::proofs::lemmas::Bool::Decides::nat_tests))]
 pub fn run(alloc: Global, options: Options, events: &[Event]) -> Result<Log, SessionFault>
     ensures log { IfOk result (λ log. log.items ≡ run_of (setting_of options) events.now) }
 

@@ -170,7 +170,7 @@ impl Session {
     /// The most effects that the next event gives.
     ///
     /// For a window of W and C connections it is never more than 12 (W + 4 C + 1) + 2 (W + 8 C).
-    #[tactic(auto, using(crate::proofs::OpenLemmas::bound_is, crate::proofs::OpenLemmas::conns_same, crate::proofs::ManageLemmas::few_steps, std::proofs::lemmas::Bool::Decides::nat_tests))]
+    #[tactic(auto, using(crate::proofs::RunLemmas::bound_is, crate::proofs::RunLemmas::conns_same, crate::proofs::SoundLemmas::few_steps, std::proofs::lemmas::Bool::Decides::nat_tests))]
     pub fn effect_bound(&self) -> usize
         ensures bound { (o : Setting) (h : List Event) → StandsFor o self.now h →
             result ≡ effect_bound_of o (trace_of o h) }
@@ -187,7 +187,7 @@ impl Session {
     /// as they were. With `effect_bound()` places spare in `out`, memory isn't asked for.
     // It is inlined, so that its caller has the numbers in registers: it would wait for them if they came by memory.
     #[inline(always)]
-    #[tactic(auto, using(crate::proofs::PromiseLemmas::promises, crate::proofs::AgendaLemmas::refusal_as, crate::proofs::OpenLemmas::bound_is, std::proofs::lemmas::Bool::Decides::nat_tests))]
+    #[tactic(auto, using(crate::proofs::RunLemmas::promises, crate::proofs::AgendaLemmas::refusal_as, crate::proofs::RunLemmas::bound_is, std::proofs::lemmas::Bool::Decides::nat_tests))]
     pub fn step(&mut self, event: &Event, out: &mut Vec<Effect>) -> Result<Numbers, SessionFault>
         // Whatever list of events the session stands for, it stands for that list and the event.
         ensures stands { (o : Setting) (h : List Event) → StandsFor o self.old h →
@@ -255,7 +255,7 @@ impl Session {
     /// Takes an event that isn't refused, and hands its effects to `out`, which has room for as many as any event gives
     /// or for `effect_bound()` more.
     #[inline(always)]
-    #[tactic(auto, using(crate::proofs::ManageLemmas::owed_few, std::proofs::lemmas::Bool::Decides::nat_tests))]
+    #[tactic(auto, using(crate::proofs::SoundLemmas::owed_few, std::proofs::lemmas::Bool::Decides::nat_tests))]
     fn take<S: EffectSink>(&mut self, event: &Event, out: &mut S) -> Numbers
         requires taken { refusal_by self.old event.now ≡ None }
         requires room { (S.len out.old + 18444 ≤ S.capacity out.old) ⊎ (S.len out.old
@@ -308,7 +308,7 @@ impl Session {
     ///
     /// Refusals, in order: `UnknownConnection`, `Exhausted`. Each leaves the session and `sink` as they were.
     #[inline(always)]
-    #[tactic(auto, using(crate::proofs::RefusalLemmas::not_memory, crate::proofs::AgendaLemmas::refusal_as, std::proofs::lemmas::Bool::Decides::nat_tests))]
+    #[tactic(auto, using(crate::proofs::RunLemmas::not_memory, crate::proofs::AgendaLemmas::refusal_as, std::proofs::lemmas::Bool::Decides::nat_tests))]
     pub fn step_into<S: EffectSink>(
         &mut self,
         event: &Event,

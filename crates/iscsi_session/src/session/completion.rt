@@ -51,7 +51,7 @@ impl Session {
     }
 
     /// The live command with this ticket leaves, if it is enabled in the set of its unit.
-    #[tactic(auto, using(iscsi_rules::proofs::traces::TraceLemmas::weaker, iscsi_rules::proofs::general::BoolLemmas::and_second, crate::proofs::KeptLemmas::enabled_found, crate::proofs::CountLemmas::found_ticket, std::proofs::lemmas::Bool::Decides::nat_tests))]
+    #[tactic(auto, using(iscsi_rules::proofs::traces::TraceLemmas::weaker, iscsi_rules::proofs::general::BoolLemmas::and_second, crate::proofs::KeptLemmas::enabled_found, crate::proofs::KeptLemmas::found_ticket, std::proofs::lemmas::Bool::Decides::nat_tests))]
     #[inline(always)]
     fn leave_enabled<S: EffectSink>(&mut self, ticket: u64, out: &mut S) -> Option<Live>
         requires room { S.len out.old + owed self.old.live self.old.sets ≤ S.capacity out.old }
@@ -78,7 +78,7 @@ impl Session {
 
 /// The live command with this ticket leaves the set of its unit, if it is enabled there. It is still among the live ones.
 #[inline(always)]
-#[tactic(auto, using(crate::proofs::CountLemmas::found_steps, crate::proofs::KeptLemmas::one_leaving, std::proofs::lemmas::List::get_or_default, std::proofs::lemmas::Bool::Decides::nat_tests))]
+#[tactic(auto, using(crate::proofs::KeptLemmas::found_steps, crate::proofs::KeptLemmas::one_leaving, std::proofs::lemmas::List::get_or_default, std::proofs::lemmas::Bool::Decides::nat_tests))]
 fn take_enabled(sets: &mut [LinkedTaskSet], live: &LiveCommands, ticket: u64) -> Option<Live>
     requires units { list_all (λ l. nat_lt l.unit (length sets.old)) live.now.items ≡ true }
     ensures command { result ≡ enabled_in sets.old live.now.items ticket }

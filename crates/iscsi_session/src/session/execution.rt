@@ -132,7 +132,7 @@ impl Session {
 
     /// Does what a request does that executes, by which alone that changes anything. Its number less the first CmdSN is this
     /// one, and it arrived in this event.
-    #[tactic(auto, using(crate::proofs::DeedLemmas::carried_stays, crate::proofs::ManageLemmas::owed_entered, crate::proofs::DeedLemmas::numbers_read))]
+    #[tactic(auto, using(crate::proofs::DeedLemmas::carried_stays, crate::proofs::SoundLemmas::owed_entered, crate::proofs::DeedLemmas::numbers_read))]
     #[inline(always)]
     pub(crate) fn carry_out<S: EffectSink>(
         &mut self,
@@ -225,7 +225,7 @@ impl Session {
     /// A command enters the set of a unit, which has room for it. No live command has its tag, and its number less the first
     /// CmdSN is this one.
     #[inline(never)]
-    #[tactic(auto, using(crate::proofs::KeptLemmas::newest_in, crate::proofs::ManageLemmas::all_before, std::proofs::lemmas::Bool::Decides::nat_tests))]
+    #[tactic(auto, using(crate::proofs::KeptLemmas::newest_in, crate::proofs::SoundLemmas::all_before, std::proofs::lemmas::Bool::Decides::nat_tests))]
     fn enter<S: EffectSink>(&mut self, request: &Request, unit: u16, pos: i64, out: &mut S)
         requires space { is_immediate request.now ≡ false → HasRoom self.old.window }
         requires few { is_immediate request.now ≡ true →

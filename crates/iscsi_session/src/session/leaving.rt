@@ -25,7 +25,7 @@ pub(crate) enum Leaving {
 
 impl Session {
     /// These commands of a unit leave, the oldest first.
-    #[tactic(auto, using(crate::proofs::KeptLemmas::few_in, crate::proofs::CountLemmas::few_live, crate::proofs::KeptLemmas::covered_up, crate::proofs::KeptLemmas::rises, std::proofs::lemmas::Bool::Decides::nat_tests))]
+    #[tactic(auto, using(crate::proofs::KeptLemmas::few_in, crate::proofs::KeptLemmas::few_live, crate::proofs::KeptLemmas::covered_up, crate::proofs::KeptLemmas::rises, std::proofs::lemmas::Bool::Decides::nat_tests))]
     pub(crate) fn leave<S: EffectSink>(&mut self, unit: u16, leaving: &Leaving, out: &mut S)
         requires unit { unit < length self.old.sets }
         requires room { S.len out.old + owed self.old.live self.old.sets ≤ S.capacity out.old }
@@ -146,7 +146,7 @@ fn end_all<S: EffectSink>(
 }
 
 /// The live command with this ticket is over.
-#[tactic(auto, using(crate::proofs::CountLemmas::found_ticket, std::proofs::lemmas::Bool::Decides::nat_tests))]
+#[tactic(auto, using(crate::proofs::KeptLemmas::found_ticket, std::proofs::lemmas::Bool::Decides::nat_tests))]
 fn end(
     window: &mut EventWindow,
     connections: &mut Connections,
@@ -170,7 +170,7 @@ fn end(
 
 /// This live command is over.
 #[inline(always)]
-#[tactic(auto, using(crate::proofs::CountLemmas::left_steps, std::proofs::lemmas::Bool::Decides::nat_tests))]
+#[tactic(auto, using(crate::proofs::KeptLemmas::left_steps, std::proofs::lemmas::Bool::Decides::nat_tests))]
 pub(crate) fn end_command(
     window: &mut EventWindow,
     connections: &mut Connections,

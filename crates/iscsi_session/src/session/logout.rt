@@ -77,7 +77,7 @@ impl Session {
 
     /// The request that is held `ahead` numbers after the expected one is taken out, if it is of the connection, or
     /// of any for None.
-    #[tactic(auto, using(crate::proofs::EmptyingLemmas::clear_past, crate::proofs::EmptyingLemmas::answered_none, std::proofs::lemmas::Bool::Decides::nat_tests))]
+    #[tactic(auto, using(crate::proofs::LogoutLemmas::clear_past, crate::proofs::LogoutLemmas::answered_none, std::proofs::lemmas::Bool::Decides::nat_tests))]
     fn empty_at<S: EffectSink>(&mut self, ahead: u32, scope: Option<u16>, out: &mut S)
         requires room { S.len out.old + count_by is_held self.old.window.places ≤ S.capacity out.old }
         requires lowest { is_clear_below scope ahead self.old.window.places ≡ true }

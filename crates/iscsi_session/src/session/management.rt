@@ -85,7 +85,7 @@ impl Session {
     }
 
     /// Executes a function that has waited for the next number, if there is one, and tells whether there was.
-    #[tactic(auto, using(crate::proofs::DeedLemmas::whole_function, crate::proofs::ManageLemmas::next_may, std::proofs::lemmas::Bool::Decides::nat_tests))]
+    #[tactic(auto, using(crate::proofs::DeedLemmas::whole_function, crate::proofs::SoundLemmas::next_may, std::proofs::lemmas::Bool::Decides::nat_tests))]
     pub(crate) fn execute_next_waiting<S: EffectSink>(&mut self, out: &mut S) -> bool
         requires room { S.len out.old + owed self.old.live self.old.sets + 6 * length self.old.waiting
             ≤ S.capacity out.old }

@@ -83,7 +83,7 @@ impl Waitlist {
 
     /// Whether a function waits for this turn.
     #[inline(always)]
-    #[tactic(auto, using(crate::proofs::ManageLemmas::found_where, std::proofs::lemmas::Bool::Decides::nat_tests))]
+    #[tactic(auto, using(crate::proofs::SoundLemmas::found_where, std::proofs::lemmas::Bool::Decides::nat_tests))]
     pub(crate) fn has_due(&self, turn: u64) -> bool
         ensures { result ≡ is_some (find (λ w. w.turn == turn) self.now.items) }
     {

@@ -4,7 +4,7 @@ use Rattle.std.proofs.lemmas.Bool.{false≢true}
 use Rattle.std.proofs.lemmas.Result.{IfOk-weaker}
 use Rattle.iscsi_rules.specs.promises.Flow.{FlowsThrough}
 use Rattle.iscsi_rules.proofs.traces.FlowItems.{FlowsThrough-push, FlowsThrough-none}
-use Rattle.iscsi_session.proofs.PromiseLemmas.{promises_kept}
+use Rattle.iscsi_session.proofs.RunLemmas.{promises_kept}
 use Rattle.iscsi_session.specs.private.Standing.{StandsFor}
 use Rattle.iscsi_recording.specs.declared.fault.ReplayFault.{ReplayFault}
 use Rattle.iscsi_recording.specs.declared.fault.ReplayFault.TheVariants.{Write, NoMemory}

@@ -1,7 +1,6 @@
 use Rattle.iscsi_session.proofs.Names.{arith, ◌≡◌, ◌<◌, ◌∙◌, [], List, length, take, drop, ap, sym, subst, inl, inr, ⊎_elim, false, Result, OnOk, is_err, common_steps, take_more, take_all, err_from_is_err_and, Numbers, Event, Setting, setting_of, run_of, FlowsThrough, refusal_of, refusal_of_options, first_refusal, StandsFor, run_of-push, FlowsThrough-push, nat_tests}
 use Rattle.std.specs.Prelude.{Ok, Err}
-use Rattle.iscsi_session.proofs.RefusalLemmas.{taken_none, refused_cases, refusal_more, refusal_here, event_refused, run_taken}
-use Rattle.iscsi_session.proofs.PromiseLemmas.{promises_kept}
+use Rattle.iscsi_session.proofs.RunLemmas.{taken_none, refused_cases, refusal_more, refusal_here, event_refused, run_taken, promises_kept}
 use Rattle.iscsi_session.proofs.log.run.Goals as goal
 
 pub returns-in_err-numbers-clause-refused : goal.returns-in_err-numbers-clause-refused

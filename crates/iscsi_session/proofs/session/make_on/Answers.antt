@@ -1,7 +1,7 @@
 use Rattle.iscsi_session.proofs.Names.{Option, ◌+◌, [], rules, ℕ, ◌*◌, ◌≡◌, ◌≤◌, ap, arith, length, is_some, replicate, None, refl, List, vec_capacity, nat_tests, HeldRequest, opened_set, Connected, setting_of, is_place_known, tickets_of, set_opened, none_counted, all_none, so_many}
 use Rattle.iscsi_window.specs.Windows.{opened}
-use Rattle.iscsi_session.proofs.CountLemmas.{AreCounted-opened}
-use Rattle.iscsi_session.proofs.OpenLemmas.{Settled-opened}
+use Rattle.iscsi_session.proofs.KeptLemmas.{AreCounted-opened}
+use Rattle.iscsi_session.proofs.RunLemmas.{Settled-opened}
 use Rattle.iscsi_session.proofs.session.make_on.Goals as goal
 
 pub invariant_of-result : goal.invariant_of-result

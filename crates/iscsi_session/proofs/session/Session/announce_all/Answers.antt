@@ -1,6 +1,5 @@
 use Rattle.iscsi_session.proofs.Names.{◌∙◌, ◌+◌, ◌-◌, ◌<◌, ℕ, arith, length-set, refl, List, [], ap, ◌≡◌, Effect, range_with_len, flat_map, Core, set_at, all_given, enable_effects, range_step}
-use Rattle.iscsi_session.proofs.SinkLemmas.{continued, ended}
-use Rattle.iscsi_session.proofs.KeptLemmas.{given_set, told_more, told_all, told_later}
+use Rattle.iscsi_session.proofs.KeptLemmas.{continued, ended, given_set, told_more, told_all, told_later}
 use Rattle.iscsi_session.proofs.session.Session.announce_all.Goals as goal
 
 abbrev told_from : Core → ℕ → ℕ → List Effect

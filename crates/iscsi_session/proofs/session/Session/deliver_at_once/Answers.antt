@@ -1,7 +1,6 @@
 use Rattle.iscsi_session.proofs.Names.{◌≡◌, ◌<◌, ◌-◌, ◌+◌, ◌∙◌, Some, true, length, subst, ap, sym, arith, is_some, count_by, Request, connection_of, Arrived, is_known, the_view, Deliver, Core, Takes, after_effect, with_offered, turn_taken, executed, comes_next}
 use Rattle.iscsi_session.proofs.WindowLemmas.{held_now, comes_alone, Delivered, delivered, grown_sound}
-use Rattle.iscsi_session.proofs.ManageLemmas.{turned_counts}
-use Rattle.iscsi_session.proofs.SoundLemmas.{window_sound, advanced_sound}
+use Rattle.iscsi_session.proofs.SoundLemmas.{turned_counts, window_sound, advanced_sound}
 use Rattle.iscsi_session.proofs.session.Session.deliver_at_once.Goals as goal
 
 pub invariant_of-self : goal.invariant_of-self

@@ -1,6 +1,6 @@
 use Rattle.iscsi_session.proofs.Names.{sym, arith, ◌∙◌, ◌≡◌, length, true, Arrived, number_expected, is_clear_below, nat_tests}
-use Rattle.iscsi_session.proofs.SinkLemmas.{ended, continued}
-use Rattle.iscsi_session.proofs.EmptyingLemmas.{dropped_all}
+use Rattle.iscsi_session.proofs.KeptLemmas.{ended, continued}
+use Rattle.iscsi_session.proofs.LogoutLemmas.{dropped_all}
 use Rattle.iscsi_session.proofs.session.Session.empty_all.Goals as goal
 
 pub returns-clause-done : goal.returns-clause-done

@@ -1,7 +1,7 @@
 use Rattle.iscsi_session.proofs.Names.{◌≡◌, ℕ, ◌∙◌, ap, sym, arith, rules, count_by, Option, Some, None, refl, length-set, [], ◌∷◌, Arrived, number_expected, number_shown, with_place, at_place, holds_from, is_held}
 use Rattle.iscsi_rules.specs.declared.effect.Effect.TheVariants.{Empty}
-use Rattle.iscsi_session.proofs.SinkLemmas.{started, continued}
-use Rattle.iscsi_session.proofs.EmptyingLemmas.{Dropped, dropped, answered_some, answered_none}
+use Rattle.iscsi_session.proofs.KeptLemmas.{started, continued}
+use Rattle.iscsi_session.proofs.LogoutLemmas.{Dropped, dropped, answered_some, answered_none}
 use Rattle.iscsi_session.proofs.WindowLemmas.{Changed}
 use Rattle.iscsi_session.proofs.SoundLemmas.{window_sound, changed_sound, same_sound}
 use Rattle.iscsi_session.proofs.session.Session.empty_at.Given.{Over}

@@ -1,6 +1,5 @@
 use Rattle.iscsi_session.proofs.Names.{rules, w64, refl, ◌≡◌, ◌∙◌, ◌<◌, ◌≤◌, not, cond, ap, sym, false, arith, length, ◌+◌, ℕ, List, [], ◌∷◌, get_or, set, take, drop, ◌++◌, length-set, append_assoc, leb-false, nat_tests, Queued, written, to_z-of_z, Request, is_immediate, Arrived, Members, opened, entered_to, given_by, Live, Core, IsWindowSound, new_live, new_task, started}
-use Rattle.iscsi_session.proofs.CountLemmas.{AreCounted-entered, room_for_one}
-use Rattle.iscsi_session.proofs.KeptLemmas.{Match-entered, roomy_set, few_in}
+use Rattle.iscsi_session.proofs.KeptLemmas.{AreCounted-entered, room_for_one, Match-entered, roomy_set, few_in}
 use Rattle.iscsi_session.proofs.SoundLemmas.{places_sound, commands_sound, entered_sound}
 use Rattle.iscsi_session.proofs.session.Session.enter.Given.{Over}
 use Rattle.iscsi_session.proofs.session.Session.enter.Goals as goal

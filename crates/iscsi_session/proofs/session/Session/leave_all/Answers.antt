@@ -1,5 +1,5 @@
 use Rattle.iscsi_session.proofs.Names.{◌≡◌, ◌∙◌, ℕ, arith, length-set, refl, Core, is_covered, commands_left, cover_of, range_step}
-use Rattle.iscsi_session.proofs.SinkLemmas.{continued}
+use Rattle.iscsi_session.proofs.KeptLemmas.{continued}
 use Rattle.iscsi_session.proofs.session.Session.leave_all.Goals as goal
 
 pub loop-unit-preserved : goal.loop-unit-preserved

@@ -1,6 +1,5 @@
 use Rattle.iscsi_session.proofs.Names.{subst, ◌≡◌, ◌∙◌, ◌+◌, ◌≤◌, ◌<◌, ◌++◌, true, Some, List, length, get_or, set, take, drop, ap, sym, arith, length-set, ◌==◌, ◌&&◌, nat_le, nat_lt, ℕ, ltb-true, Members, opened, Live, Core, find_ticket, without_ticket, enabled_in, staying, finished_by, covers_ticket, set_staying, has_covered, ungiven_in, owed, and_second, find-passes, fewer}
-use Rattle.iscsi_session.proofs.CountLemmas.{found_ticket}
-use Rattle.iscsi_session.proofs.KeptLemmas.{enabled_found, enabled_covered, ungiven_in-staying, rises, one_live, one_leaves}
+use Rattle.iscsi_session.proofs.KeptLemmas.{found_ticket, enabled_found, enabled_covered, ungiven_in-staying, rises, one_live, one_leaves}
 use Rattle.iscsi_session.proofs.SoundLemmas.{sets_written, left_sound}
 use Rattle.iscsi_session.proofs.session.Session.leave_enabled.Given.{Over}
 use Rattle.iscsi_session.proofs.session.Session.leave_enabled.Goals as goal

@@ -1,6 +1,6 @@
 use Rattle.iscsi_session.proofs.Names.{◌∙◌, ◌++◌, refl, ap, sym, arith, List, [], ◌∷◌, length, length-append, Effect, next_entry, counts_replies}
 use Rattle.iscsi_session.proofs.AgendaLemmas.{refusal_as}
-use Rattle.iscsi_session.proofs.OpenLemmas.{bound_is}
+use Rattle.iscsi_session.proofs.RunLemmas.{bound_is}
 use Rattle.iscsi_session.proofs.session.Session.step.Goals as goal
 
 pub returns-in-Some-clause-refused : goal.returns-in-Some-clause-refused

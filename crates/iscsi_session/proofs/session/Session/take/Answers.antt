@@ -1,10 +1,8 @@
 use Rattle.iscsi_session.proofs.Names.{◌≡◌, ◌∙◌, ◌+◌, ap, arith, List, length, ⊎_elim, length_push, Event, Setting, trace_of, items_of, HasOneMore, trace_of-push, belong_more, Core, StandsFor, KeepsPace, Handles}
-use Rattle.iscsi_session.proofs.PromiseLemmas.{Flows-step}
-use Rattle.iscsi_session.proofs.ManageLemmas.{few}
+use Rattle.iscsi_session.proofs.RunLemmas.{Flows-step, taken_belongs}
+use Rattle.iscsi_session.proofs.SoundLemmas.{few, taken_sound}
 use Rattle.iscsi_session.proofs.AgreeLemmas.{settled_numbers}
 use Rattle.iscsi_session.proofs.AgendaLemmas.{taken_by, refusal_as}
-use Rattle.iscsi_session.proofs.SoundLemmas.{taken_sound}
-use Rattle.iscsi_session.proofs.RefusalLemmas.{taken_belongs}
 use Rattle.iscsi_session.proofs.session.Session.take.Given.{Over}
 use Rattle.iscsi_session.proofs.session.Session.take.Goals as goal
 use Rattle.iscsi_session.proofs.session.Session.take.Goals.{After-apply}

@@ -1,6 +1,5 @@
 use Rattle.iscsi_session.proofs.Names.{◌≡◌, ◌<◌, ◌+◌, ◌-◌, nat_lt, true, refl, ap, arith, nat_tests, list_all-append, Queued, Waiting, Fits, Wait, the_view}
-use Rattle.iscsi_session.proofs.ManageLemmas.{Waits, waits_more}
-use Rattle.iscsi_session.proofs.SoundLemmas.{functions_sound}
+use Rattle.iscsi_session.proofs.SoundLemmas.{Waits, waits_more, functions_sound}
 use Rattle.iscsi_session.proofs.session.Session.wait.Given.{Over}
 use Rattle.iscsi_session.proofs.session.Session.wait.Goals as goal
 use Rattle.iscsi_session.proofs.session.Session.wait.Goals.{After-exp}

@@ -1,6 +1,5 @@
 use Rattle.iscsi_session.proofs.Names.{◌∙◌, ◌<◌, ◌≤◌, ◌==◌, ℕ, not, List, length, count_by, get_or, ap, sym, arith, rules, [], ◌∷◌, IsSome, fewer_counted, list_all-filter, Live, Leave, leave_each, find_ticket, without_ticket, is_numbered, is_known, nat_tests}
-use Rattle.iscsi_session.proofs.SinkLemmas.{started, continued}
-use Rattle.iscsi_session.proofs.KeptLemmas.{ascending-kept, without_none, without_more, leave_next, there_yet, finished_none, finished_on, without_shorter}
+use Rattle.iscsi_session.proofs.KeptLemmas.{started, continued, ascending-kept, without_none, without_more, leave_next, there_yet, finished_none, finished_on, without_shorter}
 use Rattle.iscsi_session.proofs.session.leaving.end_all.Goals.{In-loop-k}
 use Rattle.iscsi_session.proofs.session.leaving.end_all.Given.{Over}
 use Rattle.iscsi_session.proofs.session.leaving.end_all.Goals as goal

@@ -1,5 +1,5 @@
 use Rattle.iscsi_session.proofs.Names.{ℕ, not, cond, ap, arith, is_numbered}
-use Rattle.iscsi_session.proofs.CountLemmas.{count-left}
+use Rattle.iscsi_session.proofs.KeptLemmas.{count-left}
 use Rattle.iscsi_session.proofs.session.leaving.end_command.Goals as goal
 
 pub finish-requires-clause-numbered : goal.finish-requires-clause-numbered

@@ -1,6 +1,5 @@
 use Rattle.iscsi_session.proofs.Names.{◌∙◌, sym, arith, [], ◌∷◌, Enable}
-use Rattle.iscsi_session.proofs.SinkLemmas.{continued, ended}
-use Rattle.iscsi_session.proofs.KeptLemmas.{given_one, given_all}
+use Rattle.iscsi_session.proofs.KeptLemmas.{continued, ended, given_one, given_all}
 use Rattle.iscsi_session.proofs.session.sets.enable_new.Goals as goal
 
 pub loop-ticket-preserved : goal.loop-ticket-preserved

@@ -1,5 +1,5 @@
 use Rattle.iscsi_session.proofs.Names.{◌≡◌, ◌==◌, find, arith, None, nat_tests, Waiting}
-use Rattle.iscsi_session.proofs.ManageLemmas.{none_due}
+use Rattle.iscsi_session.proofs.SoundLemmas.{none_due}
 use Rattle.iscsi_session.proofs.session.waiting.Waitlist.has_due.Goals as goal
 
 pub returns-else-self-turn : goal.returns-else-self-turn
