@@ -38,6 +38,11 @@ live_in log = map (λ e. e.command) (filter (λ e. e.is_live) log)
 abbrev pub rank : List Entry → ℕ → ℕ
 rank log k = length (live_in (take k log))
 
+-- these places have become those that the commands have once the live ones have closed up
+pub record AreMoved (log : List Entry) (places moved : List ℕ) : Type 0 where
+  pub long : length moved ≡ length places
+  pub at : (i d : ℕ) → i < length places → slice_index_or moved i d ≡ rank log (slice_index_or places i 0)
+
 -- ---- their places by tag
 
 unfoldable pub group_of : ℕ → ℕ

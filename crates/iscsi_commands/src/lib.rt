@@ -8,5 +8,5 @@ mod live;
 mod live_commands;
 mod tag_index;
 
-pub use live::{Live, Placed};
+pub use live::{Live, Located, Placed};
 pub use live_commands::LiveCommands;

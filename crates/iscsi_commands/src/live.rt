@@ -25,3 +25,16 @@ pub struct Placed {
     /// The slot that it has in its task set.
     pub slot: u16,
 }
+
+/// A live command, the slot that it has in its task set, and where it was found.
+///
+/// No clause speaks of slot or place: whoever is given them looks there first, and verifies what it finds.
+#[derive(Clone, Copy)]
+pub struct Located {
+    /// What is kept of the command.
+    pub command: Live,
+    /// The slot that it has in its task set.
+    pub slot: u16,
+    /// Where it was found among the live commands.
+    pub place: usize,
+}

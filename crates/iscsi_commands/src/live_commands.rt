@@ -5,10 +5,10 @@ ghost use Rattle.std.specs.List.{list_any};
 ghost use Rattle.iscsi_slots.specs.Queued.{queued};
 ghost use Rattle.iscsi_slots.specs.Places.{AreAscending as AreKeysAscending};
 ghost use Rattle.iscsi_commands.specs.Commands.{AreAscending, AreTagsApart, find_ticket, find_tag, without_ticket};
-ghost use Rattle.iscsi_commands.specs.Log.{AreTagged, IsLiveAt, IsLivePlace, ended, entry_at, live_in, rank, ticket_of};
+ghost use Rattle.iscsi_commands.specs.Log.{AreTagged, IsLiveAt, IsLivePlace, ended, entry_at, group_of, live_in, rank, tag_at, ticket_of};
 
-use crate::entry::{Entry, GROUPS, entry_at};
-use crate::live::{Live, Placed};
+use crate::entry::{Entry, GROUPS, entry_at, group_of};
+use crate::live::{Live, Located, Placed};
 use crate::tag_index::TagIndex;
 use std::alloc::{AllocError, Global};
 use std::marker::Model;
@@ -106,16 +106,35 @@ impl LiveCommands {
         ensures command { option_map (λ p. p.command) result ≡ find_ticket ticket self.now.items }
         ensures ascending { AreAscending self.now.items }
     {
+        let located = self.find_located(ticket)?;
+        Some(Placed {
+            command: located.command,
+            slot: located.slot,
+        })
+    }
+
+    /// The command with this ticket, the slot that it entered with, and where it was found: `remove_located` looks there
+    /// first.
+    #[tactic(auto, using(crate::proofs::LogLemmas::tickets_up))]
+    #[inline(always)]
+    pub fn find_located(&self, ticket: u64) -> Option<Located>
+        ensures command { option_map (λ p. p.command) result ≡ find_ticket ticket self.now.items }
+        ensures ascending { AreAscending self.now.items }
+    {
         // A stale ticket isn't sought among those that ended.
         if self.live == 0 {
             return None;
         }
-        let at = place_of(&self.log, &self.hints, ticket)?;
-        let entry = entry_at(&self.log, at);
-        Some(Placed {
-            command: entry.command,
-            slot: entry.slot,
-        })
+        let hint = usize::from(self.hints[hint_of(ticket)]);
+        if is_at(&self.log, hint, ticket) {
+            // Whether it is live decides alone here: a place that may be none would be made and tested again.
+            if !entry_at(&self.log, hint).is_live {
+                return None;
+            }
+            return Some(located_at(&self.log, hint));
+        }
+        let place = seek(&self.log, ticket)?;
+        Some(located_at(&self.log, place))
     }
 
     /// The command with this Initiator Task Tag.
@@ -162,7 +181,30 @@ impl LiveCommands {
     pub fn remove(&mut self, ticket: u64)
         ensures { self.new ≡ queued (without_ticket ticket self.old.items) self.old.room }
     {
-        if let Some(k) = place_of(&self.log, &self.hints, ticket) {
+        let hint = usize::from(self.hints[hint_of(ticket)]);
+        self.remove_located(ticket, hint);
+    }
+
+    /// The command with this ticket leaves, if there is one. It is looked for at this place first, which may be any.
+    #[inline(always)]
+    pub fn remove_located(&mut self, ticket: u64, place: usize)
+        ensures { self.new ≡ queued (without_ticket ticket self.old.items) self.old.room }
+    {
+        if !is_live_at(&self.log, place, ticket) {
+            self.remove_sought(ticket);
+            return;
+        }
+        self.tags.leave(&self.log, place);
+        end(&mut self.log, place);
+        self.live -= 1;
+    }
+
+    /// The command with this ticket leaves, if there is one, where no place tells it.
+    #[inline(never)]
+    fn remove_sought(&mut self, ticket: u64)
+        ensures { self.new ≡ queued (without_ticket ticket self.old.items) self.old.room }
+    {
+        if let Some(k) = seek(&self.log, ticket) {
             self.tags.leave(&self.log, k);
             end(&mut self.log, k);
             self.live -= 1;
@@ -294,6 +336,20 @@ fn place_of(log: &[Entry], hints: &[u16], ticket: u64) -> Option<usize>
     }
 }
 
+/// The command at a place, with its slot.
+#[inline(always)]
+fn located_at(log: &[Entry], place: usize) -> Located
+    requires { place < length log.now }
+    ensures { result.command ≡ (entry_at log.now place).command }
+{
+    let entry = entry_at(log, place);
+    Located {
+        command: entry.command,
+        slot: entry.slot,
+        place,
+    }
+}
+
 /// The place of the live command with this ticket, where the hint doesn't tell it.
 #[inline(never)]
 fn seek(log: &[Entry], ticket: u64) -> Option<usize>
@@ -315,6 +371,14 @@ fn is_at(log: &[Entry], k: usize, ticket: u64) -> bool
     ensures no { k < length log.now → ticket_of (entry_at log.now k) ≡ ticket → result ≡ true }
 {
     k < log.len() && entry_at(log, k).command.ticket == ticket
+}
+
+/// Whether the command at a place is there and live, and has this ticket.
+#[inline(always)]
+fn is_live_at(log: &[Entry], k: usize, ticket: u64) -> bool
+    ensures { result ≡ true → IsLiveAt log.now k × (ticket_of (entry_at log.now k) ≡ ticket) }
+{
+    is_at(log, k, ticket) && entry_at(log, k).is_live
 }
 
 /// How many commands of the log have a lower ticket. Where the ticket isn't between those of the last one and the
@@ -346,35 +410,36 @@ fn close_up(log: &mut Vec<Entry>, hints: &mut [u16], tags: &mut TagIndex)
     ensures tagged { AreTagged log.new.items tags.new.places.items tags.new.crowded.items tags.new.others.items }
     ensures room { tags.new.others.room ≡ tags.old.others.room }
 {
-    note_ranks(log, hints);
-    tags.renumber(log, hints);
-    keep_live(log);
-    for k in 0..log.len() {
-        hints[hint_of(entry_at(log, k).command.ticket)] = k as u16;
-    }
+    tags.renumber_others(log, hints);
+    keep_live(log, hints, &mut tags.places);
 }
 
-/// How many live commands stand before each place of the log.
-fn note_ranks(log: &[Entry], ranks: &mut [u16])
-    requires short { length log.now ≤ 4096 }
-    requires size { length log.now ≤ length ranks.old }
-    ensures size { length ranks.new ≡ length ranks.old }
-    ensures ranks { (k : ℕ) → k < length log.now → slice_index_or ranks.new k 0 ≡ rank log.now k }
+/// The live commands stay in the log. Their hints tell where, and the places of their groups, where they stand there.
+#[tactic(auto, using(crate::proofs::LogLemmas::group_below))]
+fn keep_live(log: &mut Vec<Entry>, hints: &mut [u16], places: &mut Vec<u16>)
+    requires short { length log.old.items ≤ 4096 }
+    requires hints { length hints.old ≡ 4096 }
+    requires groups { length places.old.items ≡ 4096 }
+    ensures log { log.new.items ≡ filter (λ e. e.is_live) log.old.items }
+    ensures capacity { vec_capacity log.new ≡ vec_capacity log.old }
+    ensures groups { length places.new.items ≡ 4096 }
+    ensures places { (k : ℕ) → IsLiveAt log.old.items k →
+        slice_index_or places.old.items (group_of (tag_at log.old.items k)) 0 ≡ k →
+        slice_index_or places.new.items (group_of (tag_at log.old.items k)) 0 ≡ rank log.old.items k }
 {
-    let mut before: u16 = 0;
+    let mut live = 0;
     for k in 0..log.len() {
-        ranks[k] = before;
-        if entry_at(log, k).is_live {
-            before += 1;
+        // Only a live one is read whole: of most no more than this is asked.
+        if log[k].is_live {
+            let entry = log[k];
+            let group = group_of(entry.command.itt);
+            if usize::from(places[group]) == k {
+                places[group] = live as u16;
+            }
+            hints[hint_of(entry.command.ticket)] = live as u16;
+            log[live] = entry;
+            live += 1;
         }
     }
-}
-
-/// The live commands stay in the log.
-fn keep_live(log: &mut Vec<Entry>)
-    ensures log { log.new.items ≡ filter (λ e. e.is_live) log.old.items }
-    ensures len { vec_len log.new ≤ vec_len log.old }
-    ensures capacity { vec_capacity log.new ≡ vec_capacity log.old }
-{
-    log.retain(|entry| entry.is_live);
+    log.truncate(live);
 }

@@ -3,7 +3,7 @@
 ghost use Rattle.std.specs.Prelude.{◌≡◌, ◌≢◌, ℕ, ◌+◌, ◌<◌, ◌≤◌, true, [], length, filter, map, take, slice_index_or, slice_set, IfOk};
 ghost use Rattle.iscsi_slots.specs.Queued.{queued};
 ghost use Rattle.iscsi_slots.specs.Places.{AreAscending};
-ghost use Rattle.iscsi_commands.specs.Log.{AreMarked, AreMarkedAlone, AreTagged, IsLiveAt, IsTagPlace, ended, entry_at, group_of, rank, tag_at};
+ghost use Rattle.iscsi_commands.specs.Log.{AreMarked, AreMarkedAlone, AreMoved, AreTagged, IsLiveAt, IsTagPlace, ended, entry_at, group_of, rank, tag_at};
 
 use crate::entry::{Entry, GROUPS, entry_at, group_of};
 use iscsi_slots::Order;
@@ -154,18 +154,42 @@ impl TagIndex {
         }
     }
 
-    /// The live commands close up in the log: `to` has for each place of the log how many stand before it.
-    pub(crate) fn renumber(&mut self, log: &[Entry], to: &[u16])
+    /// The live commands are to close up in the log: those that stand apart take the places that they have then. `ranks` is
+    /// written for it, with how many live ones stand before each place of the log, unless none stands apart.
+    pub(crate) fn renumber_others(&mut self, log: &[Entry], ranks: &mut [u16])
         requires tagged { AreTagged log.now self.old.places.items self.old.crowded.items self.old.others.items }
-        requires size { length log.now ≤ length to.now }
-        requires ranks { (k : ℕ) → k < length log.now → slice_index_or to.now k 0 ≡ rank log.now k }
-        ensures tagged { AreTagged (filter (λ e. e.is_live) log.now) self.new.places.items self.new.crowded.items
-            self.new.others.items }
+        requires short { length log.now ≤ 4096 }
+        requires size { length log.now ≤ length ranks.old }
+        ensures size { length ranks.new ≡ length ranks.old }
+        ensures places { self.new.places.items ≡ self.old.places.items }
+        ensures groups { length self.new.crowded.items ≡ 4096 }
+        ensures marked { AreMarked log.now self.new.crowded.items self.old.others.items }
+        ensures others { AreMoved log.now self.old.others.items self.new.others.items }
         ensures room { self.new.others.room ≡ self.old.others.room }
     {
+        if self.others.len() == 0 {
+            return;
+        }
+        note_ranks(log, ranks);
         mark(&mut self.crowded, &self.others, log);
-        renumber_others(&mut self.others, to);
-        renumber_places(&mut self.places, log, to);
+        put_in_place(&mut self.others, ranks);
+    }
+}
+
+/// How many live commands stand before each place of the log.
+#[inline(never)]
+fn note_ranks(log: &[Entry], ranks: &mut [u16])
+    requires short { length log.now ≤ 4096 }
+    requires size { length log.now ≤ length ranks.old }
+    ensures size { length ranks.new ≡ length ranks.old }
+    ensures ranks { (k : ℕ) → k < length log.now → slice_index_or ranks.new k 0 ≡ rank log.now k }
+{
+    let mut before: u16 = 0;
+    for k in 0..log.len() {
+        ranks[k] = before;
+        if entry_at(log, k).is_live {
+            before += 1;
+        }
     }
 }
 
@@ -190,7 +214,7 @@ fn mark(crowded: &mut [bool], others: &Order, log: &[Entry])
 }
 
 /// Each of the others takes the place that `to` has for its place: the first one leaves, and comes behind the last one.
-fn renumber_others(others: &mut Order, to: &[u16])
+fn put_in_place(others: &mut Order, to: &[u16])
     requires { (i : ℕ) → i < length others.old.items → slice_index_or others.old.items i 0 < length to.now }
     ensures { others.new ≡ queued (map (λ k. slice_index_or to.now k 0) others.old.items) others.old.room }
 {
@@ -198,27 +222,6 @@ fn renumber_others(others: &mut Order, to: &[u16])
         let k = usize::from(others.at(0));
         others.remove(0);
         others.push(to[k]);
-    }
-}
-
-/// Each live command that stands at the place of its group stands there by its new place.
-#[tactic(auto, using(crate::proofs::LogLemmas::group_below))]
-fn renumber_places(places: &mut [u16], log: &[Entry], to: &[u16])
-    requires groups { length places.old ≡ 4096 }
-    requires size { length log.now ≤ length to.now }
-    requires ranks { (k : ℕ) → k < length log.now → slice_index_or to.now k 0 ≡ rank log.now k }
-    ensures groups { length places.new ≡ 4096 }
-    ensures places { (k : ℕ) → IsLiveAt log.now k → slice_index_or places.old (group_of (tag_at log.now k)) 0 ≡ k
-        → slice_index_or places.new (group_of (tag_at log.now k)) 0 ≡ rank log.now k }
-{
-    for k in 0..log.len() {
-        let entry = entry_at(log, k);
-        if entry.is_live {
-            let group = group_of(entry.command.itt);
-            if usize::from(places[group]) == k {
-                places[group] = to[k];
-            }
-        }
     }
 }
 

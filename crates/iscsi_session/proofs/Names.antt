@@ -1,6 +1,7 @@
 -- The names that the crate's proofs need of other crates, and of its own definitions.
 pub use Rattle.iscsi_commands.specs.Commands.{AreTagsApart}
 pub use Rattle.iscsi_commands.specs.declared.live.Live.{Live}
+pub use Rattle.iscsi_commands.specs.declared.live.Located.{Located}
 pub use Rattle.iscsi_connections.specs.Connected.{Connected}
 pub use Rattle.iscsi_rules.proofs.general.BoolLemmas.{alike, alike_same, and_both, and_comm, and_false, and_first, and_parts, and_second, and_true, not_flip, not_true, or_comm, or_false, or_first, or_none, or_second}
 pub use Rattle.iscsi_rules.proofs.general.CountLemmas.{count-cons, count-filter, count_places, count_replaced, count_set, count_shift, fewer, fewer_left, none_counted}

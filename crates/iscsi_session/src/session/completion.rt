@@ -1,6 +1,6 @@
 //! The completion of a command by its unit.
 
-ghost use Rattle.std.specs.Prelude.{IfSome, MatchOption, ℕ, ◌≡◌, ◌==◌, ◌&&◌, ◌+◌, ◌<◌, ◌≤◌, true, false, if◌then◌else◌, length, nat_lt, slice_index_or, slice_set, vec_len, vec_capacity};
+ghost use Rattle.std.specs.Prelude.{IfSome, MatchOption, option_map, ℕ, ◌≡◌, ◌==◌, ◌&&◌, ◌+◌, ◌<◌, ◌≤◌, true, false, if◌then◌else◌, length, nat_lt, slice_index_or, slice_set, vec_len, vec_capacity};
 ghost use Rattle.std.specs.List.{list_all};
 ghost use Rattle.iscsi_rules.specs.rules.Settings.{is_known as known_in};
 ghost use Rattle.iscsi_tasks.specs.Sets.{opened};
@@ -10,7 +10,7 @@ ghost use Rattle.iscsi_session.specs.private.Steps.{counted_on, unchanged, Takes
 use crate::session::Session;
 use crate::session::leaving::end_command;
 use crate::session::sets::CHECK_CONDITION;
-use iscsi_commands::{Live, LiveCommands, Placed};
+use iscsi_commands::{Live, LiveCommands, Located};
 use iscsi_connections::Connections;
 use iscsi_rules::Why;
 use iscsi_sinks::EffectSink;
@@ -62,33 +62,33 @@ impl Session {
         ensures spent { S.len out.new + owed self.new.live self.new.sets ≤ S.len out.old
             + owed self.old.live self.old.sets }
     {
-        let Some(command) = take_enabled(&mut self.sets, &self.live, ticket) else {
+        let Some(located) = take_enabled(&mut self.sets, &self.live, ticket) else {
             return None;
         };
         end_command(
             &mut self.window,
             &mut self.connections,
             &mut self.live,
-            &command,
+            &located,
         );
-        out.put_leave(command.ticket, command.unit);
-        Some(command)
+        out.put_leave(located.command.ticket, located.command.unit);
+        Some(located.command)
     }
 }
 
 /// The live command with this ticket leaves the set of its unit, if it is enabled there. It is still among the live ones.
 #[inline(always)]
 #[tactic(auto, using(crate::proofs::KeptLemmas::found_steps, crate::proofs::KeptLemmas::one_leaving, std::proofs::lemmas::List::get_or_default, std::proofs::lemmas::Bool::Decides::nat_tests))]
-fn take_enabled(sets: &mut [LinkedTaskSet], live: &LiveCommands, ticket: u64) -> Option<Live>
+fn take_enabled(sets: &mut [LinkedTaskSet], live: &LiveCommands, ticket: u64) -> Option<Located>
     requires units { list_all (λ l. nat_lt l.unit (length sets.old)) live.now.items ≡ true }
-    ensures command { result ≡ enabled_in sets.old live.now.items ticket }
-    ensures sets { MatchOption result (sets.new ≡ sets.old) (λ l. sets.new ≡ slice_set sets.old l.unit
-        (set_staying (covers_ticket l.ticket) (slice_index_or sets.old l.unit (opened 0)))) }
+    ensures command { option_map (λ p. p.command) result ≡ enabled_in sets.old live.now.items ticket }
+    ensures sets { MatchOption result (sets.new ≡ sets.old) (λ p. sets.new ≡ slice_set sets.old p.command.unit
+        (set_staying (covers_ticket p.command.ticket) (slice_index_or sets.old p.command.unit (opened 0)))) }
 {
-    let Placed { command, slot } = live.find_placed(ticket)?;
-    let set = &mut sets[usize::from(command.unit)];
-    if set.leave_enabled(ticket, slot) {
-        Some(command)
+    let located = live.find_located(ticket)?;
+    let set = &mut sets[usize::from(located.command.unit)];
+    if set.leave_enabled(ticket, located.slot) {
+        Some(located)
     } else {
         None
     }

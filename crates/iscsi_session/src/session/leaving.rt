@@ -8,7 +8,7 @@ ghost use Rattle.iscsi_session.specs.private.Steps.{set_staying, covered_tickets
 
 use crate::session::completion::finish;
 use crate::session::{Session, sets};
-use iscsi_commands::{Live, LiveCommands};
+use iscsi_commands::{LiveCommands, Located};
 use iscsi_connections::Connections;
 use iscsi_sinks::EffectSink;
 use iscsi_tasks::{Cover, LinkedTaskSet};
@@ -164,31 +164,31 @@ fn end(
     ensures counted { AreCounted connections.new.immediate connections.old.conns live.new.items }
     ensures capacity { live.new.room ≡ live.old.room }
 {
-    let command = live.find(ticket).unwrap();
-    end_command(window, connections, live, &command);
+    let located = live.find_located(ticket).unwrap();
+    end_command(window, connections, live, &located);
 }
 
-/// This live command is over.
+/// This live command is over, which was found at this place.
 #[inline(always)]
 #[tactic(auto, using(crate::proofs::KeptLemmas::left_steps, std::proofs::lemmas::Bool::Decides::nat_tests))]
 pub(crate) fn end_command(
     window: &mut EventWindow,
     connections: &mut Connections,
     live: &mut LiveCommands,
-    command: &Live,
+    located: &Located,
 )
     requires ascending { are_ascending live.old.items ≡ true }
-    requires there { find_ticket command.now.ticket live.old.items ≡ Some command.now }
+    requires there { find_ticket located.now.command.ticket live.old.items ≡ Some located.now.command }
     requires numbered { count_by is_numbered live.old.items ≤ window.old.unfinished }
     requires known { are_known live.old.items connections.old.conns ≡ true }
     requires counted { AreCounted connections.old.immediate connections.old.conns live.old.items }
     ensures window { window.new ≡ finished_by window.old live.old.items
-        (without_ticket command.now.ticket live.old.items) }
-    ensures live { live.new.items ≡ without_ticket command.now.ticket live.old.items }
+        (without_ticket located.now.command.ticket live.old.items) }
+    ensures live { live.new.items ≡ without_ticket located.now.command.ticket live.old.items }
     ensures connections { connections.new ≡ record connections.old { immediate = connections.new.immediate } }
     ensures counted { AreCounted connections.new.immediate connections.old.conns live.new.items }
     ensures capacity { live.new.room ≡ live.old.room }
 {
-    finish(window, connections, command);
-    live.remove(command.ticket);
+    finish(window, connections, &located.command);
+    live.remove_located(located.command.ticket, located.place);
 }

@@ -1,4 +1,4 @@
-use Rattle.iscsi_session.proofs.Names.{subst, ◌≡◌, ◌∙◌, ◌+◌, ◌≤◌, ◌<◌, ◌++◌, true, Some, List, length, get_or, set, take, drop, ap, sym, arith, length-set, ◌==◌, ◌&&◌, nat_le, nat_lt, ℕ, ltb-true, Members, opened, Live, Core, find_ticket, without_ticket, enabled_in, staying, finished_by, covers_ticket, set_staying, has_covered, ungiven_in, owed, and_second, find-passes, fewer}
+use Rattle.iscsi_session.proofs.Names.{subst, ◌≡◌, ◌∙◌, ◌+◌, ◌≤◌, ◌<◌, ◌++◌, true, Some, List, length, get_or, set, take, drop, ap, sym, arith, length-set, ◌==◌, ◌&&◌, nat_le, nat_lt, ℕ, ltb-true, Members, opened, Live, Core, find_ticket, Located, option_map, without_ticket, enabled_in, staying, finished_by, covers_ticket, set_staying, has_covered, ungiven_in, owed, and_second, find-passes, fewer}
 use Rattle.iscsi_session.proofs.KeptLemmas.{found_ticket, enabled_found, enabled_covered, ungiven_in-staying, rises, one_live, one_leaves}
 use Rattle.iscsi_session.proofs.SoundLemmas.{sets_written, left_sound}
 use Rattle.iscsi_session.proofs.session.Session.leave_enabled.Given.{Over}
@@ -13,12 +13,12 @@ record Found (sets : List Members) (lives : List Live) (l : Live) : Type 0 where
   left : length (without_ticket l.ticket lives) + 1 ≤ length lives
 
 -- it is the one that is looked for
-found_it : (over : Over) (c : In-Some over) → enabled_in c.self.inside.sets.items c.self.inside.live.items c.args.ticket ≡ Some c.in-Some.command
-found_it over c = sym (rw c.deref_mut.ensures.value at c.take_enabled.ensures.command) ∙ c.in-Some.is
+found_it : (over : Over) (c : In-Some over) → enabled_in c.self.inside.sets.items c.self.inside.live.items c.args.ticket ≡ Some c.in-Some.located.command
+found_it over c = sym (rw c.deref_mut.ensures.value at c.take_enabled.ensures.command) ∙ ap (option_map (λ (p : Located). p.command)) c.in-Some.is
 
-command : (over : Over) (c : In-Some over) → Found c.self.inside.sets.items c.self.inside.live.items c.in-Some.command
+command : (over : Over) (c : In-Some over) → Found c.self.inside.sets.items c.self.inside.live.items c.in-Some.located.command
 command over c =
-    let l : Live = c.in-Some.command in
+    let l : Live = c.in-Some.located.command in
     let lives : List Live = c.self.inside.live.items in
     let sets : List Members = c.self.inside.sets.items in
     let k : ℕ = c.args.ticket in
@@ -34,27 +34,27 @@ command over c =
     }
 
 -- the sets, once the set of the unit was written
-sets_are : (over : Over) (c : In-Some over) → take c.self.inside.sets.len (c.take_enabled.new.sets ++ drop (length c.take_enabled.new.sets) c.self.inside.sets.items) ≡ set c.self.inside.sets.items c.in-Some.command.unit (set_staying (covers_ticket c.in-Some.command.ticket) (get_or c.self.inside.sets.items c.in-Some.command.unit (opened 0)))
-sets_are over c = sets_written c.in-Some.command.unit c.self.inside.sets.len (covers_ticket c.in-Some.command.ticket) c.self.inside.sets.items c.take_enabled.new.sets c.self.inside.sets.ok.0 (rw (c.in-Some.is, c.deref_mut.ensures.value) at c.take_enabled.ensures.sets)
+sets_are : (over : Over) (c : In-Some over) → take c.self.inside.sets.len (c.take_enabled.new.sets ++ drop (length c.take_enabled.new.sets) c.self.inside.sets.items) ≡ set c.self.inside.sets.items c.in-Some.located.command.unit (set_staying (covers_ticket c.in-Some.located.command.ticket) (get_or c.self.inside.sets.items c.in-Some.located.command.unit (opened 0)))
+sets_are over c = sets_written c.in-Some.located.command.unit c.self.inside.sets.len (covers_ticket c.in-Some.located.command.ticket) c.self.inside.sets.items c.take_enabled.new.sets c.self.inside.sets.ok.0 (rw (c.in-Some.is, c.deref_mut.ensures.value) at c.take_enabled.ensures.sets)
 
-live_are : (over : Over) (c : After-end_command over) → (f : Found c.self.inside.sets.items c.self.inside.live.items c.in-Some.command) → c.end_command.new.live.items ≡ staying (covers_ticket c.in-Some.command.ticket) (get_or c.self.inside.sets.items c.in-Some.command.unit (opened 0)) c.self.inside.live.items
-live_are over c f = c.end_command.ensures.live ∙ rw f.covered at (one_live c.in-Some.command.ticket (get_or c.self.inside.sets.items c.in-Some.command.unit (opened 0)) c.self.inside.live.items)
+live_are : (over : Over) (c : After-end_command over) → (f : Found c.self.inside.sets.items c.self.inside.live.items c.in-Some.located.command) → c.end_command.new.live.items ≡ staying (covers_ticket c.in-Some.located.command.ticket) (get_or c.self.inside.sets.items c.in-Some.located.command.unit (opened 0)) c.self.inside.live.items
+live_are over c f = c.end_command.ensures.live ∙ rw f.covered at (one_live c.in-Some.located.command.ticket (get_or c.self.inside.sets.items c.in-Some.located.command.unit (opened 0)) c.self.inside.live.items)
 
-window_is : (over : Over) (c : After-end_command over) → (f : Found c.self.inside.sets.items c.self.inside.live.items c.in-Some.command) → c.end_command.new.window ≡ finished_by c.self.inside.window c.self.inside.live.items (staying (covers_ticket c.in-Some.command.ticket) (get_or c.self.inside.sets.items c.in-Some.command.unit (opened 0)) c.self.inside.live.items)
+window_is : (over : Over) (c : After-end_command over) → (f : Found c.self.inside.sets.items c.self.inside.live.items c.in-Some.located.command) → c.end_command.new.window ≡ finished_by c.self.inside.window c.self.inside.live.items (staying (covers_ticket c.in-Some.located.command.ticket) (get_or c.self.inside.sets.items c.in-Some.located.command.unit (opened 0)) c.self.inside.live.items)
 window_is over c f = c.end_command.ensures.window ∙ ap (finished_by c.self.inside.window c.self.inside.live.items) (sym c.end_command.ensures.live ∙ live_are over c f)
 
 pub invariant_of-self-2 : goal.invariant_of-self-2
 invariant_of-self-2 over c =
     let e = (goal.at.invariant_of-self-2 over c).In-Some in
     let a = (goal.at.invariant_of-self-2 over c).After-end_command in
-    let l : Live = c.in-Some.command in
+    let l : Live = c.in-Some.located.command in
     let f = command over e in
     rw (c.end_command.ensures.connections, c.end_command.ensures.capacity, window_is over a f, live_are over a f, sets_are over e) (left_sound c.self.invariant l.unit (covers_ticket l.ticket) f.inside (rw (live_are over a f) at c.end_command.ensures.counted))
 
 pub returns : goal.returns
 returns over c =
     let i = c.self.inside in
-    let l : Live = c.in-Some.command in
+    let l : Live = c.in-Some.located.command in
     let e = (goal.at.returns over c).In-Some in
     let a = (goal.at.returns over c).After-end_command in
     let f = command over e in

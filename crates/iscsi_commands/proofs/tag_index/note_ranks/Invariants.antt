@@ -1,7 +1,7 @@
 use Rattle.std.proofs.Common.{◌≡◌, ◌<◌, ℕ, List, length, get_or}
 use Rattle.iscsi_commands.specs.declared.entry.Entry.{Entry}
 use Rattle.iscsi_commands.specs.Log.{rank}
-use Rattle.iscsi_commands.proofs.live_commands.note_ranks.Given as goal
+use Rattle.iscsi_commands.proofs.tag_index.note_ranks.Given as goal
 
 -- the places before this one have their ranks
 pub record AreRanked (log : List Entry) (n all : ℕ) (ranks : List ℕ) (before : ℕ) : Type 0 where

@@ -3,7 +3,7 @@ use Rattle.std.proofs.lemmas.Bool.Decides.{nat_tests}
 use Rattle.iscsi_commands.specs.declared.entry.Entry.{Entry}
 use Rattle.iscsi_commands.specs.Log.{AreTagged, AreLogged, IsLiveAt, ended, entry_at, ticket_of}
 use Rattle.iscsi_commands.proofs.LogLemmas.{one_fewer, ticket_leaves, no_ticket_leaves, logged_without}
-use Rattle.iscsi_commands.proofs.live_commands.LiveCommands.remove.Goals as goal
+use Rattle.iscsi_commands.proofs.live_commands.LiveCommands.remove_sought.Goals as goal
 
 pub overflow_sub-self : goal.overflow_sub-self
 overflow_sub-self c =
