@@ -1,17 +1,17 @@
 -- What each byte is worth as a digit, by a table.
-use Rattle.std.proofs.Common.{◌≡◌, ℕ, zero, suc, ◌+◌, ◌-◌, ◌%◌, ◌<◌, ◌&&◌, ◌==◌, nat_lt, Bool, true, min, inl, inr, Option, Some, None, refl, arith, bit_and}
+use Rattle.std.proofs.Common.{◌≡◌, ℕ, zero, suc, ◌+◌, ◌-◌, ◌%◌, ◌<◌, ◌&&◌, ◌==◌, nat_lt, Bool, true, max, inl, inr, Option, Some, None, refl, arith, bit_and}
 use Rattle.std.specs.Prelude.{MatchOption}
 use Rattle.std.proofs.lemmas.Bool.{and_parts, cases_lt, eqb-true, ltb-true}
 use Rattle.hex.specs.Hex.{hex_digit_value}
-use Rattle.iscsi_recording.specs.DigitValues.{IsValue}
+use Rattle.iscsi_recording.specs.DigitValues.{IsRaisedValue}
 
--- the value as the code computes it
+-- the raised value as the code computes it
 abbrev worth : ℕ → ℕ
-worth c = min (((c + 198) % 256 - 6 + 16) % 256) (min ((bit_and c 223 + 191) % 256 + 10) 255)
+worth c = max ((c + 198) % 256 - 6) ((bit_and ((c + 255) % 256) 223 + 186) % 256)
 
 abbrev fits : Option ℕ → ℕ → Bool
-fits None v = nat_lt 15 v
-fits (Some w) v = v == w
+fits None v = nat_lt v 240
+fits (Some w) v = v == 240 + w
 
 abbrev all_fit : ℕ → Bool
 all_fit zero = true
@@ -28,9 +28,9 @@ fits-at (suc n) c h lt =
           rw e parts.0
     ]
 
-from_fits : (o : Option ℕ) (v : ℕ) → fits o v ≡ true → MatchOption o (15 < v) (λ w. v ≡ w)
-from_fits None v h = ltb-true 15 v h
-from_fits (Some w) v h = eqb-true v w h
+from_fits : (o : Option ℕ) (v : ℕ) → fits o v ≡ true → MatchOption o (v < 240) (λ w. v ≡ 240 + w)
+from_fits None v h = ltb-true v 240 h
+from_fits (Some w) v h = eqb-true v (240 + w) h
 
-pub is_value : (c : ℕ) → c < 256 → IsValue c (worth c)
-is_value c h = from_fits (hex_digit_value c) (worth c) (fits-at 256 c refl h)
+pub is_raised : (c : ℕ) → c < 256 → IsRaisedValue c (worth c)
+is_raised c h = from_fits (hex_digit_value c) (worth c) (fits-at 256 c refl h)

@@ -6,7 +6,7 @@ use std::alloc::{AllocError, Global};
 use std::marker::Model;
 
 /// By so many bytes, or more where more are needed, the memory grows.
-const GROWTH: usize = 1024;
+const GROWTH: usize = 2048;
 
 /// Bytes at the front of memory that is there already, so that a few more are written in place.
 #[derive(Debug)]
@@ -64,7 +64,7 @@ fn make_room(memory: &mut Vec<u8>, len: usize, more: usize) -> Result<(), AllocE
 #[inline(never)]
 fn grow(memory: &mut Vec<u8>, more: usize) -> Result<(), AllocError>
     requires { more < 2 ^ 63 }
-    ensures ok { OnOk result (vec_len memory.new ≡ vec_len memory.old + max more 1024) }
+    ensures ok { OnOk result (vec_len memory.new ≡ vec_len memory.old + max more 2048) }
     ensures err { OnErr result (vec_len memory.new ≡ vec_len memory.old) }
     ensures kept { take (vec_len memory.old) memory.new.items ≡ memory.old.items }
 {
@@ -91,7 +91,7 @@ fn find_room(memory: &mut Vec<u8>, len: usize, more: usize) -> bool
 #[inline(never)]
 fn grow_in_place(memory: &mut Vec<u8>, more: usize) -> bool
     requires { more < 2 ^ 63 }
-    ensures grown { result ≡ true → vec_len memory.new ≡ vec_len memory.old + max more 1024 }
+    ensures grown { result ≡ true → vec_len memory.new ≡ vec_len memory.old + max more 2048 }
     ensures not { result ≡ false → vec_len memory.new ≡ vec_len memory.old }
     ensures kept { take (vec_len memory.old) memory.new.items ≡ memory.old.items }
 {

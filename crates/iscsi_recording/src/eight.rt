@@ -63,14 +63,29 @@ fn number_first_of(values: u8x16, count: usize) -> u64
     fours.wrapping_mul(10_000 * 0x1_0000_0000 + 1) >> 32
 }
 
-/// The ticket at the front of these bytes, digit by digit.
+/// The ticket at the front of these bytes, digit by digit, and how many it has, where 0 decides nothing. It is answered
+/// in registers.
 #[inline(never)]
-fn longer_first(bytes: &[u8]) -> Option<(u64, usize)>
+fn longer_first(bytes: &[u8]) -> (u64, usize)
+    requires { 18 < length bytes.now }
+    ensures number { 0 < result.1 → LeadsWith bytes.now result.0 result.1 }
+    ensures most { result.1 ≤ 18 }
+{
+    match number_first(bytes, TICKET_DIGITS) {
+        Some(found) => found,
+        None => (0, 0),
+    }
+}
+
+/// The same, where `None` decides nothing.
+#[inline(always)]
+fn longer_ticket(bytes: &[u8]) -> Option<(u64, usize)>
     requires { 18 < length bytes.now }
     ensures number { IfSome result (λ r. LeadsWith bytes.now r.0 r.1) }
     ensures most { IfSome result (λ r. r.1 ≤ 18) }
 {
-    number_first(bytes, TICKET_DIGITS)
+    let found = longer_first(bytes);
+    if found.1 > 0 { Some(found) } else { None }
 }
 
 /// The ticket at the front of these bytes, where a blank ends it, and how many digits it has. `None` decides nothing.
@@ -81,11 +96,11 @@ pub fn common_ticket(bytes: &[u8]) -> Option<(u64, usize)>
     ensures most { IfSome result (λ r. r.1 ≤ 18) }
 {
     if !(b'1'..=b'9').contains(&bytes[0]) {
-        return longer_first(bytes);
+        return longer_ticket(bytes);
     }
     let values = values_of(bytes);
     let Some(count) = count_first(values) else {
-        return longer_first(bytes);
+        return longer_ticket(bytes);
     };
     if bytes[count] != b' ' {
         return None;

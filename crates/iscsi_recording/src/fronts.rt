@@ -46,21 +46,6 @@ pub fn number_first(bytes: &[u8], most: usize) -> Option<(u64, usize)>
     None
 }
 
-/// The number of one digit at the front of these bytes, behind which a blank stands, and that it has one. `None` decides
-/// nothing.
-#[inline(always)]
-fn one_digit_first(bytes: &[u8]) -> Option<(u16, usize)>
-    requires { (1 < length bytes.now) × (slice_index bytes.now 1 ≡ 32) }
-    ensures number { IfSome result (λ r. LeadsWith bytes.now r.0 r.1) }
-    ensures most { IfSome result (λ r. (r.0 < 2 ^ 16) × (r.1 ≤ 5)) }
-{
-    let digit = bytes[0];
-    if !is_decimal(digit) {
-        return None;
-    }
-    Some((u16::from(digit - b'0'), 1))
-}
-
 /// The number of two digits at the front of these bytes, behind which a blank stands, and that it has two. `None`
 /// decides nothing.
 #[inline(always)]
@@ -91,18 +76,13 @@ fn five_digits_first(bytes: &[u8]) -> Option<(u16, usize)>
     Some((conn, found.1))
 }
 
-/// The CID at the front of these bytes, and how many digits it has. `None` decides nothing.
-///
-/// It has mostly a digit or two, so a blank is looked for behind these first.
+/// The CID at the front of these bytes, and how many digits it has, which are mostly two. `None` decides nothing.
 #[inline(always)]
-pub fn cid_first(bytes: &[u8]) -> Option<(u16, usize)>
+pub fn longer_cid_first(bytes: &[u8]) -> Option<(u16, usize)>
     requires { 5 < length bytes.now }
     ensures number { IfSome result (λ r. LeadsWith bytes.now r.0 r.1) }
     ensures most { IfSome result (λ r. (r.0 < 2 ^ 16) × (r.1 ≤ 5)) }
 {
-    if bytes[1] == b' ' {
-        return one_digit_first(bytes);
-    }
     if bytes[2] == b' ' {
         return two_digits_first(bytes);
     }

@@ -1,15 +1,15 @@
 //! One line of a recording.
 
-ghost use Rattle.std.specs.Prelude.{◌≡◌, ℕ, ◌+◌, ◌-◌, ◌*◌, ◌^◌, ◌<◌, ◌≤◌, IfSome, Some, true, [], ◌∷◌, length, slice_index, MatchOption, option_map, option_and_then, position};
+ghost use Rattle.std.specs.Prelude.{◌≡◌, ℕ, ◌+◌, ◌-◌, ◌*◌, ◌^◌, ◌<◌, ◌≤◌, IfSome, Some, true, [], ◌∷◌, length, drop, slice_index, MatchOption, option_map, option_and_then, position};
 ghost use Rattle.std.specs.List.{before_first, after_first};
 ghost use Rattle.std.specs.Int.{w32, from_be_bytes};
 ghost use Rattle.iscsi_recording.specs.Fields.{is_blank, digits_after, is_digit, up_to, decimal_of, hex_of};
-ghost use Rattle.iscsi_recording.specs.DigitValues.{IsValue, HasNonDigit, AreValues, paired};
+ghost use Rattle.iscsi_recording.specs.DigitValues.{IsRaisedValue, HasNonDigit, AreRaisedValues, lowered, paired};
 ghost use Rattle.iscsi_recording.specs.Grammar.{arrival_of, completion_of, event_of, connection_of, line_of};
-ghost use Rattle.iscsi_recording.specs.Fronts.{FirstSays};
+ghost use Rattle.iscsi_recording.specs.Fronts.{FirstSays, LeadsWith};
 
 use crate::eight::{TICKET_DIGITS, common_ticket};
-use crate::fronts::cid_first;
+use crate::fronts::longer_cid_first;
 use crate::line::Line;
 use iscsi_rules::Event;
 
@@ -119,47 +119,57 @@ fn hexadecimal<const N: usize>(text: &[u8]) -> Option<[u8; N]>
     }
 }
 
-/// The value of a hexadecimal digit of either case, or 16 or more where the byte is none.
+/// 240 more than the value of a hexadecimal digit of either case, or less than 240 where the byte is none.
 ///
-/// It has no branch, so that many bytes are taken at once.
+/// It has no branch, so that many bytes are taken at once, and fewer steps than the value itself would take.
 #[inline(always)]
-fn digit_value(c: u8) -> u8
-    ensures { IsValue c result }
+fn raised_value(c: u8) -> u8
+    ensures { IsRaisedValue c result }
 {
-    // b'0' to b'9' become 0 to 9, and b'A' to b'F' 10 to 15. Any other byte becomes 16 or more in both.
-    let decimal = c
-        .wrapping_add(0xff - b'9')
-        .saturating_sub(6)
-        .wrapping_sub(0xf0);
-    let letter = (c & !0x20).wrapping_sub(b'A').saturating_add(10);
-    decimal.min(letter)
+    // b'0' to b'9' become 0xf0 to 0xf9, and b'A' to b'F' 0xfa to 0xff. Any other byte becomes less in both: b'@' too, as
+    // one is taken from it before its case is.
+    let decimal = c.wrapping_add(0xff - b'9').saturating_sub(6);
+    let letter = (c.wrapping_sub(1) & !0x20).wrapping_add(0xff - b'F' + 1);
+    decimal.max(letter)
 }
 
-/// The values of 96 digits, or `None` where a byte is none.
+/// The raised values of 96 digits, or `None` where a byte is none.
 #[inline(always)]
-fn digit_values(text: &[u8]) -> Option<[u8; 96]>
+fn raised_values(text: &[u8]) -> Option<[u8; 96]>
     requires { length text.now ≡ 96 }
-    ensures { MatchOption result (HasNonDigit text.now) (λ values. AreValues text.now values) }
+    ensures { MatchOption result (HasNonDigit text.now) (λ values. AreRaisedValues text.now values) }
 {
     let mut values = [0u8; 96];
-    let mut most = 0u8;
+    let mut least = 0xffu8;
     'digits: for i in 0..96usize {
-        let v = digit_value(text[i]);
+        let v = raised_value(text[i]);
         values[i] = v;
-        most = most.max(v);
+        least = least.min(v);
     }
-    if most < 16 { Some(values) } else { None }
+    if least >= 0xf0 { Some(values) } else { None }
 }
 
-/// The bytes of which these are the digits' values.
+/// The byte of two digits with these raised values.
+///
+/// The first one is added to the second's upper half where they lie, so that many pairs are taken at once.
+#[inline(always)]
+fn byte_of(pair: [u8; 2]) -> u8
+    requires { (239 < slice_index pair 0) × (239 < slice_index pair 1) }
+    ensures { result ≡ (slice_index pair 0 - 240) * 16 + (slice_index pair 1 - 240) }
+{
+    let word = u16::from_le_bytes(pair).wrapping_mul(0x1001);
+    ((word >> 8) as u8).wrapping_add(0x10)
+}
+
+/// The bytes of which these are the digits' raised values.
 #[inline(always)]
 fn joined(values: &[u8; 96]) -> [u8; 48]
-    requires { (k : ℕ) → slice_index values.now k < 16 }
-    ensures { result ≡ paired values.now }
+    requires { (k : ℕ) → k < 96 → 239 < slice_index values.now k }
+    ensures { result ≡ paired (lowered values.now) }
 {
     let mut bytes = [0u8; 48];
     'bytes: for i in 0..48usize {
-        bytes[i] = values[2 * i] * 16 + values[2 * i + 1];
+        bytes[i] = byte_of([values[2 * i], values[2 * i + 1]]);
     }
     bytes
 }
@@ -172,7 +182,7 @@ fn decode_48(text: &[u8]) -> Option<[u8; 48]>
     if text.len() != 96 {
         return None;
     }
-    let values = digit_values(text)?;
+    let values = raised_values(text)?;
     Some(joined(&values))
 }
 
@@ -209,14 +219,31 @@ pub fn first_arrival(bytes: &[u8]) -> Option<(u16, [u8; 48], usize)>
     if bytes.len() <= SHORTEST_ARRIVAL || bytes[0] != b'C' || bytes[1] != b' ' {
         return None;
     }
+    // A CID of one digit is told apart first, so that the places behind it are known where its line is taken.
     let rest = &bytes[2..];
-    let conn = cid_first(rest)?;
-    let end = conn.1 + 97;
+    if rest[1] == b' ' && is_decimal(rest[0]) {
+        return arrival_behind(bytes, u16::from(rest[0] - b'0'), 1);
+    }
+    let conn = longer_cid_first(rest)?;
+    arrival_behind(bytes, conn.0, conn.1)
+}
+
+/// The same, where a CID of so many digits and a blank stand behind the letter.
+#[inline(always)]
+fn arrival_behind(bytes: &[u8], conn: u16, count: usize) -> Option<(u16, [u8; 48], usize)>
+    requires long { 100 < length bytes.now }
+    requires letter { (slice_index bytes.now 0 ≡ 67) × (slice_index bytes.now 1 ≡ 32) }
+    requires cid { LeadsWith (drop 2 bytes.now) conn count }
+    requires few { count ≤ 5 }
+    ensures { IfSome result (λ r. FirstSays bytes.now r.2 (Event.Arrive r.0 r.1)) }
+{
+    let rest = &bytes[2..];
+    let end = count + 97;
     if rest.len() <= end || rest[end] != b'\n' {
         return None;
     }
-    let header = decode_48(&rest[conn.1 + 1..end])?;
-    Some((conn.0, header, end + 2))
+    let header = decode_48(&rest[count + 1..end])?;
+    Some((conn, header, end + 2))
 }
 
 /// The byte of two hexadecimal digits.
@@ -228,10 +255,10 @@ fn decode_1(high: u8, low: u8) -> Option<u8>
     if is_decimal(high) && is_decimal(low) {
         return Some((high - b'0') * 16 + (low - b'0'));
     }
-    let high = digit_value(high);
-    let low = digit_value(low);
-    if high.max(low) < 16 {
-        Some(high * 16 + low)
+    let high = raised_value(high);
+    let low = raised_value(low);
+    if high.min(low) >= 0xf0 {
+        Some(byte_of([high, low]))
     } else {
         None
     }
