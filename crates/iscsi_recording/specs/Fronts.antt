@@ -1,5 +1,5 @@
 -- What stands at the front of bytes of which more may come.
-use Rattle.std.specs.Prelude.{◌≡◌, ℕ, ◌^◌, ◌<◌, ◌≤◌, true, false, List, length, take, slice_index, Some}
+use Rattle.std.specs.Prelude.{◌≡◌, ℕ, ◌+◌, ◌^◌, ◌<◌, ◌≤◌, true, false, List, length, take, slice_index, Some}
 use Rattle.std.specs.List.{list_any}
 use Rattle.iscsi_rules.specs.declared.event.Event.{Event}
 use Rattle.iscsi_recording.specs.Fields.{digits_after, decimal_of}
@@ -16,6 +16,10 @@ pub record LeadsWith (bytes : List ℕ) (n count : ℕ) : Type 0 where
   pub digits : digits_after 0 (take count bytes) ≡ Some n
   pub small : n < 2 ^ 64
   pub number : (max : ℕ) → n ≤ max → decimal_of max (take count bytes) ≡ Some n
+
+-- a blank, the status 0 and the end of a line stand at a place of the bytes
+abbrev pub EndsGood : List ℕ → ℕ → Type 0
+EndsGood bytes at = (slice_index bytes at ≡ 32) × ((slice_index bytes (at + 1) ≡ 48) × ((slice_index bytes (at + 2) ≡ 48) × (slice_index bytes (at + 3) ≡ 10)))
 
 -- the first line of the bytes is this long, and says the event
 pub record FirstSays (bytes : List ℕ) (size : ℕ) (e : Event) : Type 0 where

@@ -1,8 +1,8 @@
 //! The number of up to eight digits at the front of a line's bytes, all of which are read at once.
 
-ghost use Rattle.std.specs.Prelude.{◌≡◌, ℕ, ◌+◌, ◌%◌, ◌<◌, ◌≤◌, IfSome, length, slice_index};
+ghost use Rattle.std.specs.Prelude.{◌≡◌, ℕ, ◌+◌, ◌%◌, ◌<◌, ◌≤◌, IfSome, true, length, slice_index};
 ghost use Rattle.std.specs.Int.{bit_at};
-ghost use Rattle.iscsi_recording.specs.Fronts.{LeadsWith};
+ghost use Rattle.iscsi_recording.specs.Fronts.{EndsGood, LeadsWith};
 ghost use Rattle.iscsi_recording.specs.DigitValues.{number_of};
 
 use crate::fronts::number_first;
@@ -10,6 +10,9 @@ use std::simd::prelude::*;
 
 /// How many digits a ticket has at most in its common form.
 pub const TICKET_DIGITS: usize = 18;
+
+/// A blank, two digits 0 and the end of a line, the first of which is the lowest byte.
+const GOOD_END: u32 = 0x0a30_3020;
 
 /// The values of these bytes as decimal digits, which are 10 or more where a byte is none.
 #[inline(always)]
@@ -61,6 +64,35 @@ fn number_first_of(values: u8x16, count: usize) -> u64
     let pairs = (digits.wrapping_mul(10 * 0x100 + 1) >> 8) & 0x00ff_00ff_00ff_00ff;
     let fours = (pairs.wrapping_mul(100 * 0x1_0000 + 1) >> 16) & 0x0000_ffff_0000_ffff;
     fours.wrapping_mul(10_000 * 0x1_0000_0000 + 1) >> 32
+}
+
+/// Whether a blank, the status 0 and the end of the line stand at this place.
+#[inline(always)]
+fn ends_good(bytes: &[u8], at: usize) -> bool
+    requires { at + 3 < length bytes.now }
+    ensures { result ≡ true → EndsGood bytes.now at }
+{
+    u32::from_le_bytes([bytes[at], bytes[at + 1], bytes[at + 2], bytes[at + 3]]) == GOOD_END
+}
+
+/// The ticket at the front of these bytes, and how many digits it has, where they are eight at most, and a blank, the
+/// status 0 and the end of the line stand behind it. `None` decides nothing.
+#[inline(always)]
+pub fn good_ticket(bytes: &[u8]) -> Option<(u64, usize)>
+    requires { 18 < length bytes.now }
+    ensures number { IfSome result (λ r. LeadsWith bytes.now r.0 r.1) }
+    ensures most { IfSome result (λ r. r.1 ≤ 8) }
+    ensures good { IfSome result (λ r. EndsGood bytes.now r.1) }
+{
+    if !(b'1'..=b'9').contains(&bytes[0]) {
+        return None;
+    }
+    let values = values_of(bytes);
+    let count = count_first(values)?;
+    if !ends_good(bytes, count) {
+        return None;
+    }
+    Some((number_first_of(values, count), count))
 }
 
 /// The ticket at the front of these bytes, digit by digit, and how many it has, where 0 decides nothing. It is answered

@@ -8,7 +8,7 @@ ghost use Rattle.iscsi_recording.specs.DigitValues.{IsRaisedValue, HasNonDigit, 
 ghost use Rattle.iscsi_recording.specs.Grammar.{arrival_of, completion_of, event_of, connection_of, line_of};
 ghost use Rattle.iscsi_recording.specs.Fronts.{FirstSays, LeadsWith};
 
-use crate::eight::{TICKET_DIGITS, common_ticket};
+use crate::eight::{TICKET_DIGITS, common_ticket, good_ticket};
 use crate::fronts::longer_cid_first;
 use crate::line::Line;
 use iscsi_rules::Event;
@@ -210,25 +210,37 @@ const SHORTEST_ARRIVAL: usize = 2 + 1 + 1 + 96;
 
 const LONGEST_COMPLETION: usize = 2 + TICKET_DIGITS + 1 + 2;
 
-/// The arrival that the first line of these bytes says, and how many bytes that line has without its end. `None`
-/// decides nothing.
+/// The arrival that the first line of these bytes says, where its CID has one digit, and how many bytes that line has
+/// without its end. `None` decides nothing.
+///
+/// It is apart from the others, so that the places behind the CID are known where the line is taken.
 #[inline(always)]
-pub fn first_arrival(bytes: &[u8]) -> Option<(u16, [u8; 48], usize)>
+pub fn short_arrival(bytes: &[u8]) -> Option<(u16, [u8; 48], usize)>
     ensures { IfSome result (λ r. FirstSays bytes.now r.2 (Event.Arrive r.0 r.1)) }
 {
     if bytes.len() <= SHORTEST_ARRIVAL || bytes[0] != b'C' || bytes[1] != b' ' {
         return None;
     }
-    // A CID of one digit is told apart first, so that the places behind it are known where its line is taken.
     let rest = &bytes[2..];
-    if rest[1] == b' ' && is_decimal(rest[0]) {
-        return arrival_behind(bytes, u16::from(rest[0] - b'0'), 1);
+    if rest[1] != b' ' || !is_decimal(rest[0]) {
+        return None;
     }
-    let conn = longer_cid_first(rest)?;
+    arrival_behind(bytes, u16::from(rest[0] - b'0'), 1)
+}
+
+/// The same, where its CID has more digits.
+#[inline(always)]
+pub fn longer_arrival(bytes: &[u8]) -> Option<(u16, [u8; 48], usize)>
+    ensures { IfSome result (λ r. FirstSays bytes.now r.2 (Event.Arrive r.0 r.1)) }
+{
+    if bytes.len() <= SHORTEST_ARRIVAL || bytes[0] != b'C' || bytes[1] != b' ' {
+        return None;
+    }
+    let conn = longer_cid_first(&bytes[2..])?;
     arrival_behind(bytes, conn.0, conn.1)
 }
 
-/// The same, where a CID of so many digits and a blank stand behind the letter.
+/// The same, where this CID of so many digits and a blank stand behind the letter.
 #[inline(always)]
 fn arrival_behind(bytes: &[u8], conn: u16, count: usize) -> Option<(u16, [u8; 48], usize)>
     requires long { 100 < length bytes.now }
@@ -274,6 +286,10 @@ pub fn first_completion(bytes: &[u8]) -> Option<(u64, u8, usize)>
         return None;
     }
     let rest = &bytes[2..];
+    // Most commands end with the status 0, which is told with what stands round it.
+    if let Some(good) = good_ticket(rest) {
+        return Some((good.0, 0, good.1 + 5));
+    }
     let ticket = common_ticket(rest)?;
     if rest[ticket.1 + 3] != b'\n' {
         return None;

@@ -10,7 +10,9 @@ use crate::conns::Conns;
 use crate::events::Events;
 use crate::fault::ReplayFault;
 use crate::line::Line;
-use crate::parse::{arrival, completion, first_arrival, first_completion, parse_line};
+use crate::parse::{
+    arrival, completion, first_completion, longer_arrival, parse_line, short_arrival,
+};
 use iscsi_rules::Event;
 use std::alloc::Global;
 
@@ -123,7 +125,14 @@ impl Recording {
         ensures taken { 0 < result → TookFirst (view self.old) (view self.new) bytes.now result }
         ensures not { result ≡ 0 → self.new ≡ self.old }
     {
-        let Some(found) = first_arrival(bytes) else {
+        // The commonest is taken where it is found, so that no more is asked of it.
+        if let Some(found) = short_arrival(bytes) {
+            if !self.take_common(found.0, &found.1) {
+                return 0;
+            }
+            return found.2;
+        }
+        let Some(found) = longer_arrival(bytes) else {
             return 0;
         };
         if !self.take_common(found.0, &found.1) {

@@ -4,7 +4,7 @@ ghost use Rattle.std.specs.Prelude.{◌≡◌, ◌+◌, ◌≤◌, ◌++◌, ◌
 ghost use Rattle.iscsi_report.specs.Lines.{eight_digits, request_fields, enter_fields, attr_word, why_word, effect_line};
 
 use crate::decimal::{put_again, put_number, put_small, put_small_and_blank};
-use crate::line::{put_digits, put_text, put_two_numbers};
+use crate::line::{put_digits, put_text, put_two_numbers, put_word};
 use crate::send_line::write_send;
 use crate::tens::Tens;
 use iscsi_rules::{Effect, Numbers, Why};
@@ -65,11 +65,11 @@ fn write_why(why: Why, line: &mut [u8], at: usize) -> usize
     ensures written { take result line.new ≡ take at line.old ++ (codes "  ignore " ++ (why_word why ++ codes "\n")) }
 {
     match why {
-        Why::Outside => put_text(b"  ignore outside\n", line, at),
-        Why::Duplicate => put_text(b"  ignore duplicate\n", line, at),
-        Why::Closed => put_text(b"  ignore closed\n", line, at),
-        Why::Stale => put_text(b"  ignore stale\n", line, at),
-        Why::Data => put_text(b"  ignore data\n", line, at),
+        Why::Outside => put_word(b"  ignore outside\n", line, at),
+        Why::Duplicate => put_word(b"  ignore duplicate\n", line, at),
+        Why::Closed => put_word(b"  ignore closed\n", line, at),
+        Why::Stale => put_word(b"  ignore stale\n", line, at),
+        Why::Data => put_word(b"  ignore data\n", line, at),
     }
 }
 
@@ -254,7 +254,7 @@ fn put_attr(attr: Attr, line: &mut [u8], at: usize) -> usize
 {
     match attr {
         // Most are of this kind.
-        Attr::Simple => put_text(b" simple\n", line, at),
+        Attr::Simple => put_word(b" simple\n", line, at),
         Attr::Ordered => put_rarer(b" ordered\n", line, at),
         Attr::Head => put_rarer(b" head\n", line, at),
     }

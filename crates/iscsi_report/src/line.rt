@@ -23,6 +23,17 @@ pub fn put_text(text: &[u8], line: &mut [u8], at: usize) -> usize
     end
 }
 
+/// Writes a word. It is copied first, so that the compiler knows it not to overlap the line.
+#[inline(always)]
+pub fn put_word<const N: usize>(word: &[u8; N], line: &mut [u8], at: usize) -> usize
+    requires { at + length word.now ≤ length line.old }
+    ensures end { result ≡ at + length word.now }
+    ensures written { take result line.new ≡ take at line.old ++ word.now }
+{
+    let copy = *word;
+    put_text(&copy, line, at)
+}
+
 /// Writes a number in eight digits.
 #[inline(always)]
 pub fn put_digits(n: u32, line: &mut [u8], at: usize) -> usize

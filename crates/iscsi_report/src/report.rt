@@ -4,14 +4,15 @@ ghost use Rattle.std.specs.Prelude.{◌≡◌, ℕ, ◌+◌, ◌-◌, ◌*◌, �
 ghost use Rattle.std.specs.List.{flat_map};
 ghost use Rattle.iscsi_rules.specs.declared.effect.Effect.{Effect as SpecEffect};
 ghost use Rattle.iscsi_rules.specs.declared.effect.Numbers.{Numbers as SpecNumbers};
+ghost use Rattle.iscsi_rules.specs.declared.event.Event.{Event as SpecEvent};
 ghost use Rattle.iscsi_report.specs.Lines.{event_line, effect_line, entry_lines};
-ghost use Rattle.iscsi_report.specs.Filled.{filled, HasLines, IsAtRest, at_rest, numbers_from_end};
+ghost use Rattle.iscsi_report.specs.Filled.{filled, HasLines, IsAtRest, at_rest, numbers_digits, numbers_from_end, overwritten};
 
 use crate::effect_line::{
     write_closing, write_deliver, write_enable_near, write_enter, write_ignore, write_immediate,
     write_leave_near, write_place, write_request,
 };
-use crate::event_line::write_event;
+use crate::event_line::{write_arrival, write_completion};
 use crate::line::put_text;
 use crate::lines::{LONGEST_LINE, make_room};
 use crate::send_line::write_made_send;
@@ -39,17 +40,23 @@ const MOST_REPLIES: usize = 512;
 /// What stands for the numbers of an event before its end.
 const NOT_YET: Numbers = Numbers { exp: 0, max: 0 };
 
+/// Memory for lines, which are at its front. What asks for room takes it whole, by one address.
+#[derive(Drop)]
+struct Memory {
+    text: Vec<u8>,
+    /// A line that begins before this place has room.
+    room: usize,
+    /// Memory has sufficed.
+    is_whole: bool,
+}
+
 /// The lines of events and of their effects, one after another, as they come. The numbers of an event's replies are
 /// filled in at its end.
 pub struct Report {
-    text: Vec<u8>,
+    memory: Memory,
     len: usize,
-    /// A line that begins before this place has room.
-    room: usize,
     /// Where numbers are to be filled in.
     places: Vec<usize>,
-    /// Memory has sufficed.
-    is_whole: bool,
     /// The digits of the tickets that entered last, and of those that were completed last.
     entered: Tens,
     completed: Tens,
@@ -58,11 +65,9 @@ pub struct Report {
 impl Drop for Report {
     fn drop(self) {
         let Report {
-            text: _text,
+            memory: _memory,
             len: _len,
-            room: _room,
             places: _places,
-            is_whole: _is_whole,
             entered: _entered,
             completed: _completed,
         } = self;
@@ -75,10 +80,14 @@ impl Model for Report {
 
     ghost Value = { Written };
 
-    ghost view = { λ r. record { bytes = take r.len r.text.items; places = r.places.items; is_whole = r.is_whole } };
+    ghost view = { λ r. record {
+      bytes = take r.len r.memory.text.items;
+      places = r.places.items;
+      is_whole = r.memory.is_whole;
+    } };
 
-    ghost invariant = { λ r. (r.len ≤ vec_len r.text) × (All (λ p. p + 16 ≤ r.len) r.places.items
-        × (r.room ≤ vec_len r.text - 255)) };
+    ghost invariant = { λ r. (r.len ≤ vec_len r.memory.text) × (All (λ p. p + 16 ≤ r.len) r.places.items
+        × (r.memory.room ≤ vec_len r.memory.text - 255)) };
 }
 
 impl Report {
@@ -87,11 +96,13 @@ impl Report {
         ensures { result ≡ at_rest [] }
     {
         Report {
-            text: Vec::new(alloc),
+            memory: Memory {
+                text: Vec::new(alloc),
+                room: 0,
+                is_whole: true,
+            },
             len: 0,
-            room: 0,
             places: Vec::new(alloc),
-            is_whole: true,
             entered: Tens::new(),
             completed: Tens::new(),
         }
@@ -103,17 +114,42 @@ impl Report {
         requires { IsAtRest self.old }
         ensures { HasLines self.new (self.old.bytes ++ event_line event.now) [] }
     {
-        // There is room for the places before there is memory for lines, so that this can grow where it lies.
-        if self.room <= self.len && self.places.reserve(MOST_REPLIES).is_err() {
-            self.is_whole = false;
+        match event {
+            Event::Arrive { conn, header } => self.begin_arrival(*conn, header),
+            Event::Done { ticket, status } => self.begin_completion(*ticket, *status),
+        }
+    }
+
+    /// Puts the line of an arrival behind the others.
+    #[inline(always)]
+    pub fn begin_arrival(&mut self, conn: u16, header: &[u8; 48])
+        requires { IsAtRest self.old }
+        ensures { HasLines self.new (self.old.bytes ++ event_line (SpecEvent.Arrive conn header.now)) [] }
+    {
+        if has_room_to_begin(&mut self.places, &mut self.memory, self.len) {
+            self.len = write_arrival(conn, header, &mut self.memory.text, self.len);
+        }
+    }
+
+    /// Puts the line of a completion behind the others.
+    #[inline(always)]
+    pub fn begin_completion(&mut self, ticket: u64, status: u8)
+        requires { IsAtRest self.old }
+        ensures { HasLines self.new (self.old.bytes ++ event_line (SpecEvent.Done ticket status)) [] }
+    {
+        if !has_room_to_begin(&mut self.places, &mut self.memory, self.len) {
             return;
         }
-        if !has_room(&mut self.text, &mut self.room, self.len, &mut self.is_whole) {
-            return;
-        }
-        // The digits of a ticket that is completed are kept wherever it is, since it leaves next.
+        // The digits of its ticket are kept wherever it is, since it leaves next.
         self.completed.take_any();
-        self.len = write_event(event, &mut self.completed, &mut self.text, self.len);
+        self.len = write_completion(
+            ticket,
+            status,
+            &mut self.completed,
+            &mut self.memory.text,
+            self.len,
+        )
+        .1;
     }
 
     /// Fills in the numbers of the event. On `Err` memory was wanting, now or before.
@@ -123,10 +159,10 @@ impl Report {
         ensures ok { IsOk result → self.old.is_whole ≡ true }
         ensures whole { self.old.is_whole ≡ true → IsOk result }
     {
-        if !self.is_whole {
+        if !self.memory.is_whole {
             return Err(AllocError);
         }
-        fill(numbers, &self.places, &mut self.text);
+        fill(numbers, &self.places, &mut self.memory.text);
         self.places.clear();
         Ok(())
     }
@@ -142,7 +178,7 @@ impl Report {
     pub fn as_slice(&self) -> &[u8]
         ensures { result.now ≡ self.now.bytes }
     {
-        &self.text[..self.len]
+        &self.memory.text[..self.len]
     }
 
     /// Drops all lines. The memory stays.
@@ -163,45 +199,45 @@ impl EffectSink for Report {
 
     #[inline(always)]
     fn put_deliver(&mut self, request: &Request) {
-        if has_room(&mut self.text, &mut self.room, self.len, &mut self.is_whole) {
-            self.len = write_deliver(request, &mut self.text, self.len);
+        if has_room(&mut self.memory, self.len) {
+            self.len = write_deliver(request, &mut self.memory.text, self.len);
         }
     }
 
     #[inline(always)]
     fn put_immediate(&mut self, request: &Request) {
-        if has_room(&mut self.text, &mut self.room, self.len, &mut self.is_whole) {
-            self.len = write_immediate(request, &mut self.text, self.len);
+        if has_room(&mut self.memory, self.len) {
+            self.len = write_immediate(request, &mut self.memory.text, self.len);
         }
     }
 
     fn put_wait(&mut self, request: &Request) {
-        if has_room(&mut self.text, &mut self.room, self.len, &mut self.is_whole) {
-            self.len = write_request(b"  wait ", request, &mut self.text, self.len);
+        if has_room(&mut self.memory, self.len) {
+            self.len = write_request(b"  wait ", request, &mut self.memory.text, self.len);
         }
     }
 
     fn put_void(&mut self, sn: u32) {
-        if has_room(&mut self.text, &mut self.room, self.len, &mut self.is_whole) {
-            self.len = write_place(b"  void ", sn, &mut self.text, self.len);
+        if has_room(&mut self.memory, self.len) {
+            self.len = write_place(b"  void ", sn, &mut self.memory.text, self.len);
         }
     }
 
     fn put_empty(&mut self, sn: u32) {
-        if has_room(&mut self.text, &mut self.room, self.len, &mut self.is_whole) {
-            self.len = write_place(b"  empty ", sn, &mut self.text, self.len);
+        if has_room(&mut self.memory, self.len) {
+            self.len = write_place(b"  empty ", sn, &mut self.memory.text, self.len);
         }
     }
 
     #[inline(always)]
     fn put_enter(&mut self, ticket: u64, unit: u16, attr: Attr) {
-        if has_room(&mut self.text, &mut self.room, self.len, &mut self.is_whole) {
+        if has_room(&mut self.memory, self.len) {
             self.len = write_enter(
                 ticket,
                 unit,
                 attr,
                 &mut self.entered,
-                &mut self.text,
+                &mut self.memory.text,
                 self.len,
             )
             .1;
@@ -210,95 +246,126 @@ impl EffectSink for Report {
 
     #[inline(always)]
     fn put_enable(&mut self, ticket: u64, _unit: u16) {
-        if has_room(&mut self.text, &mut self.room, self.len, &mut self.is_whole) {
-            self.len = write_enable_near(ticket, &mut self.entered, &mut self.text, self.len);
+        if has_room(&mut self.memory, self.len) {
+            self.len = write_enable_near(
+                ticket,
+                &mut self.entered,
+                &mut self.memory.text,
+                self.len,
+            );
         }
     }
 
     #[inline(always)]
     fn put_leave(&mut self, ticket: u64, _unit: u16) {
-        if has_room(&mut self.text, &mut self.room, self.len, &mut self.is_whole) {
-            self.len = write_leave_near(ticket, &mut self.completed, &mut self.text, self.len);
+        if has_room(&mut self.memory, self.len) {
+            self.len = write_leave_near(
+                ticket,
+                &mut self.completed,
+                &mut self.memory.text,
+                self.len,
+            );
         }
     }
 
     #[inline(always)]
     fn put_send(&mut self, conn: u16, stat_sn: u32, reply: &Reply) {
-        if has_room(&mut self.text, &mut self.room, self.len, &mut self.is_whole) {
+        if has_room(&mut self.memory, self.len) {
             let end = write_reply(
                 conn,
                 stat_sn,
                 reply,
-                &mut self.text,
+                &mut self.memory.text,
                 self.len,
                 &mut self.places,
             );
             match end {
                 Ok(end) => self.len = end,
-                Err(_) => self.is_whole = false,
+                Err(_) => self.memory.is_whole = false,
             }
         }
     }
 
     fn put_close_conn(&mut self, conn: u16) {
-        if has_room(&mut self.text, &mut self.room, self.len, &mut self.is_whole) {
-            self.len = write_closing(conn, &mut self.text, self.len);
+        if has_room(&mut self.memory, self.len) {
+            self.len = write_closing(conn, &mut self.memory.text, self.len);
         }
     }
 
     fn put_close_session(&mut self) {
-        if has_room(&mut self.text, &mut self.room, self.len, &mut self.is_whole) {
-            self.len = put_text(b"  close-session\n", &mut self.text, self.len);
+        if has_room(&mut self.memory, self.len) {
+            self.len = put_text(b"  close-session\n", &mut self.memory.text, self.len);
         }
     }
 
     #[inline(always)]
     fn put_ignore(&mut self, why: Why) {
-        if has_room(&mut self.text, &mut self.room, self.len, &mut self.is_whole) {
-            self.len = write_ignore(why, &mut self.text, self.len);
+        if has_room(&mut self.memory, self.len) {
+            self.len = write_ignore(why, &mut self.memory.text, self.len);
         }
     }
 }
 
+/// Whether there is room for the line of an event. Where memory is refused there isn't, and that is noted.
+#[inline(always)]
+fn has_room_to_begin(places: &mut Vec<usize>, memory: &mut Memory, len: usize) -> bool
+    requires within { len ≤ vec_len memory.old.text }
+    requires room { memory.old.room ≤ vec_len memory.old.text - 255 }
+    ensures places { places.new.items ≡ places.old.items }
+    ensures kept { take len memory.new.text.items ≡ take len memory.old.text.items }
+    ensures longer { len ≤ vec_len memory.new.text }
+    ensures there { memory.new.room ≤ vec_len memory.new.text - 255 }
+    ensures room { result ≡ true → len + 256 ≤ vec_len memory.new.text }
+    ensures same { result ≡ true → memory.new.is_whole ≡ memory.old.is_whole }
+    ensures wanting { result ≡ false → memory.new.is_whole ≡ false }
+{
+    // There is room for the places before there is memory for lines, so that this can grow where it lies.
+    if memory.room <= len && places.reserve(MOST_REPLIES).is_err() {
+        memory.is_whole = false;
+        return false;
+    }
+    has_room(memory, len)
+}
+
 /// Whether there is room for a line more. Where memory is refused there isn't, and that is noted.
 #[inline(always)]
-fn has_room(memory: &mut Vec<u8>, room: &mut usize, len: usize, is_whole: &mut bool) -> bool
-    requires within { len ≤ vec_len memory.old }
-    requires room { room.old ≤ vec_len memory.old - 255 }
-    ensures kept { take len memory.new.items ≡ take len memory.old.items }
-    ensures longer { len ≤ vec_len memory.new }
-    ensures there { room.new ≤ vec_len memory.new - 255 }
-    ensures room { result ≡ true → len + 256 ≤ vec_len memory.new }
-    ensures same { result ≡ true → is_whole.new ≡ is_whole.old }
-    ensures fits { len + 256 ≤ vec_len memory.old → result ≡ true }
-    ensures wanting { result ≡ false → is_whole.new ≡ false }
-    ensures whole { is_whole.new ≡ true → is_whole.old ≡ true }
+fn has_room(memory: &mut Memory, len: usize) -> bool
+    requires within { len ≤ vec_len memory.old.text }
+    requires room { memory.old.room ≤ vec_len memory.old.text - 255 }
+    ensures kept { take len memory.new.text.items ≡ take len memory.old.text.items }
+    ensures longer { len ≤ vec_len memory.new.text }
+    ensures there { memory.new.room ≤ vec_len memory.new.text - 255 }
+    ensures room { result ≡ true → len + 256 ≤ vec_len memory.new.text }
+    ensures same { result ≡ true → memory.new.is_whole ≡ memory.old.is_whole }
+    ensures fits { len + 256 ≤ vec_len memory.old.text → result ≡ true }
+    ensures wanting { result ≡ false → memory.new.is_whole ≡ false }
+    ensures whole { memory.new.is_whole ≡ true → memory.old.is_whole ≡ true }
 {
-    if len < *room {
+    if len < memory.room {
         return true;
     }
-    has_grown(memory, room, len, is_whole)
+    has_grown(memory, len)
 }
 
 /// The same, where there isn't room yet.
 #[inline(never)]
-fn has_grown(memory: &mut Vec<u8>, room: &mut usize, len: usize, is_whole: &mut bool) -> bool
-    requires within { len ≤ vec_len memory.old }
-    requires room { room.old ≤ vec_len memory.old - 255 }
-    ensures kept { take len memory.new.items ≡ take len memory.old.items }
-    ensures longer { len ≤ vec_len memory.new }
-    ensures there { room.new ≤ vec_len memory.new - 255 }
-    ensures room { result ≡ true → len + 256 ≤ vec_len memory.new }
-    ensures same { result ≡ true → is_whole.new ≡ is_whole.old }
-    ensures fits { len + 256 ≤ vec_len memory.old → result ≡ true }
-    ensures wanting { result ≡ false → is_whole.new ≡ false }
-    ensures whole { is_whole.new ≡ true → is_whole.old ≡ true }
+fn has_grown(memory: &mut Memory, len: usize) -> bool
+    requires within { len ≤ vec_len memory.old.text }
+    requires room { memory.old.room ≤ vec_len memory.old.text - 255 }
+    ensures kept { take len memory.new.text.items ≡ take len memory.old.text.items }
+    ensures longer { len ≤ vec_len memory.new.text }
+    ensures there { memory.new.room ≤ vec_len memory.new.text - 255 }
+    ensures room { result ≡ true → len + 256 ≤ vec_len memory.new.text }
+    ensures same { result ≡ true → memory.new.is_whole ≡ memory.old.is_whole }
+    ensures fits { len + 256 ≤ vec_len memory.old.text → result ≡ true }
+    ensures wanting { result ≡ false → memory.new.is_whole ≡ false }
+    ensures whole { memory.new.is_whole ≡ true → memory.old.is_whole ≡ true }
 {
-    if make_room(memory, len).is_err() {
-        *is_whole = false;
+    if make_room(&mut memory.text, len).is_err() {
+        memory.is_whole = false;
         return false;
     }
-    *room = memory.len() - (LONGEST_LINE - 1);
+    memory.room = memory.text.len() - (LONGEST_LINE - 1);
     true
 }
 
@@ -345,14 +412,39 @@ fn from_end(reply: &Reply) -> usize
 }
 
 /// Writes numbers over those that stand at these places.
+#[inline(always)]
 fn fill(numbers: Numbers, places: &[usize], bytes: &mut [u8])
     requires { All (λ p. p + 16 ≤ length bytes.old) places.now }
     ensures long { length bytes.new ≡ length bytes.old }
     ensures filled { bytes.new ≡ filled numbers places.now bytes.old }
 {
+    match places {
+        [] => {}
+        // An event mostly has one reply, if any.
+        [place] => fill_at(numbers, *place, bytes),
+        _ => fill_all(numbers, places, bytes),
+    }
+}
+
+/// Writes numbers over those that stand at this place.
+#[inline(always)]
+fn fill_at(numbers: Numbers, place: usize, bytes: &mut [u8])
+    requires { place + 16 ≤ length bytes.old }
+    ensures long { length bytes.new ≡ length bytes.old }
+    ensures filled { bytes.new ≡ overwritten bytes.old place (numbers_digits numbers) }
+{
+    let (_, digits) = digits_of_four(0, 0, numbers.exp, numbers.max);
+    bytes[place..place + NUMBERS].copy_from_slice(&digits.to_array());
+}
+
+/// Writes numbers over those that stand at many places.
+#[inline(never)]
+fn fill_all(numbers: Numbers, places: &[usize], bytes: &mut [u8])
+    requires { All (λ p. p + 16 ≤ length bytes.old) places.now }
+    ensures long { length bytes.new ≡ length bytes.old }
+    ensures filled { bytes.new ≡ filled numbers places.now bytes.old }
+{
     for place in places {
-        // Their digits are made only where there is a place.
-        let (_, digits) = digits_of_four(0, 0, numbers.exp, numbers.max);
-        bytes[*place..*place + NUMBERS].copy_from_slice(&digits.to_array());
+        fill_at(numbers, *place, bytes);
     }
 }

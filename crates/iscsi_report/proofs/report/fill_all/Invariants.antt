@@ -1,6 +1,6 @@
 use Rattle.std.proofs.Common.{◌≡◌, length, drop}
 use Rattle.iscsi_report.specs.Filled.{filled}
-use Rattle.iscsi_report.proofs.report.fill.Given as goal
+use Rattle.iscsi_report.proofs.report.fill_all.Given as goal
 
 abbrev pub invariant-loop-place : goal.invariant-loop-place
 invariant-loop-place l = record {

@@ -10,11 +10,11 @@ use Rattle.iscsi_report.proofs.report.Report.end.Goals as goal
 pub returns-clause-text : goal.returns-clause-text
 returns-clause-text c = λ text es lines.
     let inside = c.self.inside in
-    let whole : c.fill.new.bytes ≡ filled c.args.numbers inside.places.items inside.text.items =
+    let whole : c.fill.new.bytes ≡ filled c.args.numbers inside.places.items inside.memory.text.items =
     rw (c.deref.ensures.value, c.deref_mut.ensures.value) at c.fill.ensures.filled in
-    let is : inside.is_whole ≡ true = c.if-not-self.false in
-    let text_is : take inside.len (with_items inside.text c.fill.new.bytes).items ≡ text ++ flat_map (λ effect. effect_line effect c.args.numbers) es =
-    ap (take inside.len) (with_items_is inside.text c.fill.new.bytes (omega (arith, c.fill.ensures.long, c.deref_mut.ensures.len)) ∙ whole)
-    ∙ filled_front c.args.numbers inside.places.items inside.text.items inside.len c.self.invariant.1.0 (omega (arith, c.self.invariant.0, ap length c.deref_mut.ensures.value, c.deref_mut.ensures.len))
+    let is : inside.memory.is_whole ≡ true = c.if-not-self.false in
+    let text_is : take inside.len (with_items inside.memory.text c.fill.new.bytes).items ≡ text ++ flat_map (λ effect. effect_line effect c.args.numbers) es =
+    ap (take inside.len) (with_items_is inside.memory.text c.fill.new.bytes (omega (arith, c.fill.ensures.long, c.deref_mut.ensures.len)) ∙ whole)
+    ∙ filled_front c.args.numbers inside.places.items inside.memory.text.items inside.len c.self.invariant.1.0 (omega (arith, c.self.invariant.0, ap length c.deref_mut.ensures.value, c.deref_mut.ensures.len))
     ∙ (rw (← c.self.view_is) at lines) is c.args.numbers in
     rw (text_is, c.clear.ensures.items, is)
