@@ -1,7 +1,7 @@
 -- What stands in a slice up to a place.
-use Rattle.std.proofs.Common.{◌≡◌, ℕ, List, ◌+◌, ◌-◌, ◌≤◌, ◌++◌, length, take, drop, sym, ap, ◌∙◌, arith, take-take}
+use Rattle.std.proofs.Common.{◌≡◌, ℕ, List, ◌+◌, ◌-◌, ◌≤◌, [], ◌∷◌, ◌++◌, length, take, drop, refl, sym, ap, ◌∙◌, arith, take-take}
 use Rattle.std.proofs.Math.Seq.{take-append-add, drop-append_seam}
-use Rattle.std.proofs.lemmas.List.{length-take, take_at, take-append-le, drop-take}
+use Rattle.std.proofs.lemmas.List.{length-append, length-take, take_at, take-append-le, drop-take}
 
 -- behind what stood there stands the front of the text that was written
 pub front : (new old text : List ℕ) (at k end : ℕ) → take end new ≡ take at old ++ text → end ≡ at + length text → at ≤ length old → k ≤ length text
@@ -22,6 +22,16 @@ pub kept : (new old text : List ℕ) (at k end : ℕ) → take end new ≡ take 
 kept new old text at k end e before le within =
     sym (take-take k end new (omega arith)) ∙ ap (take k) e
     ∙ take-append-le k (take at old) text (omega (arith, length-take at old)) ∙ take-take k at old before
+
+-- what was written without its last byte
+pub before_last : (new old text : List ℕ) (next at end : ℕ) → take (end + 1) new ≡ take at old ++ (text ++ next ∷ []) → at ≤ length old
+    → end + 1 ≤ length new → take end new ≡ take at old ++ text
+before_last new old text next at end e within le =
+    let size : end + 1 ≡ at + length (text ++ next ∷ []) =
+    omega (arith, ap length e, length-take (end + 1) new, length-take at old, length-append (take at old) (text ++ next ∷ [])) in
+    let end_is : at + length text ≡ end = omega (arith, size, length-append text (next ∷ [])) in
+    ap (λ (m : ℕ). take m new) (sym end_is)
+    ∙ begun new old (text ++ next ∷ []) text (next ∷ []) at (length text) (end + 1) e size within refl (omega (arith, length-append text (next ∷ []))) refl
 
 -- a text that was written from one place to another one
 pub between : (new old text : List ℕ) (from to : ℕ) → take to new ≡ take from old ++ text → from ≤ length old → drop from (take to new) ≡ text

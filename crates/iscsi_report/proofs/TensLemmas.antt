@@ -62,12 +62,12 @@ no_tens digits =
 pub last_of : (n least : ℕ) → least < 10 ^ 15 → n < 2 ^ 64 → (n + (2 ^ 64 - least)) % 2 ^ 64 < 10 → least + (n + (2 ^ 64 - least)) % 2 ^ 64 ≡ n
 last_of n least small fits low = omega arith
 
--- the digits that are kept, and the last one behind them
-pub put_by_tens : (new mid old digits : List ℕ) (least len last at middle end : ℕ) → AreTens least digits len → last < 10
+-- the digits that are kept, the last one behind them, and a byte
+pub put_by_tens : (new mid old digits : List ℕ) (least len last next at middle end : ℕ) → AreTens least digits len → last < 10
     → take middle mid ≡ take at old ++ digits → middle ≡ at + length digits → at ≤ length old → len ≤ length digits
-    → take end new ≡ take (at + len) mid ++ (48 + last) ∷ [] → take end new ≡ take at old ++ decimal (least + last)
-put_by_tens new mid old digits least len last at middle end tens low first long within few second =
+    → take end new ≡ take (at + len) mid ++ (48 + last) ∷ next ∷ [] → take end new ≡ take at old ++ (decimal (least + last) ++ next ∷ [])
+put_by_tens new mid old digits least len last next at middle end tens low first long within few second =
     second
-    ∙ ap (λ (l : List ℕ). l ++ (48 + last) ∷ []) (front mid old digits at len middle first long within few)
-    ∙ append_assoc (take at old) (take len digits) ((48 + last) ∷ [])
-    ∙ ap (λ (l : List ℕ). take at old ++ l) (sym (tens.written last low))
+    ∙ ap (λ (l : List ℕ). l ++ (48 + last) ∷ next ∷ []) (front mid old digits at len middle first long within few)
+    ∙ append_assoc (take at old) (take len digits) ((48 + last) ∷ next ∷ [])
+    ∙ ap (λ (l : List ℕ). take at old ++ l) (sym (append_assoc (take len digits) ((48 + last) ∷ []) (next ∷ [])) ∙ ap (λ (l : List ℕ). l ++ next ∷ []) (sym (tens.written last low)))

@@ -189,8 +189,7 @@ fn write_ticket_near(word: &[u8], ticket: u64, near: &mut Tens, line: &mut [u8],
     ensures written { take result line.new ≡ take at line.old ++ (word.now ++ (decimal ticket ++ codes "\n")) }
 {
     let at = put_text(word, line, at);
-    let at = near.put(ticket, line, at);
-    put_text(b"\n", line, at)
+    near.put_then(ticket, b'\n', line, at) + 1
 }
 
 /// A word and a ticket whose digits stand at these places.
@@ -239,9 +238,8 @@ pub fn write_enter(
         ++ (codes "  enter " ++ (enter_fields ticket unit attr ++ codes "\n")) }
 {
     let at = put_text(b"  enter ", line, at);
-    let ticket_end = entered.put(ticket, line, at);
-    let at = put_text(b" ", line, ticket_end);
-    let at = put_small(unit, line, at);
+    let ticket_end = entered.put_then(ticket, b' ', line, at);
+    let at = put_small(unit, line, ticket_end + 1);
     (ticket_end, put_attr(attr, line, at))
 }
 

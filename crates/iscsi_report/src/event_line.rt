@@ -4,7 +4,7 @@ ghost use Rattle.std.specs.Prelude.{◌≡◌, ◌+◌, ◌≤◌, ◌++◌, len
 ghost use Rattle.iscsi_report.specs.Lines.{event_line};
 
 use crate::decimal::put_small_and_blank;
-use crate::line::{put_byte, put_header, put_text};
+use crate::line::{put_byte_and_end, put_header, put_text};
 use crate::tens::Tens;
 use iscsi_rules::Event;
 
@@ -51,8 +51,6 @@ pub fn write_completion(
     ensures written { take result.1 line.new ≡ take at line.old ++ event_line (Event.Done ticket status) }
 {
     let at = put_text(b"> D ", line, at);
-    let ticket_end = completed.put(ticket, line, at);
-    let at = put_text(b" ", line, ticket_end);
-    let at = put_byte(status, line, at);
-    (ticket_end, put_text(b"\n", line, at))
+    let ticket_end = completed.put_then(ticket, b' ', line, at);
+    (ticket_end, put_byte_and_end(status, line, ticket_end + 1))
 }

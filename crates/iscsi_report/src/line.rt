@@ -153,6 +153,21 @@ pub fn put_byte(byte: u8, line: &mut [u8], at: usize) -> usize
     put_text(&[digit(byte >> 4), digit(byte & 0x0f)], line, at)
 }
 
+/// Writes the digits of a byte that is mostly 0, as a status, and the end of the line.
+#[inline(always)]
+pub fn put_byte_and_end(byte: u8, line: &mut [u8], at: usize) -> usize
+    requires { at + 4 ≤ length line.old }
+    ensures end { result ≡ at + 3 }
+    ensures written { take result line.new ≡ take at line.old ++ (encode_lower (byte ∷ []) ++ codes "\n") }
+{
+    if byte == 0 {
+        // Four bytes are written at once, the last of which is behind the end.
+        put_word(b"00\n\n", line, at);
+        return at + 3;
+    }
+    put_text(&[digit(byte >> 4), digit(byte & 0x0f), b'\n'], line, at)
+}
+
 /// Writes the digits of the first three bytes of a response, the second of which is 80.
 #[inline(always)]
 pub fn put_kind(opcode: u8, response: u8, line: &mut [u8], at: usize) -> usize

@@ -1,6 +1,6 @@
 //! Numbers that mostly come one after another.
 
-ghost use Rattle.std.specs.Prelude.{◌≡◌, ◌+◌, ◌-◌, ◌^◌, ◌<◌, ◌≤◌, ◌++◌, length, take, drop, decimal};
+ghost use Rattle.std.specs.Prelude.{◌≡◌, ◌+◌, ◌-◌, ◌^◌, ◌<◌, ◌≤◌, [], ◌∷◌, ◌++◌, length, take, drop, decimal};
 ghost use Rattle.iscsi_report.specs.Decimals.{AreTens};
 
 use crate::decimal::put_number;
@@ -58,35 +58,50 @@ impl Tens {
         self.near = u64::MAX;
     }
 
-    /// Writes a decimal number, from these digits if it has them. Those of another number are kept only where it is near,
-    /// so that where numbers come in no order one costs little more than its own digits.
+    /// Writes a decimal number, from these digits if it has them, and a byte behind it, and says where the number ends.
+    /// The digits of another number are kept only where it is near, so that where numbers come in no order one costs little
+    /// more than its own digits.
     #[inline(always)]
-    pub fn put(&mut self, n: u64, line: &mut [u8], at: usize) -> usize
+    pub fn put_then(&mut self, n: u64, next: u8, line: &mut [u8], at: usize) -> usize
         requires { at + 24 ≤ length line.old }
         ensures end { (at < result) × (result ≤ at + 20) }
-        ensures written { take result line.new ≡ take at line.old ++ decimal n }
+        ensures written { take (result + 1) line.new ≡ take at line.old ++ (decimal n ++ next ∷ []) }
     {
         let last = n.wrapping_sub(self.least);
         if last < 10 {
-            return self.put_with(last, line, at);
+            return self.put_with(last, next, line, at);
         }
-        if last < self.near {
-            return self.put_other(n, line, at);
-        }
-        put_number(n, line, at)
+        let end = self.put_apart(last, n, line, at);
+        put_text(&[next], line, end);
+        end
     }
 
-    /// Writes the number with these digits and this last one.
+    /// Writes the number with these digits and this last one, and a byte behind it.
     #[inline(always)]
-    fn put_with(&self, last: u64, line: &mut [u8], at: usize) -> usize
+    fn put_with(&self, last: u64, next: u8, line: &mut [u8], at: usize) -> usize
         requires { (last < 10) × (at + 24 ≤ length line.old) }
         ensures end { (at < result) × (result ≤ at + 20) }
-        ensures written { take result line.new ≡ take at line.old ++ decimal (self.now.least + last) }
+        ensures written { take (result + 1) line.new
+            ≡ take at line.old ++ (decimal (self.now.least + last) ++ next ∷ []) }
     {
         // All are written at once, the last of which are behind the end.
         let digits = self.digits;
         put_text(&digits, line, at);
-        put_text(&[b'0' + last as u8], line, at + self.len)
+        put_text(&[b'0' + last as u8, next], line, at + self.len);
+        at + self.len + 1
+    }
+
+    /// Writes a number that hasn't these digits, and is so much more than the least one that has.
+    #[inline(always)]
+    fn put_apart(&mut self, more: u64, n: u64, line: &mut [u8], at: usize) -> usize
+        requires { at + 24 ≤ length line.old }
+        ensures end { (at < result) × (result ≤ at + 20) }
+        ensures written { take result line.new ≡ take at line.old ++ decimal n }
+    {
+        if more < self.near {
+            return self.put_other(n, line, at);
+        }
+        put_number(n, line, at)
     }
 
     /// Writes a decimal number, and keeps its digits.
