@@ -1,16 +1,20 @@
 //! A recording and its report.
 
-ghost use Rattle.std.specs.Prelude.{◌≡◌, ◌≢◌, ◌↔◌, ◌⊎◌, ◌<◌, ◌≤◌, true, false, [], length, IfSome, OnOk, IfOk, IfErr, IsErrOf, MatchResult, Ok};
+ghost use Rattle.std.specs.Prelude.{◌≡◌, ◌≢◌, ◌↔◌, ◌⊎◌, ◌<◌, ◌≤◌, true, false, List, [], ◌∷◌, ◌++◌, length, IfSome, OnOk, IfOk, IfErr, IsErrOf, MatchResult, Ok, Err};
 ghost use Rattle.std.specs.List.{list_all};
 ghost use Rattle.std.specs.Io.KnownBytes.{Appends};
-ghost use Rattle.iscsi_rules.specs.rules.Settings.{is_valid};
+ghost use Rattle.iscsi_rules.specs.declared.event.Event.{Event as SpecEvent};
+ghost use Rattle.iscsi_rules.specs.rules.Settings.{Setting, is_valid};
 ghost use Rattle.iscsi_session.specs.private.Standing.{StandsFor};
+ghost use Rattle.iscsi_session.specs.promises.Refusals.{RefusesAs, refusal_of};
 ghost use Rattle.iscsi_settings.specs.Limits.{are_valid};
 ghost use Rattle.iscsi_recording.specs.Recorded.{Recorded, view, read_of, belongs_to};
 ghost use Rattle.iscsi_recording.specs.Order.{ReadsInOrder};
+ghost use Rattle.iscsi_rules.specs.promises.Flow.{Flows};
 ghost use Rattle.iscsi_rules.specs.promises.Promises.{KeepsPromises};
-ghost use Rattle.iscsi_rules.specs.rules.Run.{run_of};
-ghost use Rattle.iscsi_report.specs.Filled.{IsAtRest};
+ghost use Rattle.iscsi_rules.specs.rules.Run.{next_entry, run_of, trace_of};
+ghost use Rattle.iscsi_report.specs.Lines.{event_line};
+ghost use Rattle.iscsi_report.specs.Filled.{HasLines, IsAtRest};
 ghost use Rattle.iscsi_replay.specs.promises.Replayed.{setting_with, report_by, Reported, KeepsWord, FrontReported, AnswersAs, ComesOfReading, IsReadWhole};
 ghost use Rattle.iscsi_recording.specs.Writing.{AppendsFront, AppendsBut};
 ghost use Rattle.iscsi_replay.specs.promises.Again.{IsRecordable, IsReadAgain};
@@ -19,6 +23,7 @@ use iscsi_recording::{
     EventSource, NO_EVENT, Recording, ReplayFault, Sink, Source, put_all, read_recording,
 };
 use iscsi_report::Report;
+use iscsi_rules::{Event, Numbers};
 use iscsi_session::{Options, Session, SessionFault};
 use iscsi_settings::Settings;
 use std::alloc::Global;
@@ -86,6 +91,34 @@ fn write_chunk<W: Sink>(report: &mut Report, writer: &mut W) -> Result<(), Repla
     Ok(())
 }
 
+/// Writes the line of an event, and steps the session by it, so that the lines of its effects follow.
+///
+/// An arrival and a completion part here once, so that neither asks again what it is.
+#[inline(always)]
+fn step(session: &mut Session, event: &Event, report: &mut Report) -> Result<Numbers, SessionFault>
+    requires { IsAtRest report.old }
+    ensures stands { (o : Setting) (h : List SpecEvent) → StandsFor o session.old h →
+        OnOk result (StandsFor o session.new (h ++ event.now ∷ [])) }
+    ensures lines { (o : Setting) (h : List SpecEvent) → StandsFor o session.old h → OnOk result
+        (HasLines report.new (report.old.bytes ++ event_line event.now) (next_entry o h event.now).effects) }
+    ensures refused { (o : Setting) (h : List SpecEvent) → StandsFor o session.old h →
+        RefusesAs (refusal_of o h event.now) result }
+    ensures memory { result ≢ Err SessionFault.NoMemory }
+    ensures flow { (o : Setting) (h : List SpecEvent) → StandsFor o session.old h →
+        OnOk result (Flows o (trace_of o h) (trace_of o (h ++ event.now ∷ []))) }
+{
+    match event {
+        Event::Arrive { conn, header } => {
+            report.begin_arrival(*conn, header);
+            session.step_into(event, report)
+        }
+        Event::Done { ticket, status } => {
+            report.begin_completion(*ticket, *status);
+            session.step_into(event, report)
+        }
+    }
+}
+
 /// Writes the report of events on these connections, by a session that takes so many. On `Err` a front of it is
 /// written.
 pub fn write_report<E: EventSource, W: Sink>(
@@ -113,12 +146,12 @@ pub fn write_report<E: EventSource, W: Sink>(
     let mut report = Report::new(alloc);
     let mut event = NO_EVENT;
     'events: while events.next(&mut event) {
-        report.begin(&event);
         // The session takes each event, as its connection is known and there are no more than it takes.
-        let Ok(numbers) = session.step_into(&event, &mut report) else {
+        let Ok(_) = step(&mut session, &event, &mut report) else {
             unreachable!();
         };
-        let Ok(()) = report.end(numbers) else {
+        // The numbers are asked of the session, which needn't count them where there is no reply.
+        let Ok(()) = report.end(session.numbers()) else {
             return Err(ReplayFault::NoMemory);
         };
         write_chunk(&mut report, writer)?;

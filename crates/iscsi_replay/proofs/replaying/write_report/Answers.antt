@@ -10,7 +10,8 @@ use Rattle.iscsi_recording.specs.declared.fault.ReplayFault.{ReplayFault}
 use Rattle.iscsi_recording.specs.declared.fault.ReplayFault.TheVariants.{Write, NoMemory}
 use Rattle.std.specs.List.{flat_map}
 use Rattle.iscsi_rules.specs.declared.effect.Effect.{Effect}
-use Rattle.iscsi_rules.specs.rules.Run.{next_entry}
+use Rattle.iscsi_rules.specs.rules.Run.{next_entry, numbers_of}
+use Rattle.iscsi_rules.proofs.traces.RunLemmas.{trace_of-push}
 use Rattle.iscsi_report.specs.Lines.{event_line, effect_line}
 use Rattle.iscsi_report.specs.Filled.{Written, at_rest}
 use Rattle.iscsi_recording.specs.Writing.{AppendsBut}
@@ -47,20 +48,30 @@ unreachable-requires g c =
     let so_far = c.events.invariant in
     let after = g.E.EventSource.rest c.next.new.self in
     let whole = with_next _ so_far.before (g.E.EventSource.rest c.events.events) after c.next.new.event so_far.whole (c.next.ensures.some c.events-test.true) in
-    c.step_into.ensures.memory (c.in_default.is ∙ ap Err (memory_alone _ _ _ (event_taken o so_far.before after _ c.next.new.event whole c.requires.known c.requires.few)
-    c.in_default.is (c.step_into.ensures.refused o so_far.before so_far.stands)))
+    c.step.ensures.memory (c.in_default.is ∙ ap Err (memory_alone _ _ _ (event_taken o so_far.before after _ c.next.new.event whole c.requires.known c.requires.few)
+    c.in_default.is (c.step.ensures.refused o so_far.before so_far.stands)))
 
 -- its lines are there, and no more are to come
 ended : (g : Over) (c : In-Ok-end g) → c.end.new.self ≡ at_rest ((c.events.report.bytes ++ event_line c.next.new.event)
-    ++ flat_map (λ effect. effect_line effect c.in-Ok.numbers) (next_entry (setting_with c.args.most c.args.settings.now c.args.conns.items) c.events.invariant.before c.next.new.event).effects)
+    ++ flat_map (λ effect. effect_line effect c.numbers.result) (next_entry (setting_with c.args.most c.args.settings.now c.args.conns.items) c.events.invariant.before c.next.new.event).effects)
 ended g c =
     let o = setting_with c.args.most c.args.settings.now c.args.conns.items in
     let so_far = c.events.invariant in
     let text : List ℕ = c.events.report.bytes ++ event_line c.next.new.event in
-    c.in-Ok-end.ensures.text text _ (c.in-Ok.ensures.effects o so_far.before so_far.stands text [] c.begin.ensures)
+    c.in-Ok-end.ensures.text text _ (c.in-Ok.ensures.lines o so_far.before so_far.stands)
 
 pub write_chunk-requires-clause-rest : goal.write_chunk-requires-clause-rest
 write_chunk-requires-clause-rest g c = rw (ended g (goal.at.write_chunk-requires-clause-rest g c).In-Ok-end) (refl, refl)
+
+-- the session's numbers are those of the event
+numbers_now : (g : Over) (c : In-Ok-end g) → let o = setting_with c.args.most c.args.settings.now c.args.conns.items in
+    c.numbers.result ≡ (next_entry o c.events.invariant.before c.next.new.event).numbers
+numbers_now g c =
+    let o = setting_with c.args.most c.args.settings.now c.args.conns.items in
+    let before = c.events.invariant.before in
+    let event = c.next.new.event in
+    c.numbers.ensures.numbers o (before ++ event ∷ []) (c.in-Ok.ensures.stands o before c.events.invariant.stands)
+    ∙ ap (numbers_of o) (trace_of-push o before event)
 
 waits_now : (g : Over) (c : In-Ok-end g) → let o = setting_with c.args.most c.args.settings.now c.args.conns.items in
     AppendsBut (g.W.Sink.contents c.args.writer.now) (g.W.Sink.contents c.events.writer) c.end.new.self.bytes (report_by o (c.events.invariant.before ++ c.next.new.event ∷ []))
@@ -68,9 +79,9 @@ waits_now g c =
     let o = setting_with c.args.most c.args.settings.now c.args.conns.items in
     let so_far = c.events.invariant in
     let effects : List Effect = (next_entry o so_far.before c.next.new.event).effects in
-    waits_next _ _ o so_far.before c.next.new.event c.events.report.bytes c.end.new.self.bytes c.in-Ok.numbers effects
-    (ap (λ (w : Written). w.bytes) (ended g c) ∙ append_assoc c.events.report.bytes (event_line c.next.new.event) (flat_map (λ effect. effect_line effect c.in-Ok.numbers) effects))
-    (c.in-Ok.ensures.numbers o so_far.before so_far.stands) refl so_far.written
+    waits_next _ _ o so_far.before c.next.new.event c.events.report.bytes c.end.new.self.bytes c.numbers.result effects
+    (ap (λ (w : Written). w.bytes) (ended g c) ∙ append_assoc c.events.report.bytes (event_line c.next.new.event) (flat_map (λ effect. effect_line effect c.numbers.result) effects))
+    (numbers_now g c) refl so_far.written
 
 pub returns-in_err-write_chunk-clause-front : goal.returns-in_err-write_chunk-clause-front
 returns-in_err-write_chunk-clause-front g c =
