@@ -66,6 +66,15 @@ fn number_first_of(values: u8x16, count: usize) -> u64
     fours.wrapping_mul(10_000 * 0x1_0000_0000 + 1) >> 32
 }
 
+/// Whether the first byte is a digit, but 0.
+#[inline(always)]
+fn begins_number(bytes: &[u8]) -> bool
+    requires { 0 < length bytes.now }
+    ensures { result ≡ true → (48 < slice_index bytes.now 0) × (slice_index bytes.now 0 < 58) }
+{
+    (b'1'..=b'9').contains(&bytes[0])
+}
+
 /// Whether a blank, the status 0 and the end of the line stand at this place.
 #[inline(always)]
 fn ends_good(bytes: &[u8], at: usize) -> bool
@@ -84,7 +93,7 @@ pub fn good_ticket(bytes: &[u8]) -> Option<(u64, usize)>
     ensures most { IfSome result (λ r. r.1 ≤ 8) }
     ensures good { IfSome result (λ r. EndsGood bytes.now r.1) }
 {
-    if !(b'1'..=b'9').contains(&bytes[0]) {
+    if !begins_number(bytes) {
         return None;
     }
     let values = values_of(bytes);
@@ -127,7 +136,7 @@ pub fn common_ticket(bytes: &[u8]) -> Option<(u64, usize)>
     ensures number { IfSome result (λ r. LeadsWith bytes.now r.0 r.1) }
     ensures most { IfSome result (λ r. r.1 ≤ 18) }
 {
-    if !(b'1'..=b'9').contains(&bytes[0]) {
+    if !begins_number(bytes) {
         return longer_ticket(bytes);
     }
     let values = values_of(bytes);
