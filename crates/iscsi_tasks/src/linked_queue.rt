@@ -7,7 +7,7 @@ ghost use Rattle.iscsi_tasks.specs.declared.member.Member.{Member};
 ghost use Rattle.iscsi_tasks.specs.Sets.{InOrder, after_moment, is_head_of, is_new, next_in, given_in};
 ghost use Rattle.iscsi_tasks.specs.Counted.{is_ordered_in, enabled_now};
 ghost use Rattle.iscsi_tasks.specs.Chains.{AreApart, chained};
-ghost use Rattle.iscsi_tasks.specs.Marked.{IsMarked, IsSlotOf, IsFirstNew, IsPastNone, IsSpan, is_none_marked, pushed_by};
+ghost use Rattle.iscsi_tasks.specs.Marked.{HasTicket, IsMarked, IsSlotOf, IsFirstNew, IsPastNone, IsSpan, is_none_marked, pushed_by};
 
 use crate::chain::Chain;
 use crate::marks::{Marks, moved_off};
@@ -18,16 +18,24 @@ use crate::task::Task;
 pub(crate) fn slot_of(chain: &Chain, ticket: u64, guess: u16) -> Option<u16>
     ensures { IsSlotOf chain.now.slots chain.now.members ticket result }
 {
-    if chain.holds(guess) && chain.at(guess).task.ticket == ticket {
+    if is_slot_of(chain, ticket, guess) {
         return Some(guess);
     }
     seek(chain, ticket)
 }
 
+/// Whether the command in this slot is there, and has this ticket.
+#[inline(always)]
+pub(crate) fn is_slot_of(chain: &Chain, ticket: u64, slot: u16) -> bool
+    ensures { result ≡ true → HasTicket chain.now.slots chain.now.members ticket slot }
+{
+    chain.holds(slot) && chain.at(slot).task.ticket == ticket
+}
+
 /// The slot of the command with this ticket. It looks along the set.
 #[inline(never)]
 #[tactic(auto, using(crate::proofs::MarkedLemmas::some_at, std::proofs::lemmas::Grind::common_steps))]
-fn seek(chain: &Chain, ticket: u64) -> Option<u16>
+pub(crate) fn seek(chain: &Chain, ticket: u64) -> Option<u16>
     ensures { IsSlotOf chain.now.slots chain.now.members ticket result }
 {
     let mut slot = chain.oldest();

@@ -140,13 +140,35 @@ impl LinkedTaskSet {
         ensures stands { (h : List Change) → StandsFor self.old h →
             StandsFor self.new (after_leaving (if result then with_ticket ticket (live h) else None) h) }
     {
-        let Some(slot) = self.tasks.slot_of(ticket, slot) else {
-            return false;
-        };
+        // It mostly is in this slot. Else it leaves by a call of its own, so that the slot is one here.
+        if !self.tasks.is_slot_of(ticket, slot) {
+            return self.leave_sought(ticket);
+        }
         if !self.tasks.at(slot).enabled {
             return false;
         }
         self.tasks.let_go(slot);
+        true
+    }
+
+    /// The same, where the command is looked for along the set.
+    #[tactic(auto, using(crate::proofs::SearchLemmas::not_enabled, crate::proofs::LinkedSetLemmas::slot_there, std::proofs::lemmas::Grind::common_steps))]
+    #[inline(never)]
+    fn leave_sought(&mut self, ticket: u64) -> bool
+        ensures answer { result ≡ is_enabled_in ticket self.old.list }
+        ensures left { result ≡ true → self.new ≡ left_by self.old (with_ticket ticket (tasks_in self.old)) }
+        ensures stays { result ≡ false → self.new ≡ self.old }
+        ensures since { (h : List Change) → StandsFor self.old h → IsTrue result ↔ IsEnabled ticket h }
+        ensures stands { (h : List Change) → StandsFor self.old h →
+            StandsFor self.new (after_leaving (if result then with_ticket ticket (live h) else None) h) }
+    {
+        let Some(sought) = self.tasks.seek(ticket) else {
+            return false;
+        };
+        if !self.tasks.at(sought).enabled {
+            return false;
+        }
+        self.tasks.let_go(sought);
         true
     }
 

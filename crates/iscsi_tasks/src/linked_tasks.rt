@@ -8,14 +8,14 @@ ghost use Rattle.iscsi_tasks.specs.Sets.{tasks_in, opened, IsNewest, entered_to,
 ghost use Rattle.iscsi_tasks.specs.Changes.{Change, Left, StandsFor, live, next_after, after_giving, after_all_left};
 ghost use Rattle.iscsi_tasks.specs.Counted.{taken_in, covered_from_with};
 ghost use Rattle.iscsi_tasks.specs.Chains.{member_of};
-ghost use Rattle.iscsi_tasks.specs.Marked.{is_free_by, IsSlotOf};
+ghost use Rattle.iscsi_tasks.specs.Marked.{HasTicket, is_free_by, IsSlotOf};
 ghost use Rattle.iscsi_tasks.specs.Linked.{linked, IsInSlots};
 
 use crate::chain::Chain;
 use crate::cover::Cover;
 use crate::fault::TaskFault;
 use crate::linked_front::{first_number, numbers_along, remove_covered};
-use crate::linked_queue::{give_next, let_go, push, slot_of};
+use crate::linked_queue::{give_next, is_slot_of, let_go, push, seek, slot_of};
 use crate::marks::Marks;
 use crate::node::Node;
 use crate::numbers::ascends_with;
@@ -155,6 +155,21 @@ impl LinkedTasks {
         ensures { IsSlotOf self.now.slots self.now.shown.list ticket result }
     {
         slot_of(&self.chain, ticket, guess)
+    }
+
+    /// Whether the command in this slot is there, and has this ticket.
+    #[inline(always)]
+    pub(crate) fn is_slot_of(&self, ticket: u64, slot: u16) -> bool
+        ensures { result ≡ true → HasTicket self.now.slots self.now.shown.list ticket slot }
+    {
+        is_slot_of(&self.chain, ticket, slot)
+    }
+
+    /// The slot of the command with this ticket. It looks along the set.
+    pub(crate) fn seek(&self, ticket: u64) -> Option<u16>
+        ensures { IsSlotOf self.now.slots self.now.shown.list ticket result }
+    {
+        seek(&self.chain, ticket)
     }
 
     /// Whether no command is enabled and wasn't given. False tells nothing.
