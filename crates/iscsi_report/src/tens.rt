@@ -86,9 +86,10 @@ impl Tens {
     {
         // All are written at once, the last of which are behind the end.
         let digits = self.digits;
+        let before_last = at + self.len;
         put_text(&digits, line, at);
-        put_text(&[b'0' + last as u8, next], line, at + self.len);
-        at + self.len + 1
+        put_text(&[b'0' + last as u8, next], line, before_last);
+        before_last + 1
     }
 
     /// Writes a number that hasn't these digits, and is so much more than the least one that has.
