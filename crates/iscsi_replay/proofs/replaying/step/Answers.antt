@@ -1,4 +1,4 @@
-use Rattle.std.proofs.Common.{◌++◌, [], rules}
+use Rattle.std.proofs.Common.{◌++◌, []}
 use Rattle.std.proofs.lemmas.Result.{IfOk-weaker}
 use Rattle.iscsi_report.specs.Lines.{event_line}
 use Rattle.iscsi_replay.proofs.replaying.step.Goals as goal

@@ -17,7 +17,7 @@ use Rattle.iscsi_report.specs.Filled.{Written, at_rest}
 use Rattle.iscsi_recording.specs.Writing.{AppendsBut}
 use Rattle.iscsi_replay.specs.promises.Replayed.{setting_with, report_by}
 use Rattle.iscsi_recording.proofs.Written.{front_before, front_after, waits_not, waits_less}
-use Rattle.iscsi_replay.proofs.ReportLemmas.{front_of_all, effects_alone, waits_next, all_written}
+use Rattle.iscsi_replay.proofs.ReportLemmas.{front_of_all, waits_next, all_written}
 use Rattle.iscsi_replay.proofs.RefusalLemmas.{memory_alone, event_taken}
 use Rattle.iscsi_recording.proofs.SourceLemmas.{with_next, past_next, all_came}
 use Rattle.iscsi_replay.proofs.replaying.write_report.Given.{Over}
