@@ -5,7 +5,7 @@ ghost use Rattle.iscsi_lists.specs.Lists.{times_in};
 ghost use Rattle.iscsi_outbox_state.specs.Waits.{any_in, dropped_of, entered, first_item, is_taking_before, opened, popped, queue_at, released_of};
 ghost use Rattle.iscsi_waiting.specs.Kept.{AreInFirst, AreKept, GoesTo, IsBehind, IsBehindNone, Leaves, LetsGo, kept_at, kind_of, place_of, waits_of};
 
-use crate::counts::Counts;
+use crate::counts::{Counts, count_in, count_out};
 use iscsi_lists::Lists;
 use iscsi_outbox_rules::OwnPdu;
 use iscsi_outbox_state::{Content, Waiting};
@@ -121,8 +121,7 @@ impl Slots {
         let slot = self.waiting.push_back(conn, Kept { item, time });
         move_owned(&mut self.owned, slot, place_of(&item));
         self.fence.move_to_back(slot, kind_of(&item));
-        self.counts[conn] = self.counts[conn].with(&item);
-        self.all = self.all.with(&item);
+        count_in(&mut self.counts[conn], &mut self.all, &item);
         self.time = time + 1;
     }
 
@@ -222,8 +221,7 @@ impl Slots {
         let Kept { item, .. } = self.waiting.remove(slot);
         move_owned(&mut self.owned, slot, OF_NONE);
         self.fence.move_to_back(slot, TAKES_NONE);
-        self.counts[conn] = self.counts[conn].without(&item);
-        self.all = self.all.without(&item);
+        count_out(&mut self.counts[conn], &mut self.all, &item);
         item
     }
 

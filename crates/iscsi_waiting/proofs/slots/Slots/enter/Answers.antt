@@ -18,13 +18,13 @@ move_to_back-requires-clause-slot c =
     all_in BLANK kind_in s.waiting s.fence c.requires.kept.fences c.known-3.ensures.apart slot.result
     (free_low s.waiting c.known.ensures.apart slot.result slot.ensures.slot) (free_high s.waiting c.known.ensures.apart slot.result slot.ensures.slot)
 
-pub with-requires : goal.with-requires
-with-requires c =
+pub count_in-requires-clause-one : goal.count_in-requires-clause-one
+count_in-requires-clause-one c =
     let s = c.args.self.now in let short = c.known.ensures.short in
-    conn_has_place s.waiting s.owned s.fence s.counts.items s.all s.time c.requires.kept c.known.ensures.apart (omega (arith, short)) c.args.conn c.requires.conn c.index.result.now c.index.ensures
+    conn_has_place s.waiting s.owned s.fence s.counts.items s.all s.time c.requires.kept c.known.ensures.apart (omega (arith, short)) c.args.conn c.requires.conn c.index_mut.result.now c.index_mut.ensures.value
 
-pub with-self-requires : goal.with-self-requires
-with-self-requires c =
+pub count_in-requires-clause-all : goal.count_in-requires-clause-all
+count_in-requires-clause-all c =
     let s = c.args.self.now in let short = c.known.ensures.short in
     all_has_place s.waiting s.owned s.fence s.counts.items s.all s.time c.requires.kept c.known.ensures.apart (omega (arith, short))
 
@@ -40,9 +40,9 @@ returns-clause-kept c =
     refl
     (c.move_to_back.ensures.state ∙ ap (λ (n : ℕ). record s.fence { lists = with_last n slot.result (map (without slot.result) s.fence.lists) }) c.kind_of.ensures)
     (place_within c.args.item.command (length s.owned.lists) c.requires.kept.commands.some c.requires.command) (omega (arith, kinds, small))
-    c.with.result c.with-self.result (record { past = omega arith; command = c.requires.command; fence = c.requires.fence })
-    (c.with.ensures ∙ ap (with_one c.args.item) (counted_here s.waiting s.owned s.fence s.counts.items s.all s.time c.requires.kept c.args.conn c.requires.conn c.index.result.now c.index.ensures))
-    c.with-self.ensures)
+    c.count_in.new.one c.count_in.new.all (record { past = omega arith; command = c.requires.command; fence = c.requires.fence })
+    (c.count_in.ensures.one ∙ ap (with_one c.args.item) (counted_here s.waiting s.owned s.fence s.counts.items s.all s.time c.requires.kept c.args.conn c.requires.conn c.index_mut.result.now c.index_mut.ensures.value))
+    c.count_in.ensures.all)
 
 pub returns-clause-state : goal.returns-clause-state
 returns-clause-state c =
