@@ -16,7 +16,7 @@ use Rattle.iscsi_outbox_steps.specs.State.{State as OutboxState, Limits, place_o
 use Rattle.iscsi_outbox_steps.specs.Steps.{given, is_running_ticket, next as next_out, stopped, written}
 use Rattle.iscsi_outbox.proofs.LimitsLemmas.{limits_stay}
 use Rattle.iscsi_requests.specs.Conns.{of_conn, oldest}
-use Rattle.iscsi_requests.specs.Cookies.{has_place, used_more, uses_at}
+use Rattle.iscsi_requests.specs.Cookies.{cookie_at, has_place, used_more, uses_at}
 use Rattle.iscsi_requests.specs.Unwritten.{popped}
 use Rattle.iscsi_ffi_commands.specs.declared.command.Command.{Command}
 use Rattle.iscsi_ffi_commands.specs.Commands.{find_ticket, is_going, is_marked}
@@ -25,7 +25,7 @@ use Rattle.iscsi_ffi_steps.specs.State.{State}
 use Rattle.iscsi_ffi_steps.specs.Walk.{Doing, in_state, release, release_if}
 use Rattle.iscsi_ffi_steps.specs.Steps as steps
 use Rattle.iscsi_ffi_steps.specs.Steps.{Going, Side, arriving, changed, close_each, going, hand_out, happens, is_blocked, is_held_first, leaves_queue, next, pushed_with_room, request_handed, stop_running, used_again, write, write_on}
-use Rattle.iscsi_ffi_desk.specs.Calls.{after_given, ended, handed_out, stopped_running, with_outbox, written_on}
+use Rattle.iscsi_ffi_desk.specs.Calls.{after_given, cookie_of_place, ended, handed_out, stopped_running, with_outbox, written_on}
 use Rattle.iscsi_ffi_desk.proofs.DropLemmas.{released_if_stays, released_stays}
 use Rattle.iscsi_ffi_desk.proofs.EndLemmas.{close_on_outbox, tell_each_outbox}
 use Rattle.iscsi_ffi.specs.Held.{held_of, own_of}
@@ -124,6 +124,18 @@ hands_going i cid conn h s at may hands =
     ∙ ap (λ (g : Given). (by_given cid conn s g).going) hands
     ∙ ap (λ (o : OutboxState). record (going s) { doing = in_state (λ t. record (leaves_queue conn h.pdu request t) { outbox = next_out cid o; unwritten = pushed_with_room conn request (leaves_queue conn h.pdu request t).unwritten }) (going s).doing }) (queue_box conn h.pdu request s.state)
     ∙ ap (λ (g : Given). record (going s) { doing = after_given cid conn g (going s).doing }) (sym hands)
+
+pub hands_says : (i : Interface) (cid conn : ℕ) (h : Handed) (s : Side) → place_of s.state.outbox cid ≡ Some conn → is_blocked i conn s.state ≡ false → given cid s.state.outbox ≡ Hands h
+    → (next i cid s).answer ≡ steps.Goes h (cookie_of_place s.state (request_handed s.state conn h.pdu))
+hands_says i cid conn h s at may hands =
+    ap (λ (o : Option ℕ). (elim o as (λ (q : Option ℕ). steps.Answered) [ Some c ↦ steps.next_on i cid c s | None ↦ steps.says s steps.NoneGoes ]).answer) at
+    ∙ ap (λ (b : Bool). (if b then steps.says s steps.Blocked else by_given cid conn s (given cid s.state.outbox)).answer) may
+    ∙ ap (λ (g : Given). (by_given cid conn s g).answer) hands
+    ∙ ap (steps.Goes h) (by_request (request_handed s.state conn h.pdu))
+  where
+    by_request : (o : Option ℕ) → elim o as (λ (q : Option ℕ). Option ℕ) [ Some place ↦ Some (cookie_at place s.state.cookies) | None ↦ None ] ≡ cookie_of_place s.state o
+    by_request (Some place) = refl
+    by_request None = refl
 
 pub handed_limits : (cid conn : ℕ) (d : Doing) → (handed_out cid conn d).state.outbox.limits ≡ d.state.outbox.limits
 handed_limits cid conn d = by_given (given cid d.state.outbox)

@@ -4,4 +4,5 @@ pub mod Calls
 pub mod Opened
 pub mod Options
 pub mod Standing
+pub mod Responses
 pub mod Held

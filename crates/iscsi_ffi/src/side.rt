@@ -7,6 +7,7 @@ mod events;
 mod joining;
 mod opening;
 mod outgoing;
+mod responding;
 mod told;
 
 use iscsi_ffi_desk::Desk;

@@ -1,11 +1,12 @@
 //! The bytes of a PDU that goes out.
 
-ghost use Rattle.std.specs.Prelude.{◌≡◌, ◌≤◌, ◌++◌, List, None, length};
+ghost use Rattle.std.specs.Prelude.{◌≡◌, ◌≤◌, ◌++◌, ℕ, List, Some, None, length};
 ghost use Rattle.iscsi_wire.specs.Replies.{bytes_4, header_of, tail_of};
-ghost use Rattle.iscsi_ffi_handle.specs.Bytes.{bytes_of, kind_code, plain_pdu, put_first, tail_in};
+ghost use Rattle.iscsi_outbox.specs.promises.Responses.{handed_of};
+ghost use Rattle.iscsi_ffi_handle.specs.Bytes.{bytes_of, kind_code, pdu_form, plain_pdu, put_first, tail_in};
 
 use crate::plain::PlainPdu;
-use iscsi_outbox::{Handed, Pdu, header};
+use iscsi_outbox::{Handed, HandedResponse, Pdu, header};
 use iscsi_wire::Reply;
 use iscsi_wire::opcode::SCSI_RESPONSE;
 
@@ -14,6 +15,52 @@ const HEADER: usize = 48;
 
 /// No PDU of the library has more bytes.
 pub(crate) const MOST_BYTES: usize = 96;
+
+/// Writes a SCSI Response without sense to the front of a buffer, and says what it is.
+#[inline(always)]
+pub(crate) fn write_response(
+    handed: &HandedResponse,
+    cookie: Option<u64>,
+    buffer: &mut [u8],
+) -> PlainPdu
+    requires { 96 ≤ length buffer.old }
+    ensures buffer { buffer.new ≡ put_first (bytes_of (handed_of handed.now)) buffer.old }
+    ensures pdu { result ≡ plain_pdu (handed_of handed.now) cookie }
+{
+    let header = scsi_header(
+        handed.itt,
+        handed.status,
+        handed.stat_sn,
+        handed.exp,
+        handed.max,
+    );
+    let length = write_header(&header, buffer);
+    response_form(cookie, length)
+}
+
+/// What a reply is that is so long.
+#[inline(always)]
+fn response_form(cookie: Option<u64>, length: u8) -> PlainPdu
+    ensures some { (word : ℕ) → cookie ≡ Some word → result ≡ pdu_form word 1 1 length }
+    ensures none { cookie ≡ None → result ≡ pdu_form 0 1 0 length }
+{
+    match cookie {
+        Some(cookie) => PlainPdu {
+            cookie,
+            kind: 1,
+            has_cookie: 1,
+            length,
+            reserved: [0; 5],
+        },
+        None => PlainPdu {
+            cookie: 0,
+            kind: 1,
+            has_cookie: 0,
+            length,
+            reserved: [0; 5],
+        },
+    }
+}
 
 /// Writes a PDU to the front of a buffer, and says what it is.
 #[inline(always)]
@@ -40,7 +87,7 @@ fn write_bytes(handed: &Handed, buffer: &mut [u8]) -> u8
     ensures length { result ≡ length (bytes_of handed.now) }
 {
     match &handed.pdu {
-        Pdu::Reply(sent) => write_reply(
+        Pdu::Reply(sent) => write_encoded(
             &sent.reply,
             handed.stat_sn,
             handed.exp,
@@ -52,22 +99,6 @@ fn write_bytes(handed: &Handed, buffer: &mut [u8]) -> u8
 }
 
 /// Writes the bytes of a reply with these numbers, and says how many there are.
-#[inline(always)]
-fn write_reply(reply: &Reply, stat_sn: u32, exp: u32, max: u32, buffer: &mut [u8]) -> u8
-    requires { 96 ≤ length buffer.old }
-    ensures buffer { buffer.new ≡ put_first (header_of reply.now stat_sn exp max ++ tail_of reply.now) buffer.old }
-    ensures length { result ≡ length (header_of reply.now stat_sn exp max ++ tail_of reply.now) }
-{
-    // Most replies are of this kind.
-    if let Reply::Scsi { itt, status, sense } = reply
-        && let None = sense
-    {
-        return write_header(&scsi_header(*itt, *status, stat_sn, exp, max), buffer);
-    }
-    write_encoded(reply, stat_sn, exp, max, buffer)
-}
-
-/// Writes those of any reply.
 #[inline(never)]
 fn write_encoded(reply: &Reply, stat_sn: u32, exp: u32, max: u32, buffer: &mut [u8]) -> u8
     requires { 96 ≤ length buffer.old }

@@ -1,6 +1,7 @@
 pub mod KnownLemmas
 pub mod TrailLemmas
 pub mod ChoiceLemmas
+pub mod ResponseLemmas
 pub mod CloseLemmas
 pub mod CommonestLemmas
 pub mod SettleLemmas

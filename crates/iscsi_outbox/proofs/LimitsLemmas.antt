@@ -90,16 +90,16 @@ command_stays : (x : Option ℕ) (stamp : Stamp) (s : State) → (of_command x s
 command_stays None stamp s = refl
 command_stays (Some place) stamp s = if_stays (has_place place s.tracked) (record s { tracked = handed_out place stamp s.tracked }) s s.limits refl refl
 
+pub out_stays : (conn : ℕ) (out : Out) (s : State) → (after_out conn out s).limits ≡ s.limits
+out_stays conn (Waited item) s =
+    fence_stays conn item.fenced _ (of_command item.command _ (shows (without conn (Waited item) s))) ∙ command_stays (item.command) _ (shows (without conn (Waited item) s))
+out_stays conn (Pinged tag) s = refl
+out_stays conn Noticed s = refl
+
 next_stays : (cid : ℕ) (s : State) → (next cid s).limits ≡ s.limits
 next_stays cid s =
     opt_stays (place_of s cid) (λ conn. elim (chosen conn s) as (λ (y : Option Out). State) [ Some out ↦ after_out conn out s | None ↦ s ]) s s.limits
-    (λ conn. opt_stays (chosen conn s) (λ out. after_out conn out s) s s.limits (λ out. one conn out) refl) refl
-  where
-    one : (conn : ℕ) (out : Out) → (after_out conn out s).limits ≡ s.limits
-    one conn (Waited item) =
-        fence_stays conn item.fenced _ (of_command item.command _ (shows (without conn (Waited item) s))) ∙ command_stays (item.command) _ (shows (without conn (Waited item) s))
-    one conn (Pinged tag) = refl
-    one conn Noticed = refl
+    (λ conn. opt_stays (chosen conn s) (λ out. after_out conn out s) s s.limits (λ out. out_stays conn out s) refl) refl
 
 written_stays : (cid : ℕ) (s : State) → (written cid s).limits ≡ s.limits
 written_stays cid s = opt_stays (place_of s cid) (λ conn. settle (trail conn (with_link conn written_by s))) s s.limits (λ conn. walked_stays conn (with_link conn written_by s)) refl

@@ -16,6 +16,7 @@ pub use iscsi_arrivals::Arrivals;
 pub use iscsi_outbox_rules::{OwnPdu, PutRefusal};
 pub use iscsi_outbox_state::SentReply;
 pub use iscsi_outbox_steps::{Given, Handed, Pdu};
+pub use iscsi_waiting::Response;
 pub use options::OutboxOptions;
-pub use outbox::Outbox;
+pub use outbox::{HandedResponse, Outbox};
 pub use writers::Writers;

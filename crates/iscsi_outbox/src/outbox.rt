@@ -18,6 +18,7 @@ mod leaving;
 mod numbers;
 mod own;
 mod queues;
+mod responding;
 mod sending;
 mod settling;
 mod taking;
@@ -30,6 +31,7 @@ use iscsi_links::Links;
 use iscsi_outbox_steps::Sent;
 use iscsi_tracked::Tracked;
 use iscsi_waiting::Waits;
+pub use responding::HandedResponse;
 use std::alloc::Global;
 use std::marker::Model;
 

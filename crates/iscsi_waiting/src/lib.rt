@@ -3,7 +3,9 @@
 #![tactic(auto)]
 
 mod counts;
+mod first;
 mod slots;
 mod waits;
 
+pub use first::{Marks, Response};
 pub use waits::Waits;

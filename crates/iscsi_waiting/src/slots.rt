@@ -1,11 +1,13 @@
 //! What waits, by slots.
 
-ghost use Rattle.std.specs.Prelude.{◌≡◌, ℕ, ◌+◌, ◌-◌, ◌<◌, ◌≤◌, ◌^◌, List, [], true, false, length, IfOk, IfSome};
+ghost use Rattle.std.specs.Prelude.{◌≡◌, ℕ, ◌+◌, ◌-◌, ◌<◌, ◌≤◌, ◌^◌, List, [], true, false, length, option_map, IfOk, IfSome};
 ghost use Rattle.iscsi_lists.specs.Lists.{times_in};
 ghost use Rattle.iscsi_outbox_state.specs.Waits.{any_in, dropped_of, entered, first_item, is_taking_before, opened, popped, queue_at, released_of};
+ghost use Rattle.iscsi_waiting.specs.Firsts.{marks_of};
 ghost use Rattle.iscsi_waiting.specs.Kept.{AreInFirst, AreKept, GoesTo, IsBehind, IsBehindNone, Leaves, LetsGo, kept_at, kind_of, place_of, waits_of};
 
 use crate::counts::{Counts, count_in, count_out};
+use crate::first::{Marks, marks_of};
 use iscsi_lists::Lists;
 use iscsi_outbox_rules::OwnPdu;
 use iscsi_outbox_state::{Content, Waiting};
@@ -136,7 +138,25 @@ impl Slots {
     {
         self.waiting.known();
         let slot = self.waiting.first(conn)?;
-        Some(self.take_out(slot))
+        let item = self.waiting.at(slot).item;
+        self.take_out(slot);
+        Some(item)
+    }
+
+    /// The first PDU of a connection is taken out: what the rules look at of it.
+    #[inline(always)]
+    pub(crate) fn drop_first(&mut self, conn: usize) -> Option<Marks>
+        requires kept { AreKept self.old }
+        requires conn { conn < length self.old.waiting.lists }
+        ensures marks { result ≡ option_map marks_of (first_item (queue_at (waits_of self.old) conn)) }
+        ensures kept { AreKept self.new }
+        ensures state { waits_of self.new ≡ popped conn (waits_of self.old) }
+    {
+        self.waiting.known();
+        let slot = self.waiting.first(conn)?;
+        let marks = marks_of(&self.waiting.at(slot).item);
+        self.take_out(slot);
+        Some(marks)
     }
 
     /// All that waits of a command is dropped.
@@ -205,12 +225,11 @@ impl Slots {
         self.is_behind(FENCED, time) || self.is_behind(TAKES, time)
     }
 
-    /// A slot is in no queue any more: what it had.
+    /// A slot is in no queue any more.
     #[inline(always)]
-    fn take_out(&mut self, slot: u32) -> Waiting
+    fn take_out(&mut self, slot: u32)
         requires kept { AreKept self.old }
         requires waits { 1 ≤ times_in slot self.old.waiting.lists }
-        ensures item { result ≡ (kept_at self.old.waiting slot).item }
         ensures kept { AreKept self.new }
         ensures left { Leaves self.old self.new slot }
     {
@@ -218,11 +237,11 @@ impl Slots {
         self.owned.known();
         self.fence.known();
         let conn = self.waiting.list_of(slot);
-        let Kept { item, .. } = self.waiting.remove(slot);
+        let kept = self.waiting.at(slot);
+        count_out(&mut self.counts[conn], &mut self.all, &kept.item);
+        self.waiting.remove(slot);
         move_owned(&mut self.owned, slot, OF_NONE);
         self.fence.move_to_back(slot, TAKES_NONE);
-        count_out(&mut self.counts[conn], &mut self.all, &item);
-        item
     }
 
     /// What a slot has is of no command any more.

@@ -1,9 +1,11 @@
 //! What waits.
 
-ghost use Rattle.std.specs.Prelude.{◌≡◌, ◌+◌, ◌-◌, ◌<◌, ◌≤◌, ◌^◌, [], true, false, length, count_by, IfOk, IfSome};
+ghost use Rattle.std.specs.Prelude.{◌≡◌, ◌+◌, ◌-◌, ◌<◌, ◌≤◌, ◌^◌, [], true, false, length, count_by, option_map, IfOk, IfSome};
 ghost use Rattle.iscsi_outbox_state.specs.Waits.{any_in, count_in, dropped_of, dropped_on, entered, first_item, front_of, is_any, is_fenced, is_fenced_before, is_numbered, is_own, is_reply, is_taking, is_taking_before, opened, popped, queue_at, released_of};
+ghost use Rattle.iscsi_waiting.specs.Firsts.{marks_of, response_of};
 ghost use Rattle.iscsi_waiting.specs.Known.{AreWaiting};
 
+use crate::first::{Marks, Response, response_in};
 use crate::slots::{FENCED, Slots};
 use iscsi_outbox_state::{Front, Waiting};
 use std::alloc::{AllocError, Global};
@@ -100,6 +102,16 @@ impl Waits {
         })
     }
 
+    /// The first PDU that waits on a connection, if it is a SCSI Response without sense.
+    #[inline(always)]
+    pub fn response(&self, conn: usize) -> Option<Response>
+        requires { conn < length self.now.queues }
+        ensures { result ≡ response_of (first_item (queue_at self.now conn)) }
+    {
+        let slot = self.slots.waiting.first(conn)?;
+        response_in(&self.slots.waiting.at(slot).item.content)
+    }
+
     /// A PDU enters the queue of a connection, behind all that waits there.
     #[inline(always)]
     pub fn enter(&mut self, conn: usize, item: Waiting)
@@ -122,6 +134,16 @@ impl Waits {
         ensures state { self.new ≡ popped conn self.old }
     {
         self.slots.pop(conn)
+    }
+
+    /// Takes it out, and tells what the rules look at.
+    #[inline(always)]
+    pub fn drop_first(&mut self, conn: usize) -> Option<Marks>
+        requires { conn < length self.old.queues }
+        ensures marks { result ≡ option_map marks_of (first_item (queue_at self.old conn)) }
+        ensures state { self.new ≡ popped conn self.old }
+    {
+        self.slots.drop_first(conn)
     }
 
     /// When the next PDU enters.

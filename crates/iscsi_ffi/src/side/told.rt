@@ -1,6 +1,6 @@
 //! What is told, and handed over.
 
-ghost use Rattle.std.specs.Prelude.{◌≡◌, length, min};
+ghost use Rattle.std.specs.Prelude.{◌≡◌, [], length, min};
 ghost use Rattle.iscsi_ffi_rules.specs.rules.Calls.{Interface};
 ghost use Rattle.iscsi_ffi_steps.specs.Steps.{Going, after, ended, going};
 ghost use Rattle.iscsi_ffi.specs.Standing.{Begun, Stands, is_waiting, taken_one, waiting};
@@ -46,7 +46,8 @@ impl Side {
     /// A call begins: nothing was told in it yet.
     #[inline(always)]
     pub(super) fn begin(&mut self)
-        ensures { (i : Interface) (g : Going) → Stands i self.old g → Begun i self.new (going (after g)) }
+        ensures stands { (i : Interface) (g : Going) → Stands i self.old g → Begun i self.new (going (after g)) }
+        ensures state { self.new ≡ record self.old { desk = record { state = self.old.desk.state; actions = []; forgets = [] }; given = 0; forgotten = 0 } }
     {
         self.desk.begin();
         self.given = 0;

@@ -1,13 +1,15 @@
 //! What goes out.
 
-ghost use Rattle.std.specs.Prelude.{◌≡◌, ◌<◌, length, Some, None};
+ghost use Rattle.std.specs.Prelude.{◌≡◌, ◌<◌, ℕ, length, Some, None};
+ghost use Rattle.iscsi_outbox_steps.specs.State.{place_of};
+ghost use Rattle.iscsi_outbox.specs.promises.Responses.{handed_of, response_next};
 ghost use Rattle.iscsi_outbox_steps.specs.Steps.{given};
 ghost use Rattle.iscsi_requests.specs.Replies.{find_log_place};
 ghost use Rattle.iscsi_ffi_steps.specs.Steps.{request_handed, write_on};
 ghost use Rattle.iscsi_ffi_desk.specs.Calls.{command_used, cookie_handed, cookie_of_place, handed_out, is_blocked, left_queue, pushed_out, reply_left, request_of_command, written_on};
 
 use crate::desk::Desk;
-use iscsi_outbox::{Given, Handed, OwnPdu, Pdu};
+use iscsi_outbox::{Given, Handed, HandedResponse, OwnPdu, Pdu, Response};
 
 impl Desk {
     /// Whether as many PDUs of a connection are handed out and not written as may be.
@@ -35,6 +37,36 @@ impl Desk {
             }
             Given::Nothing | Given::IsOver => (given, None),
         }
+    }
+
+    /// Hands out the SCSI Response without sense that goes out next on a connection, as `next` does.
+    #[inline(always)]
+    pub fn next_response(
+        &mut self,
+        conn: usize,
+        response: Response,
+    ) -> (HandedResponse, Option<u64>)
+        requires conn { conn < length self.old.state.outbox.limits.cids }
+        requires goes { response_next conn self.old.state.outbox ≡ Some response }
+        ensures answer { (cid : ℕ) → place_of self.old.state.outbox cid ≡ Some conn → given cid self.old.state.outbox ≡ Given.Hands (handed_of result.0) }
+        ensures cookie { (cid : ℕ) → place_of self.old.state.outbox cid ≡ Some conn → result.1 ≡ cookie_handed conn (given cid self.old.state.outbox) self.old.state }
+        ensures state { (cid : ℕ) → place_of self.old.state.outbox cid ≡ Some conn → self.new ≡ handed_out cid conn self.old }
+    {
+        let handed = self.outbox.next_response(conn, response);
+        let cookie = self.hand_out_reply(conn, handed.place);
+        (handed, cookie)
+    }
+
+    /// A reply with this place in the log was handed out on a connection, and is to be written: the word of its request.
+    #[inline(always)]
+    fn hand_out_reply(&mut self, conn: usize, log_place: u64) -> Option<u64>
+        requires { conn < length self.old.state.outbox.limits.cids }
+        ensures cookie { result ≡ cookie_of_place self.old.state (find_log_place log_place self.old.state.replies) }
+        ensures state { self.new ≡ pushed_out conn (find_log_place log_place self.old.state.replies) (reply_left log_place self.old) }
+    {
+        let answered = self.take_reply(log_place);
+        self.push_unwritten(conn, answered);
+        self.cookie_of(answered)
     }
 
     /// A PDU was handed out on a connection, and is to be written: the word for what it belongs to.

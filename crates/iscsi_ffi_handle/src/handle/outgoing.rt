@@ -6,11 +6,11 @@ ghost use Rattle.iscsi_ffi_handle.specs.Inside.{inside};
 ghost use Rattle.iscsi_ffi_handle.specs.Outgoing.{own_of};
 ghost use Rattle.iscsi_ffi_rules.specs.rules.Calls.{Call, Puts};
 
-use crate::bytes::{MOST_BYTES, write_pdu};
+use crate::bytes::{MOST_BYTES, write_pdu, write_response};
 use crate::handle::Handle;
 use crate::plain::{PlainAction, PlainPdu, PlainTold};
 use crate::telling::hand_over;
-use iscsi_ffi::{Answer, Next};
+use iscsi_ffi::{Answer, Next, Side};
 use iscsi_outbox::OwnPdu;
 use std::alloc::Global;
 
@@ -39,12 +39,12 @@ impl Handle {
             Ok(side) => side,
             Err(answer) => return answer,
         };
-        let answer = match &side.next(cid) {
-            Next::Goes(handed, cookie) => {
-                *pdu = write_pdu(handed, *cookie, buffer);
+        let answer = match side.next_response(cid) {
+            Some((response, cookie)) => {
+                *pdu = write_response(&response, cookie, buffer);
                 Answer::Done
             }
-            Next::None(answer) => *answer,
+            None => next_any(&mut side, cid, buffer, pdu),
         };
         *told = hand_over(&mut side, actions);
         self.put_back(side);
@@ -81,6 +81,21 @@ impl Handle {
         *told = hand_over(&mut side, actions);
         self.put_back(side);
         answer
+    }
+}
+
+/// Writes the next PDU of a connection, whatever it is, and says what it is.
+#[inline(never)]
+fn next_any(side: &mut Side, cid: u16, buffer: &mut [u8], pdu: &mut PlainPdu) -> Answer
+    requires { 96 ≤ length buffer.old }
+    ensures { GivesOut cid buffer.old buffer.new pdu.old pdu.new side.old side.new result }
+{
+    match &side.next(cid) {
+        Next::Goes(handed, cookie) => {
+            *pdu = write_pdu(handed, *cookie, buffer);
+            Answer::Done
+        }
+        Next::None(answer) => *answer,
     }
 }
 

@@ -120,7 +120,7 @@ impl Outbox {
 
     /// A PDU of the command in a place was handed out.
     #[inline(always)]
-    fn note_out(&mut self, command: Option<u32>, stamp: Stamp)
+    pub(crate) fn note_out(&mut self, command: Option<u32>, stamp: Stamp)
         ensures { self.new ≡ of_command command stamp self.old }
     {
         if let Some(place) = command {
@@ -132,7 +132,7 @@ impl Outbox {
 
     /// A PDU was handed out that answers a function of several tasks, or another one.
     #[inline(always)]
-    fn note_fence(&mut self, conn: usize, fenced: bool, stamp: Stamp)
+    pub(crate) fn note_fence(&mut self, conn: usize, fenced: bool, stamp: Stamp)
         requires { conn < length self.old.limits.cids }
         ensures { self.new ≡ of_fence conn fenced stamp self.old }
     {
@@ -158,7 +158,7 @@ fn pdu_of(content: Content) -> Pdu
 
 /// What the wire shows of a number.
 #[inline(always)]
-fn on_wire(number: u64) -> u32
+pub(crate) fn on_wire(number: u64) -> u32
     ensures { result ≡ wire number }
 {
     (number % (1 << 32)) as u32

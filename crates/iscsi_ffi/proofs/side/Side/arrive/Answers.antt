@@ -9,4 +9,4 @@ pub returns-then-waits : goal.returns-then-waits
 returns-then-waits c = call_waits answer_of ActionsWait (Arrives c.args.cid c.args.header.now c.args.cookie) c.args.self.now (sym c.waits.ensures ∙ c.if-waits.true)
 
 pub returns : goal.returns
-returns c = call_taken answer_of ActionsWait (Arrives c.args.cid c.args.header.now c.args.cookie) c.args.self.now c.begin.new.self c.arrive_now-answer.new.self c.end.new.self c.arrive_now-answer.result (sym c.waits.ensures ∙ c.if-waits.false) c.begin.ensures c.arrive_now-answer.ensures.stands c.arrive_now-answer.ensures.answer c.end.ensures
+returns c = call_taken answer_of ActionsWait (Arrives c.args.cid c.args.header.now c.args.cookie) c.args.self.now c.begin.new.self c.arrive_now-answer.new.self c.end.new.self c.arrive_now-answer.result (sym c.waits.ensures ∙ c.if-waits.false) c.begin.ensures.stands c.arrive_now-answer.ensures.stands c.arrive_now-answer.ensures.answer c.end.ensures

@@ -9,4 +9,4 @@ pub returns-then-waits : goal.returns-then-waits
 returns-then-waits c = call_waits answer_of ActionsWait (Completes c.args.ticket c.args.status) c.args.self.now (sym c.waits.ensures ∙ c.if-waits.true)
 
 pub returns : goal.returns
-returns c = call_taken answer_of ActionsWait (Completes c.args.ticket c.args.status) c.args.self.now c.begin.new.self c.complete_now-answer.new.self c.end.new.self c.complete_now-answer.result (sym c.waits.ensures ∙ c.if-waits.false) c.begin.ensures c.complete_now-answer.ensures.stands c.complete_now-answer.ensures.answer c.end.ensures
+returns c = call_taken answer_of ActionsWait (Completes c.args.ticket c.args.status) c.args.self.now c.begin.new.self c.complete_now-answer.new.self c.end.new.self c.complete_now-answer.result (sym c.waits.ensures ∙ c.if-waits.false) c.begin.ensures.stands c.complete_now-answer.ensures.stands c.complete_now-answer.ensures.answer c.end.ensures

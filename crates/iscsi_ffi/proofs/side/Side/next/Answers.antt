@@ -10,4 +10,4 @@ pub returns-then-waits : goal.returns-then-waits
 returns-then-waits c = call_waits given_of (NoPdu ActionsWait) (Nexts c.args.cid) c.args.self.now (sym c.waits.ensures ∙ c.if-waits.true)
 
 pub returns : goal.returns
-returns c = call_taken given_of (NoPdu ActionsWait) (Nexts c.args.cid) c.args.self.now c.begin.new.self c.next_now-next.new.self c.end.new.self c.next_now-next.result (sym c.waits.ensures ∙ c.if-waits.false) c.begin.ensures c.next_now-next.ensures.stands c.next_now-next.ensures.answer c.end.ensures
+returns c = call_taken given_of (NoPdu ActionsWait) (Nexts c.args.cid) c.args.self.now c.begin.new.self c.next_now-next.new.self c.end.new.self c.next_now-next.result (sym c.waits.ensures ∙ c.if-waits.false) c.begin.ensures.stands c.next_now-next.ensures.stands c.next_now-next.ensures.answer c.end.ensures

@@ -19,7 +19,7 @@ pub count_out-requires-clause-one : goal.count_out-requires-clause-one
 count_out-requires-clause-one c =
     let s = c.args.self.now in let conn = c.list_of-conn.result in
     let at = told_in c.args.slot s.waiting.lists c.requires.waits conn c.list_of-conn.ensures in
-    subst (λ (k : Kept). HasOne k.item c.index_mut.result.now) (sym (c.remove.ensures.value BLANK))
+    subst (λ (k : Kept). HasOne k.item c.index_mut.result.now) (sym (c.at-kept.ensures BLANK))
     (conn_has s.waiting s.owned s.fence s.counts.items s.all s.time c.requires.kept c.known.ensures.apart conn c.args.slot at.0 at.1 c.index_mut.result.now
     (counted_here s.waiting s.owned s.fence s.counts.items s.all s.time c.requires.kept conn at.0 c.index_mut.result.now c.index_mut.ensures.value))
 
@@ -27,14 +27,14 @@ pub count_out-requires-clause-all : goal.count_out-requires-clause-all
 count_out-requires-clause-all c =
     let s = c.args.self.now in let conn = c.list_of-conn.result in
     let at = told_in c.args.slot s.waiting.lists c.requires.waits conn c.list_of-conn.ensures in
-    subst (λ (k : Kept). HasOne k.item s.all) (sym (c.remove.ensures.value BLANK))
+    subst (λ (k : Kept). HasOne k.item s.all) (sym (c.at-kept.ensures BLANK))
     (all_has s.waiting s.owned s.fence s.counts.items s.all s.time c.requires.kept c.known.ensures.apart conn c.args.slot at.0 at.1)
 
 pub returns-clause-kept : goal.returns-clause-kept
 returns-clause-kept c =
     let s = c.args.self.now in let conn = c.list_of-conn.result in
     let at = told_in c.args.slot s.waiting.lists c.requires.waits conn c.list_of-conn.ensures in
-    let item = ap (λ (k : Kept). k.item) (c.remove.ensures.value BLANK) in
+    let item = ap (λ (k : Kept). k.item) (c.at-kept.ensures BLANK) in
     kept_alike c.remove.new.self s.owned c.move_owned.new.owned c.move_to_back.new.self _ _ _ 0 c.args.slot c.move_owned.ensures
     (left_kept s.waiting s.owned s.fence s.counts.items s.all s.time c.requires.kept c.known.ensures.apart conn c.args.slot at.0 at.1
     c.remove.new.self c.remove.ensures.state (record s.owned { lists = with_last 0 c.args.slot (map (without c.args.slot) s.owned.lists) }) c.move_to_back.new.self refl c.move_to_back.ensures.state
