@@ -32,13 +32,18 @@ busy_in looks links = count_by (λ (l : Counts). is_busy_by looks l) links
 abbrev pub is_busy_elsewhere : ℕ → Links → Bool
 is_busy_elsewhere place v = nat_lt (if is_busy_by v.looks (link_at v place) then 1 else 0) (busy_in v.looks v.links)
 
+-- a Logout closed so many
+abbrev pub closed_in : List Counts → ℕ
+closed_in links = count_by (λ (l : Counts). l.closed) links
+
 -- the first connection that takes requests
 abbrev pub first_usable : Links → Option ℕ
 first_usable v = position is_usable_by v.links
 
 -- ---- for private contracts alone
 
-pub record AreCounted (links : List Counts) (looks : Bool) (busy usable : ℕ) : Type 0 where
+pub record AreCounted (links : List Counts) (looks : Bool) (busy usable shut : ℕ) : Type 0 where
   pub counted : busy ≡ busy_in looks links
   pub first : usable ≡ position_or_len is_usable_by links
+  pub closings : shut ≡ closed_in links
   pub few : length links ≤ 64

@@ -3,7 +3,7 @@
 ghost use Rattle.std.specs.Prelude.{◌≡◌, ◌≢◌, ℕ, ◌+◌, ◌<◌, ◌≤◌, ◌^◌, true, false, nat_lt, length, replicate, slice_index_or, slice_set, if◌then◌else◌, IfOk};
 ghost use Rattle.std.specs.List.{position_or_len};
 ghost use Rattle.iscsi_arrivals.specs.Counts.{handed_by, heard_by, is_open_by, is_usable_by, joined_by, may_join_by, new_counts, pinged_by, stamp_by, written_by};
-ghost use Rattle.iscsi_links.specs.Links.{changed, closed, cut, first_usable, is_busy_elsewhere, link_at, lost, opened};
+ghost use Rattle.iscsi_links.specs.Links.{changed, closed, closed_in, cut, first_usable, is_busy_elsewhere, link_at, lost, opened};
 
 use iscsi_arrivals::{Arrivals, Stamp};
 use std::alloc::{AllocError, Global};
@@ -20,6 +20,8 @@ pub struct Links {
     busy: usize,
     /// The first that takes requests, or as many as there are.
     usable: usize,
+    /// So many are closed.
+    shut: usize,
 }
 
 impl Drop for Links {
@@ -29,6 +31,7 @@ impl Drop for Links {
             looks: _looks,
             busy: _busy,
             usable: _usable,
+            shut: _shut,
         } = self;
     }
 }
@@ -40,7 +43,7 @@ impl Model for Links {
 
     ghost view = { λ l. record { links = l.list.items; looks = l.looks } };
 
-    ghost invariant = { λ l. AreCounted l.list.items l.looks l.busy l.usable };
+    ghost invariant = { λ l. AreCounted l.list.items l.looks l.busy l.usable l.shut };
 }
 
 impl Links {
@@ -55,6 +58,7 @@ impl Links {
             looks,
             busy: 0,
             usable: count,
+            shut: 0,
         })
     }
 
@@ -95,6 +99,14 @@ impl Links {
             0
         };
         here < self.busy
+    }
+
+    /// How many a Logout closed.
+    #[inline(always)]
+    pub fn closed(&self) -> usize
+        ensures { result ≡ closed_in self.now.links }
+    {
+        self.shut
     }
 
     /// The first connection that takes requests: it is open, and no Logout closed it.
@@ -158,9 +170,12 @@ impl Links {
         requires { place < length self.old.links }
         ensures { self.new ≡ changed place written_by self.old }
     {
-        let mut link = self.list[place];
+        let looks = self.looks;
+        let link = &mut self.list[place];
+        let was = link.is_busy(looks);
         link.write();
-        self.change(place, link);
+        let is = link.is_busy(looks);
+        self.busy = count_with(self.busy, was, is);
     }
 
     /// A header arrived on a connection, with this ExpStatSN and, where it is that of a NOP-Out, this transfer tag.
@@ -169,9 +184,12 @@ impl Links {
         requires { place < length self.old.links }
         ensures { self.new ≡ changed place (heard_by exp_stat_sn transfer_tag) self.old }
     {
-        let mut link = self.list[place];
+        let looks = self.looks;
+        let link = &mut self.list[place];
+        let was = link.is_busy(looks);
         link.hear(exp_stat_sn, transfer_tag);
-        self.change(place, link);
+        let is = link.is_busy(looks);
+        self.busy = count_with(self.busy, was, is);
     }
 
     /// A PDU is handed out on a connection that is no ping: its stamp. It takes a StatSN or not, and it is the Logout Response
@@ -184,9 +202,12 @@ impl Links {
         ensures answer { result ≡ stamp_by (link_at self.old place) }
         ensures state { self.new ≡ changed place (handed_by takes ends) self.old }
     {
-        let mut link = self.list[place];
+        let looks = self.looks;
+        let link = &mut self.list[place];
+        let was = link.is_busy(looks);
         let stamp = link.hand_out(takes, ends);
-        self.change(place, link);
+        let is = link.is_busy(looks);
+        self.busy = count_with(self.busy, was, is);
         stamp
     }
 
@@ -213,7 +234,8 @@ impl Links {
     {
         let old = self.list[which];
         self.list[which] = new;
-        self.busy = busy_with(self.busy, old.is_busy(self.looks), new.is_busy(self.looks));
+        self.busy = count_with(self.busy, old.is_busy(self.looks), new.is_busy(self.looks));
+        self.shut = count_with(self.shut, old.is_closed(), new.is_closed());
         self.usable = usable_with(&self.list, self.usable, which);
     }
 }
@@ -229,17 +251,17 @@ fn unjoined(alloc: Global, count: usize) -> Result<Vec<Arrivals>, AllocError>
     Ok(list)
 }
 
-/// How many are busy, as one was and is.
+/// How many are so, as one was and is.
 #[inline(always)]
-fn busy_with(busy: usize, was: bool, is: bool) -> usize
-    requires some { was ≡ true → 1 ≤ busy }
-    requires few { busy ≤ 64 }
-    ensures { result + (if was then 1 else 0) ≡ busy + (if is then 1 else 0) }
+fn count_with(count: usize, was: bool, is: bool) -> usize
+    requires some { was ≡ true → 1 ≤ count }
+    requires few { count ≤ 64 }
+    ensures { result + (if was then 1 else 0) ≡ count + (if is then 1 else 0) }
 {
     match (was, is) {
-        (true, false) => busy - 1,
-        (false, true) => busy + 1,
-        _ => busy,
+        (true, false) => count - 1,
+        (false, true) => count + 1,
+        _ => count,
     }
 }
 
