@@ -2,7 +2,11 @@
 use Rattle.std.proofs.Common.{◌≡◌, ◌<◌, ◌≤◌, ℕ, ◌+◌, ◌&&◌, not, Bool, true, false, List, [], ◌∷◌, length, drop, get_or, set, refl, sym, ap, ◌∙◌, if◌then◌else◌}
 use Rattle.std.proofs.lemmas.List.{drop_more}
 use Rattle.std.proofs.Math.ListN.{drop_of_length-le}
+use Rattle.iscsi_outbox_steps.specs.declared.given.Given.{Given}
+use Rattle.iscsi_outbox_steps.specs.declared.given.Given.TheVariants.{Hands, Nothing, IsOver}
 use Rattle.iscsi_outbox_steps.specs.Steps.{given}
+use Rattle.iscsi_outbox.specs.rules.Words.{gives_no_more as no_more_goes, has_closed}
+use Rattle.iscsi_outbox.proofs.AskLemmas.{none_over}
 use Rattle.iscsi_ffi_rules.specs.declared.action.Action.TheVariants.{Ready, Close}
 use Rattle.iscsi_ffi_steps.specs.Walk.{Doing, in_state, tell}
 use Rattle.iscsi_ffi_steps.specs.Steps.{close_each, close_on, gives, gives_no_more, tell_each, tell_on}
@@ -40,3 +44,21 @@ close_each_done conn cids d all = ap (λ (xs : List ℕ). close_each conn xs d) 
 pub tell_each_outbox : (conn : ℕ) (cids : List ℕ) (d : Doing) → (tell_each conn cids d).state.outbox ≡ d.state.outbox
 tell_each_outbox conn [] d = refl
 tell_each_outbox conn (cid ∷ cids) d = tell_each_outbox (conn + 1) cids (tell_on conn cid d) ∙ tell_on_outbox conn cid d
+
+-- ---- no connection is closed
+
+same_word : (g : Given) → no_more_goes g ≡ gives_no_more g
+same_word (Hands h) = refl
+same_word Nothing = refl
+same_word IsOver = refl
+
+one_stays : (conn cid : ℕ) (d : Doing) (b : Bool) → b ≡ false
+    → (if b && not (get_or d.state.over conn false) then in_state (λ s. record s { over = set s.over conn true }) (tell (Close cid) d) else d) ≡ d
+one_stays conn cid d true e = cc
+one_stays conn cid d false e = refl
+
+pub none_closed : (conn : ℕ) (cids : List ℕ) (d : Doing) → has_closed d.state.outbox ≡ false → close_each conn cids d ≡ d
+none_closed conn [] d none = refl
+none_closed conn (cid ∷ cids) d none =
+    ap (λ (e : Doing). close_each (conn + 1) cids e) (one_stays conn cid d (gives_no_more (given cid d.state.outbox)) (sym (same_word (given cid d.state.outbox)) ∙ none_over d.state.outbox none cid))
+    ∙ none_closed (conn + 1) cids d none

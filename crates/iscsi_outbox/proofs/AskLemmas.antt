@@ -1,11 +1,15 @@
 -- What a host is told that asks for a connection, by what the code chose.
-use Rattle.std.proofs.Common.{◌≡◌, ℕ, ◌&&◌, Bool, true, false, Option, Some, None, not, is_some, option_map, refl, sym, ap, ◌∙◌, if◌then◌else◌}
+use Rattle.std.proofs.Common.{◌≡◌, ℕ, ◌&&◌, Bool, true, false, Option, Some, None, not, is_some, option_map, refl, sym, ap, ◌∙◌, ◌+◌, zero, suc, List, [], ◌∷◌, cond, get_or, arith, if◌then◌else◌}
+use Rattle.std.proofs.lemmas.Bool.{ltb-false}
+use Rattle.iscsi_arrivals.specs.Counts.{Counts, new_counts}
+use Rattle.iscsi_arrivals.proofs.CountLemmas.{count-cons}
+use Rattle.iscsi_links.specs.Links.{closed_in}
 use Rattle.iscsi_outbox_steps.specs.declared.given.Given.{Given}
-use Rattle.iscsi_outbox_steps.specs.declared.given.Given.TheVariants.{Nothing, IsOver}
-use Rattle.iscsi_outbox_steps.specs.State.{State, is_over, place_of}
-use Rattle.iscsi_outbox_steps.specs.Steps.{Out, chosen, given, given_on}
+use Rattle.iscsi_outbox_steps.specs.declared.given.Given.TheVariants.{Hands, Nothing, IsOver}
+use Rattle.iscsi_outbox_steps.specs.State.{State, is_over, link_at, place_of}
+use Rattle.iscsi_outbox_steps.specs.Steps.{Out, chosen, given, given_on, numbered}
 use Rattle.iscsi_outbox.specs.private.Choices.{choice_of}
-use Rattle.iscsi_outbox.specs.rules.Words.{gives_no_more, gives_pdu}
+use Rattle.iscsi_outbox.specs.rules.Words.{gives_no_more, gives_pdu, has_closed}
 use Rattle.iscsi_outbox.proofs.ChoiceLemmas.{given_at, given_none}
 
 no_pdu : (b : Bool) → false ≡ gives_pdu (if b then IsOver else Nothing)
@@ -45,3 +49,38 @@ beside false b e = refl
 pub without : (a b : Bool) → b ≡ false → false ≡ (a && b)
 without true b e = sym e
 without false b e = refl
+
+-- ---- no connection is closed
+
+none_closed : (links : List Counts) (conn : ℕ) → closed_in links ≡ 0 → (get_or links conn new_counts).closed ≡ false
+none_closed [] conn none = refl
+none_closed (l ∷ links) zero none = by l.closed (sym (count-cons (λ (x : Counts). x.closed) l links) ∙ none)
+  where
+    by : (b : Bool) → cond b 1 0 + closed_in links ≡ 0 → b ≡ false
+    by true e = absurd (omega (arith, e))
+    by false e = refl
+none_closed (l ∷ links) (suc conn) none = none_closed links conn (by l.closed (sym (count-cons (λ (x : Counts). x.closed) l links) ∙ none))
+  where
+    by : (b : Bool) → cond b 1 0 + closed_in links ≡ 0 → closed_in links ≡ 0
+    by true e = absurd (omega (arith, e))
+    by false e = omega (arith, e)
+
+closed_not : (a b c d e : Bool) → b ≡ false → (a && b && c && d && e) ≡ false
+closed_not true true c d e h = cc
+closed_not true false c d e h = refl
+closed_not false b c d e h = refl
+
+pub none_over : (s : State) → has_closed s ≡ false → (cid : ℕ) → gives_no_more (given cid s) ≡ false
+none_over s none cid = by_place (place_of s cid)
+  where
+    is_none : closed_in s.links ≡ 0
+    is_none = let a = ltb-false 0 (closed_in s.links) none in omega (arith, a)
+
+    by_choice : (conn : ℕ) (o : Option Out) (b : Bool) → b ≡ false → gives_no_more (elim o as (λ (q : Option Out). Given) [ Some out ↦ Hands (numbered conn out s) | None ↦ (if b then IsOver else Nothing) ]) ≡ false
+    by_choice conn (Some out) b h = refl
+    by_choice conn None true h = cc
+    by_choice conn None false h = refl
+
+    by_place : (o : Option ℕ) → gives_no_more (elim o as (λ (q : Option ℕ). Given) [ Some conn ↦ given_on conn s | None ↦ Nothing ]) ≡ false
+    by_place (Some conn) = by_choice conn (chosen conn s) (is_over conn s) (closed_not _ (link_at s conn).closed _ _ _ (none_closed s.links conn is_none))
+    by_place None = refl

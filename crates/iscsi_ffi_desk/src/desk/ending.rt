@@ -53,9 +53,19 @@ impl Desk {
         }
     }
 
-    /// Tells which connections are to be closed that weren't told so.
+    /// Tells which connections are to be closed that weren't told so. Mostly no Logout closed any.
     #[inline(always)]
     fn tell_closed(&mut self)
+        ensures { self.new ≡ close_each 0 self.old.state.outbox.limits.cids self.old }
+    {
+        if self.outbox.has_closed() {
+            self.tell_each_closed();
+        }
+    }
+
+    /// Looks at each connection.
+    #[inline(never)]
+    fn tell_each_closed(&mut self)
         ensures { self.new ≡ close_each 0 self.old.state.outbox.limits.cids self.old }
     {
         for conn in 0..self.outbox.conns() {

@@ -1,5 +1,6 @@
 -- Which connections are told to be ready.
-use Rattle.std.specs.Prelude.{ℕ, ◌+◌, ◌&&◌, ◌||◌, not, Bool, true, false, List, [], ◌∷◌, count_by, Option, Some, None, is_some, slice_index_or, slice_set, if◌then◌else◌}
+use Rattle.std.specs.Prelude.{ℕ, ◌+◌, ◌&&◌, ◌||◌, not, nat_lt, Bool, true, false, List, [], ◌∷◌, count_by, Option, Some, None, is_some, slice_index_or, slice_set, if◌then◌else◌}
+use Rattle.iscsi_links.specs.Links.{closed_in}
 use Rattle.iscsi_outbox_steps.specs.declared.given.Given.{Given}
 use Rattle.iscsi_outbox_steps.specs.declared.given.Given.TheVariants.{Hands, Nothing, IsOver}
 use Rattle.iscsi_outbox_steps.specs.State.{State, is_over, place_of}
@@ -47,3 +48,7 @@ gives_no_more IsOver = true
 -- one that was asked, and gave nothing, isn't awake any more
 abbrev pub asked : ℕ → State → List Bool → List Bool
 asked cid s awake = elim (place_of s cid) [ Some conn ↦ slice_set awake conn (slice_index_or awake conn false && gives_something (given cid s)) | None ↦ awake ]
+
+-- a Logout closed a connection
+abbrev pub has_closed : State → Bool
+has_closed s = nat_lt 0 (closed_in s.links)

@@ -4,7 +4,7 @@ ghost use Rattle.std.specs.Prelude.{◌≡◌, ◌<◌, ◌^◌, length};
 ghost use Rattle.iscsi_wire.specs.Serial.{wire};
 ghost use Rattle.iscsi_outbox_steps.specs.State.{link_at};
 ghost use Rattle.iscsi_outbox_steps.specs.Steps.{given, is_running_ticket};
-ghost use Rattle.iscsi_outbox.specs.rules.Words.{gives_no_more, gives_pdu};
+ghost use Rattle.iscsi_outbox.specs.rules.Words.{gives_no_more, gives_pdu, has_closed};
 
 use crate::outbox::Outbox;
 use crate::outbox::settling::is_running;
@@ -85,5 +85,13 @@ impl Outbox {
             Some(conn) => self.is_over(conn) && self.chosen(conn).is_none(),
             None => false,
         }
+    }
+
+    /// Whether a Logout closed a connection: of any other `next` doesn't say that nothing goes out there any more.
+    #[inline(always)]
+    pub fn has_closed(&self) -> bool
+        ensures { result ≡ has_closed self.now }
+    {
+        self.links.closed() > 0
     }
 }

@@ -1,6 +1,6 @@
 use Rattle.std.proofs.Common.{◌≡◌, drop}
 use Rattle.iscsi_ffi_steps.specs.Steps.{close_each}
-use Rattle.iscsi_ffi_desk.proofs.desk.Desk.tell_closed.Given as goal
+use Rattle.iscsi_ffi_desk.proofs.desk.Desk.tell_each_closed.Given as goal
 
 abbrev pub invariant-loop-conn : goal.invariant-loop-conn
 invariant-loop-conn l = record {
