@@ -1,12 +1,15 @@
 //! The effects of an event.
 
-ghost use Rattle.std.specs.Prelude.{◌≡◌};
+ghost use Rattle.std.specs.Prelude.{◌≡◌, ℕ, [], ◌∷◌};
+ghost use Rattle.iscsi_tasks.specs.declared.task.Attr.{Attr};
+ghost use Rattle.iscsi_rules.specs.declared.effect.Effect.TheVariants.{Deliver, Enable, Enter, Leave, Send};
 ghost use Rattle.iscsi_outbox_steps.specs.Steps.{taken};
 ghost use Rattle.iscsi_ffi_steps.specs.Steps.{takes};
 ghost use Rattle.iscsi_ffi_desk.specs.Calls.{with_outbox};
 
 use crate::desk::Desk;
 use iscsi_rules::{Effect, Numbers};
+use iscsi_wire::{Reply, Request};
 
 impl Desk {
     /// Takes the effects of one event of the session, all of them, and its numbers. `own`: the place of the request that arrives in
@@ -17,10 +20,10 @@ impl Desk {
     {
         if let [first, second] = effects
             && let Effect::Leave { ticket, .. } = first
-            && let Effect::Send { conn, .. } = second
+            && let Effect::Send { conn, reply, .. } = second
         {
             self.walk_completion(own, *ticket, *conn);
-            self.tell_outbox(effects, numbers);
+            self.tell_left(*ticket, *conn, reply, numbers);
             self.sweep_conn(*conn);
             return;
         }
@@ -33,7 +36,7 @@ impl Desk {
             } = third
         {
             self.walk_command(own, request, *ticket, *unit, *attr);
-            self.tell_outbox(effects, numbers);
+            self.tell_entered(request, *ticket, *unit, *enabled, numbers);
             self.start_ticket(*enabled);
             return;
         }
@@ -58,5 +61,29 @@ impl Desk {
         ensures { self.new ≡ with_outbox (taken effects.now numbers self.old.state.outbox) self.old }
     {
         self.outbox.take(effects, numbers);
+    }
+
+    /// It takes those of a command that completes.
+    #[inline(always)]
+    fn tell_left(&mut self, ticket: u64, cid: u16, reply: &Reply, numbers: Numbers)
+        ensures { (unit stat_sn : ℕ) → self.new ≡ with_outbox (taken (Leave ticket unit ∷ Send cid stat_sn reply.now ∷ []) numbers self.old.state.outbox) self.old }
+    {
+        self.outbox.take_left(ticket, cid, reply, numbers);
+    }
+
+    /// It takes those of a command that enters.
+    #[inline(always)]
+    fn tell_entered(
+        &mut self,
+        request: &Request,
+        ticket: u64,
+        unit: u16,
+        enabled: u64,
+        numbers: Numbers,
+    )
+        ensures { (attr : Attr) (of : ℕ) → self.new ≡ with_outbox (taken (Deliver request.now ∷ Enter ticket unit attr ∷ Enable enabled of ∷ []) numbers self.old.state.outbox) self.old }
+    {
+        self.outbox
+            .take_entered(request, ticket, unit, enabled, numbers);
     }
 }

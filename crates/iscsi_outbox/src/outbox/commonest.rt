@@ -1,18 +1,51 @@
 //! The commonest events, straight: what they lack needs no look.
 
-ghost use Rattle.std.specs.Prelude.{◌≡◌, ◌||◌, ℕ, [], ◌∷◌, None};
+ghost use Rattle.std.specs.Prelude.{◌≡◌, ◌||◌, ◌<◌, ℕ, List, [], ◌∷◌, length, None};
 ghost use Rattle.iscsi_tasks.specs.declared.task.Attr.{Attr};
+ghost use Rattle.iscsi_rules.specs.declared.effect.Effect.{Effect};
 ghost use Rattle.iscsi_rules.specs.declared.effect.Effect.TheVariants.{Deliver, Enable, Enter, Leave, Send};
 ghost use Rattle.iscsi_tracked.specs.declared.command.Phase.TheVariants.{Fresh, Started};
-ghost use Rattle.iscsi_outbox_steps.specs.Steps.{in_phase_if, is_dormant, is_fresh, placed, send_placed, settle};
+ghost use Rattle.iscsi_outbox_steps.specs.Steps.{enter, in_phase_if, is_dormant, is_fresh, placed, reply_item, send_placed, settle, taken};
+ghost use Rattle.iscsi_outbox_law.specs.promises.Called.{KeepsAllPromises, KeepsToRules};
+ghost use Rattle.iscsi_outbox_rules.specs.rules.Calls.{Takes};
 ghost use Rattle.iscsi_outbox.specs.private.Walks.{after_event};
 
 use crate::outbox::Outbox;
 use crate::outbox::sending::reply_item;
+use iscsi_rules::Numbers;
 use iscsi_tracked::{Command, Phase};
 use iscsi_wire::{Reply, Request};
 
 impl Outbox {
+    /// Takes an event by which a command completes and its reply is sent, and nothing else happens, as `take` does.
+    #[inline(always)]
+    pub fn take_left(&mut self, ticket: u64, cid: u16, reply: &Reply, numbers: Numbers)
+        ensures state { (unit stat_sn : ℕ) → self.new ≡ taken (Leave ticket unit ∷ Send cid stat_sn reply.now ∷ []) numbers self.old }
+        ensures rules { (effects : List Effect) → KeepsToRules self.old (Takes effects numbers) }
+        ensures promises { (effects : List Effect) → KeepsAllPromises self.old (Takes effects numbers) }
+    {
+        self.take_completion(ticket, cid, reply);
+        self.number(numbers);
+    }
+
+    /// The same of one by which a request executes that is a command, and one is enabled by that.
+    #[inline(always)]
+    pub fn take_entered(
+        &mut self,
+        request: &Request,
+        ticket: u64,
+        unit: u16,
+        enabled: u64,
+        numbers: Numbers,
+    )
+        ensures state { (attr : Attr) (of : ℕ) → self.new ≡ taken (Deliver request.now ∷ Enter ticket unit attr ∷ Enable enabled of ∷ []) numbers self.old }
+        ensures rules { (effects : List Effect) → KeepsToRules self.old (Takes effects numbers) }
+        ensures promises { (effects : List Effect) → KeepsAllPromises self.old (Takes effects numbers) }
+    {
+        self.take_command(request, ticket, unit, enabled);
+        self.number(numbers);
+    }
+
     /// A command completes, and its reply enters the queue of its connection.
     #[inline(always)]
     pub(crate) fn take_completion(&mut self, ticket: u64, cid: u16, reply: &Reply)
@@ -30,12 +63,43 @@ impl Outbox {
         ensures { self.new ≡ send_placed None [] numbered [] cid (placed reply.now self.old) self.old }
     {
         match self.cids.place(cid) {
-            Some(conn) => {
-                let reply = self.placed(*reply);
-                self.enter(conn, reply_item(numbered, reply));
-            }
+            Some(conn) => self.enter_reply(conn, numbered, reply),
             None => self.pass_time(),
         }
+    }
+
+    /// A reply enters the queue of a connection. A SCSI Response without sense is made anew there, which writes less than a copy of
+    /// what has room for any reply.
+    #[inline(always)]
+    fn enter_reply(&mut self, conn: usize, numbered: bool, reply: &Reply)
+        requires { conn < length self.old.limits.cids }
+        ensures { self.new ≡ enter conn (reply_item numbered (placed reply.now self.old)) self.old }
+    {
+        match reply {
+            Reply::Scsi {
+                itt,
+                status,
+                sense: None,
+            } => {
+                let sent = self.placed(Reply::Scsi {
+                    itt: *itt,
+                    status: *status,
+                    sense: None,
+                });
+                self.enter(conn, reply_item(numbered, sent));
+            }
+            _ => self.enter_any_reply(conn, numbered, reply),
+        }
+    }
+
+    /// Any reply does.
+    #[inline(never)]
+    fn enter_any_reply(&mut self, conn: usize, numbered: bool, reply: &Reply)
+        requires { conn < length self.old.limits.cids }
+        ensures { self.new ≡ enter conn (reply_item numbered (placed reply.now self.old)) self.old }
+    {
+        let sent = self.placed(*reply);
+        self.enter(conn, reply_item(numbered, sent));
     }
 
     /// A request executes that is a command: it enters, and one is enabled by that.

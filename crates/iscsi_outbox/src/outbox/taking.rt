@@ -106,7 +106,7 @@ impl Outbox {
 
     /// The numbers of an event are those of all that goes out from now on.
     #[inline(always)]
-    fn number(&mut self, numbers: Numbers)
+    pub(crate) fn number(&mut self, numbers: Numbers)
         ensures { self.new ≡ numbered_by numbers self.old }
     {
         self.exp = numbers.exp;
