@@ -1,6 +1,7 @@
 //! What a side tells is handed over.
 
-ghost use Rattle.std.specs.Prelude.{◌≡◌};
+ghost use Rattle.std.specs.Prelude.{◌≡◌, ◌≤◌, length};
+ghost use Rattle.iscsi_ffi.specs.Standing.{waiting};
 ghost use Rattle.iscsi_ffi_handle.specs.Telling.{places_after, side_after, told_after};
 
 use crate::plain::{PlainAction, PlainTold, plain_action};
@@ -25,9 +26,39 @@ pub(crate) fn hand_over(side: &mut Side, actions: &mut [PlainAction]) -> PlainTo
     hand_over_some(side, actions)
 }
 
-/// Where some wait.
+/// Where some wait: mostly that is one, and it has room.
 #[inline(never)]
 fn hand_over_some(side: &mut Side, actions: &mut [PlainAction]) -> PlainTold
+    ensures side { side.new ≡ side_after actions.old side.old }
+    ensures actions { actions.new ≡ places_after actions.old side.old }
+    ensures told { result ≡ told_after actions.old side.old }
+{
+    if side.waiting() == 1 && !actions.is_empty() {
+        return hand_over_one(side, actions);
+    }
+    hand_over_each(side, actions)
+}
+
+/// One is handed over.
+#[inline(always)]
+fn hand_over_one(side: &mut Side, actions: &mut [PlainAction]) -> PlainTold
+    requires one { length (waiting side.old) ≡ 1 }
+    requires room { 1 ≤ length actions.old }
+    ensures side { side.new ≡ side_after actions.old side.old }
+    ensures actions { actions.new ≡ places_after actions.old side.old }
+    ensures told { result ≡ told_after actions.old side.old }
+{
+    let action = side.take_action().unwrap();
+    actions[0] = plain_action(action);
+    PlainTold {
+        count: 1,
+        waiting: 0,
+    }
+}
+
+/// One after the other is.
+#[inline(never)]
+fn hand_over_each(side: &mut Side, actions: &mut [PlainAction]) -> PlainTold
     ensures side { side.new ≡ side_after actions.old side.old }
     ensures actions { actions.new ≡ places_after actions.old side.old }
     ensures told { result ≡ told_after actions.old side.old }

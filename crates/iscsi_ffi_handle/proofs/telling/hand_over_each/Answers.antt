@@ -5,8 +5,8 @@ use Rattle.iscsi_ffi.specs.Standing.{Sided, taken_one, waiting}
 use Rattle.iscsi_ffi_handle.specs.declared.plain.PlainAction.{PlainAction}
 use Rattle.iscsi_ffi_handle.specs.Telling.{room_in, taken_many, written_over}
 use Rattle.iscsi_ffi_handle.proofs.TellLemmas.{all_taken, idle_many, many_next, next_over, none_left, waiting_many, whole_many, whole_taken}
-use Rattle.iscsi_ffi_handle.proofs.telling.hand_over_some.Goals.{else-loop-index-test, then-loop-index-test+in_default}
-use Rattle.iscsi_ffi_handle.proofs.telling.hand_over_some.Goals as goal
+use Rattle.iscsi_ffi_handle.proofs.telling.hand_over_each.Goals.{else-loop-index-test, then-loop-index-test+in_default}
+use Rattle.iscsi_ffi_handle.proofs.telling.hand_over_each.Goals as goal
 
 pub loop-index-init : goal.loop-index-init
 loop-index-init c = record { side = refl; actions = refl; within = let z : 0 ≤ c.min-count.result = omega arith in z }
