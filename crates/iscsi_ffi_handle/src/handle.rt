@@ -91,19 +91,8 @@ impl Handle {
         requires closed { inside self.old ≡ None }
         ensures side { inside self.new ≡ Some side.value }
     {
-        let whole = Handle {
-            is_open: true,
-            owner: Owner::of_parts(Parts::of(side)),
-        };
-        std::mem::replace(self, whole).end();
-    }
-
-    /// Ends a closed handle. Unlike its drop, this needn't ask whether there is a side to free.
-    #[inline(always)]
-    fn end(self)
-        requires closed { inside self ≡ None }
-    {
-        let Handle { is_open: _, owner } = self;
-        owner.end();
+        let owner = Owner::of_parts(Parts::of(side));
+        std::mem::replace(&mut self.owner, owner).end();
+        self.is_open = true;
     }
 }

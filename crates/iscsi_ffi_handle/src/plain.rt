@@ -68,6 +68,23 @@ const NOTHING: PlainAction = PlainAction {
     function: 0,
 };
 
+/// Writes the plain form of an action. Most are of two kinds, whose few fields are written straight.
+#[inline(always)]
+pub(crate) fn write_action(place: &mut PlainAction, action: Action)
+    ensures { place.new ≡ plain_action action }
+{
+    match action {
+        Action::Start {
+            ticket,
+            unit,
+            attr,
+            cookie,
+        } => *place = start(ticket, unit, attr, cookie),
+        Action::Forget { cookie } => *place = forget(cookie),
+        _ => *place = plain_action(action),
+    }
+}
+
 /// The plain form of an action.
 #[inline(always)]
 pub(crate) fn plain_action(action: Action) -> PlainAction
@@ -79,14 +96,7 @@ pub(crate) fn plain_action(action: Action) -> PlainAction
             unit,
             attr,
             cookie,
-        } => PlainAction {
-            ticket,
-            cookie,
-            unit,
-            kind: 1,
-            attribute: attribute_code(attr),
-            ..NOTHING
-        },
+        } => start(ticket, unit, attr, cookie),
         Action::Stop {
             ticket,
             cookie,
@@ -114,11 +124,32 @@ pub(crate) fn plain_action(action: Action) -> PlainAction
             kind: 5,
             ..NOTHING
         },
-        Action::Forget { cookie } => PlainAction {
-            cookie,
-            kind: 6,
-            ..NOTHING
-        },
+        Action::Forget { cookie } => forget(cookie),
+    }
+}
+
+#[inline(always)]
+fn start(ticket: u64, unit: u16, attr: Attr, cookie: u64) -> PlainAction
+    ensures { result ≡ plain_action (Action.Start ticket unit attr cookie) }
+{
+    PlainAction {
+        ticket,
+        cookie,
+        unit,
+        kind: 1,
+        attribute: attribute_code(attr),
+        ..NOTHING
+    }
+}
+
+#[inline(always)]
+fn forget(cookie: u64) -> PlainAction
+    ensures { result ≡ plain_action (Action.Forget cookie) }
+{
+    PlainAction {
+        cookie,
+        kind: 6,
+        ..NOTHING
     }
 }
 

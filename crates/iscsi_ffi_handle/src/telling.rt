@@ -4,7 +4,7 @@ ghost use Rattle.std.specs.Prelude.{◌≡◌, ◌≤◌, length};
 ghost use Rattle.iscsi_ffi.specs.Standing.{waiting};
 ghost use Rattle.iscsi_ffi_handle.specs.Telling.{places_after, side_after, told_after};
 
-use crate::plain::{PlainAction, PlainTold, plain_action};
+use crate::plain::{PlainAction, PlainTold, plain_action, write_action};
 use iscsi_ffi::Side;
 
 /// As many actions are handed over at once at the most.
@@ -49,7 +49,7 @@ fn hand_over_one(side: &mut Side, actions: &mut [PlainAction]) -> PlainTold
     ensures told { result ≡ told_after actions.old side.old }
 {
     let action = side.take_action().unwrap();
-    actions[0] = plain_action(action);
+    write_action(&mut actions[0], action);
     PlainTold {
         count: 1,
         waiting: 0,

@@ -1,4 +1,4 @@
-use Rattle.std.proofs.Common.{◌≡◌, ◌∙◌, ℕ, ◌<◌, ◌≤◌, List, length, min, set, take, drop, Option, Some, IsSome, sym, ap, subst, arith, length-drop}
+use Rattle.std.proofs.Common.{◌≡◌, ◌∙◌, List, length, min, set, drop, Option, Some, IsSome, sym, ap, subst, arith, length-drop}
 use Rattle.iscsi_ffi_rules.specs.declared.action.Action.{Action}
 use Rattle.iscsi_requests.specs.Conns.{oldest}
 use Rattle.iscsi_ffi.specs.Standing.{waiting}
@@ -20,7 +20,7 @@ returns-clause-actions c =
     let one = c.requires.one in let room = c.requires.room in
     let old = c.args.actions.now in let xs = waiting c.args.side.now in
     let some : oldest (drop 0 xs) ≡ Some c.unwrap-action.result = sym c.take_action.ensures.action ∙ c.unwrap-action.ensures in
-    ap (λ (a : PlainAction). set old 0 a) c.plain_action.ensures
+    ap (λ (a : PlainAction). set old 0 a) c.write_action.ensures
     ∙ next_over 0 xs old c.unwrap-action.result some (omega (arith, room))
     ∙ ap (λ (ys : List Action). written_over old ys) (all_taken 1 (room_in old) xs (omega (arith, one)) (omega (arith, room)))
 
