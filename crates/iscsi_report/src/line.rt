@@ -194,9 +194,19 @@ pub fn put_header(header: &[u8; 48], line: &mut [u8], at: usize) -> usize
     ensures end { result ≡ at + 96 }
     ensures written { take result line.new ≡ take at line.old ++ encode_lower header.now }
 {
-    let at = put_16(&header[..16], line, at);
-    let at = put_16(&header[16..32], line, at);
-    put_16(&header[32..], line, at)
+    put_48(header, line, at)
+}
+
+/// Writes the digits of 48 bytes.
+#[inline(always)]
+fn put_48(bytes: &[u8], line: &mut [u8], at: usize) -> usize
+    requires { (length bytes.now ≡ 48) × (at + 96 ≤ length line.old) }
+    ensures end { result ≡ at + 96 }
+    ensures written { take result line.new ≡ take at line.old ++ encode_lower bytes.now }
+{
+    let at = put_16(&bytes[..16], line, at);
+    let at = put_16(&bytes[16..32], line, at);
+    put_16(&bytes[32..48], line, at)
 }
 
 /// Writes the digits of 16 bytes.
@@ -217,6 +227,10 @@ pub fn put_bytes(bytes: &[u8], line: &mut [u8], at: usize) -> usize
     ensures end { (at ≤ result) × (result ≤ at + 96) }
     ensures written { take result line.new ≡ take at line.old ++ encode_lower bytes.now }
 {
+    // A Reject's header is as long, and its digits are written at once.
+    if bytes.len() == 48 {
+        return put_48(bytes, line, at);
+    }
     let mut digits = [0u8; 96];
     let digits = &mut digits[..2 * bytes.len()];
     hex::encode_to_slice(bytes, digits).unwrap();
