@@ -95,6 +95,7 @@ impl Session {
 
     /// What an immediate request does at its arrival. A function over a whole set waits until the numbers below its own have
     /// had their turn (RFC 7143 section 4.2.3).
+    #[inline(always)]
     pub(crate) fn decide_arrival(&self, request: &Request) -> Deed
         requires immediate { is_immediate request.now ≡ true }
         requires known { known_in (connection_of request.now) self.now.conns ≡ true }
@@ -112,6 +113,7 @@ impl Session {
     /// What a function over a whole set does that isn't refused, by its number.
     ///
     /// Rules: `function/too-far`, `function/too-many`, `function/waits`, `function/executes`.
+    #[inline(always)]
     fn decide_waiting(&self, request: &Request) -> Deed
         ensures { result ≡ waits_by self.now request.now }
     {
@@ -129,7 +131,7 @@ impl Session {
     }
 
     /// What a task management function does: it is refused, or executes.
-    #[inline(never)]
+    #[inline(always)]
     fn decide_management(&self, request: &Request) -> Deed
         ensures { result ≡ managed_by self.now request.now }
     {
@@ -161,6 +163,7 @@ impl Session {
     }
 
     /// What a function does that isn't refused.
+    #[inline(always)]
     pub(crate) fn decide_function(&self, request: &Request) -> Deed
         ensures { result ≡ function_deed (facts_by self.now request.now) request.now }
     {
@@ -174,6 +177,7 @@ impl Session {
     ///
     /// Rules: `abort-set/lower`, `abort-set/equal`, `reset/all`, `query-task/live`, `query-task-set/live`.
     #[tactic(auto, using(crate::proofs::KeptLemmas::unit_steps))]
+    #[inline(always)]
     fn decide_to(&self, request: &Request, unit: u16) -> Deed
         requires named { unit_of_lun (length self.now.sets) request.now ≡ Some unit }
         requires unit { unit < length self.now.sets }
@@ -196,6 +200,7 @@ impl Session {
     /// immediate function voids the number that it refers to, if that is in the window and below its own.
     ///
     /// Rules: `abort-task/live`, `abort-task/held`, `abort-task/missing`, `abort-task/nothing`.
+    #[inline(never)]
     fn decide_abort(&self, request: &Request, unit: u16) -> Deed
         requires named { unit_of_lun (length self.now.sets) request.now ≡ Some unit }
         ensures { result ≡ abort_deed (facts_by self.now request.now) unit }

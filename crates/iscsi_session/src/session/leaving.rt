@@ -59,6 +59,7 @@ impl Session {
 
 /// These commands leave the set of their unit, and their tickets are noted, the oldest one's first. They are still among
 /// the live ones.
+#[inline(always)]
 fn dequeue(
     sets: &mut [LinkedTaskSet],
     live: &LiveCommands,

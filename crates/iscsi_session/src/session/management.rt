@@ -23,6 +23,8 @@ pub(crate) const COMPLETE: Answer = Answer::Respond(FunctionResponse::Complete a
 
 impl Session {
     /// An immediate request executes, or is a function that waits.
+    // What it does stays in registers here, and those that come in order have a frame without it.
+    #[inline(never)]
     #[tactic(auto, using(crate::proofs::DeedLemmas::arrival_steps))]
     pub(crate) fn receive_immediate<S: EffectSink>(&mut self, request: &Request, out: &mut S)
         requires immediate { is_immediate request.now ≡ true }
@@ -46,7 +48,7 @@ impl Session {
     }
 
     /// Does what an immediate request does at its arrival, which doesn't wait.
-    #[inline(never)]
+    #[inline(always)]
     #[tactic(auto, using(crate::proofs::DeedLemmas::numbers_read, std::proofs::Common::append_assoc))]
     fn execute_at_once<S: EffectSink>(&mut self, request: &Request, deed: Deed, out: &mut S)
         requires fits { Fits self.old request.now deed }
