@@ -34,3 +34,11 @@ pub(crate) fn group_of(itt: u32) -> usize
 {
     (itt.wrapping_mul(0x9e37_79b9) >> 20) as usize
 }
+
+/// The group of a ticket.
+#[inline(always)]
+pub(crate) fn hint_of(ticket: u64) -> usize
+    ensures { result < 4096 }
+{
+    (ticket % GROUPS as u64) as usize
+}

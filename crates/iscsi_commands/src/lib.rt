@@ -3,6 +3,7 @@
 //! They are found at once mostly, for any tags. All memory is taken when they are opened.
 #![tactic(auto)]
 
+mod closing;
 mod entry;
 mod live;
 mod live_commands;

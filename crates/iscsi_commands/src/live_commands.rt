@@ -1,13 +1,14 @@
 //! The live commands, found by ticket and by tag.
 
-ghost use Rattle.std.specs.Prelude.{◌≡◌, ℕ, ◌+◌, ◌*◌, ◌<◌, ◌≤◌, ◌==◌, ◌↔◌, ◌++◌, Bool, List, [], ◌∷◌, true, false, length, filter, take, slice_index_or, slice_set, vec_len, vec_capacity, All, IfOk, option_map};
+ghost use Rattle.std.specs.Prelude.{◌≡◌, ℕ, ◌+◌, ◌*◌, ◌<◌, ◌≤◌, ◌==◌, ◌↔◌, ◌++◌, Bool, List, [], ◌∷◌, true, false, length, take, slice_set, vec_len, vec_capacity, All, IfOk, option_map};
 ghost use Rattle.std.specs.List.{list_any};
 ghost use Rattle.iscsi_slots.specs.Queued.{queued};
 ghost use Rattle.iscsi_slots.specs.Places.{AreAscending as AreKeysAscending};
 ghost use Rattle.iscsi_commands.specs.Commands.{AreAscending, AreTagsApart, find_ticket, find_tag, without_ticket};
-ghost use Rattle.iscsi_commands.specs.Log.{AreTagged, IsLiveAt, IsLivePlace, ended, entry_at, group_of, live_in, rank, tag_at, ticket_of};
+ghost use Rattle.iscsi_commands.specs.Log.{AreTagged, IsLiveAt, IsLivePlace, ended, entry_at, live_in, ticket_of};
 
-use crate::entry::{Entry, GROUPS, entry_at, group_of};
+use crate::closing::close_up;
+use crate::entry::{Entry, GROUPS, entry_at, hint_of};
 use crate::live::{Live, Located, Placed};
 use crate::tag_index::TagIndex;
 use std::alloc::{AllocError, Global};
@@ -93,8 +94,7 @@ impl LiveCommands {
         ensures command { result ≡ find_ticket ticket self.now.items }
         ensures ascending { AreAscending self.now.items }
     {
-        let k = place_of(&self.log, &self.hints, ticket)?;
-        Some(entry_at(&self.log, k).command)
+        Some(self.find_located(ticket)?.command)
     }
 
     /// The command with this ticket, and the slot that it entered with.
@@ -290,14 +290,6 @@ fn append(log: &mut Vec<Entry>, hints: &mut [u16], tags: &mut TagIndex, command:
     tags.enter(log, k);
 }
 
-/// The group of a ticket.
-#[inline(always)]
-fn hint_of(ticket: u64) -> usize
-    ensures { result < 4096 }
-{
-    (ticket % GROUPS as u64) as usize
-}
-
 /// The command at a place of the log isn't live any more.
 #[inline(always)]
 fn end(log: &mut Vec<Entry>, k: usize)
@@ -316,24 +308,6 @@ fn is_newest(log: &[Entry], ticket: u64) -> bool
 {
     let len = log.len();
     len == 0 || entry_at(log, len - 1).command.ticket < ticket
-}
-
-/// The place of the live command with this ticket. The place that its group's hint tells is looked at first.
-#[inline(always)]
-fn place_of(log: &[Entry], hints: &[u16], ticket: u64) -> Option<usize>
-    requires ascending { AreKeysAscending ticket_of log.now }
-    requires hints { length hints.now ≡ 4096 }
-    ensures { IsLivePlace log.now ticket result }
-{
-    let hint = usize::from(hints[hint_of(ticket)]);
-    if !is_at(log, hint, ticket) {
-        return seek(log, ticket);
-    }
-    if entry_at(log, hint).is_live {
-        Some(hint)
-    } else {
-        None
-    }
 }
 
 /// The command at a place, with its slot.
@@ -397,49 +371,4 @@ fn count_below(log: &[Entry], ticket: u64) -> usize
         return 0;
     }
     log.partition_point(|entry| entry.command.ticket < ticket)
-}
-
-/// The live commands close up in the log.
-#[inline(never)]
-fn close_up(log: &mut Vec<Entry>, hints: &mut [u16], tags: &mut TagIndex)
-    requires short { length log.old.items ≤ 4096 }
-    requires hints { length hints.old ≡ 4096 }
-    requires tagged { AreTagged log.old.items tags.old.places.items tags.old.crowded.items tags.old.others.items }
-    ensures log { log.new.items ≡ filter (λ e. e.is_live) log.old.items }
-    ensures capacity { vec_capacity log.new ≡ vec_capacity log.old }
-    ensures tagged { AreTagged log.new.items tags.new.places.items tags.new.crowded.items tags.new.others.items }
-    ensures room { tags.new.others.room ≡ tags.old.others.room }
-{
-    tags.renumber_others(log, hints);
-    keep_live(log, hints, &mut tags.places);
-}
-
-/// The live commands stay in the log. Their hints tell where, and the places of their groups, where they stand there.
-#[tactic(auto, using(crate::proofs::LogLemmas::group_below))]
-fn keep_live(log: &mut Vec<Entry>, hints: &mut [u16], places: &mut Vec<u16>)
-    requires short { length log.old.items ≤ 4096 }
-    requires hints { length hints.old ≡ 4096 }
-    requires groups { length places.old.items ≡ 4096 }
-    ensures log { log.new.items ≡ filter (λ e. e.is_live) log.old.items }
-    ensures capacity { vec_capacity log.new ≡ vec_capacity log.old }
-    ensures groups { length places.new.items ≡ 4096 }
-    ensures places { (k : ℕ) → IsLiveAt log.old.items k →
-        slice_index_or places.old.items (group_of (tag_at log.old.items k)) 0 ≡ k →
-        slice_index_or places.new.items (group_of (tag_at log.old.items k)) 0 ≡ rank log.old.items k }
-{
-    let mut live = 0;
-    for k in 0..log.len() {
-        // Only a live one is read whole: of most no more than this is asked.
-        if log[k].is_live {
-            let entry = log[k];
-            let group = group_of(entry.command.itt);
-            if usize::from(places[group]) == k {
-                places[group] = live as u16;
-            }
-            hints[hint_of(entry.command.ticket)] = live as u16;
-            log[live] = entry;
-            live += 1;
-        }
-    }
-    log.truncate(live);
 }

@@ -1,6 +1,6 @@
 //! Where the live commands stand in the log, by tag.
 
-ghost use Rattle.std.specs.Prelude.{◌≡◌, ◌≢◌, ℕ, ◌+◌, ◌<◌, ◌≤◌, true, [], length, filter, map, take, slice_index_or, slice_set, IfOk};
+ghost use Rattle.std.specs.Prelude.{◌≡◌, ◌≢◌, ℕ, ◌+◌, ◌<◌, ◌≤◌, true, [], length, map, take, slice_index_or, slice_set, IfOk};
 ghost use Rattle.iscsi_slots.specs.Queued.{queued};
 ghost use Rattle.iscsi_slots.specs.Places.{AreAscending};
 ghost use Rattle.iscsi_commands.specs.Log.{AreMarked, AreMarkedAlone, AreMoved, AreTagged, IsLiveAt, IsTagPlace, ended, entry_at, group_of, rank, tag_at};

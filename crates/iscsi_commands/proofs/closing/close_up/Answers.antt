@@ -2,7 +2,7 @@ use Rattle.std.proofs.Common.{List, sym, subst}
 use Rattle.iscsi_commands.specs.declared.entry.Entry.{Entry}
 use Rattle.iscsi_commands.specs.Log.{AreTagged}
 use Rattle.iscsi_commands.proofs.RankLemmas.{renumbered}
-use Rattle.iscsi_commands.proofs.live_commands.close_up.Goals as goal
+use Rattle.iscsi_commands.proofs.closing.close_up.Goals as goal
 
 pub returns-clause-tagged : goal.returns-clause-tagged
 returns-clause-tagged c =

@@ -5,8 +5,8 @@ use Rattle.iscsi_commands.specs.declared.entry.Entry.{Entry}
 use Rattle.iscsi_commands.specs.Log.{IsLiveAt, entry_at, group_of, tag_at, rank}
 use Rattle.iscsi_commands.proofs.LogLemmas.{group_below}
 use Rattle.iscsi_commands.proofs.RankLemmas.{AreRenumbered, closing_ended, closing_live, rank_below, renumbered_here, renumbered_past}
-use Rattle.iscsi_commands.proofs.live_commands.keep_live.Goals as goal
-use Rattle.iscsi_commands.proofs.live_commands.keep_live.Goals.{then-index, then-from-k, else-from-k, else-index}
+use Rattle.iscsi_commands.proofs.closing.keep_live.Goals as goal
+use Rattle.iscsi_commands.proofs.closing.keep_live.Goals.{then-index, then-from-k, else-from-k, else-index}
 
 pub index_mut-requires-then-index : goal.index_mut-requires-then-index
 index_mut-requires-then-index c =

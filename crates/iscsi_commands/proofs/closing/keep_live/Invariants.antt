@@ -1,6 +1,6 @@
 use Rattle.std.proofs.Common.{◌≡◌, vec_capacity}
 use Rattle.iscsi_commands.proofs.RankLemmas.{IsClosing}
-use Rattle.iscsi_commands.proofs.live_commands.keep_live.Given as goal
+use Rattle.iscsi_commands.proofs.closing.keep_live.Given as goal
 
 abbrev pub invariant-loop-k : goal.invariant-loop-k
 invariant-loop-k l = record {
