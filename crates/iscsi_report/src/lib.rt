@@ -8,6 +8,7 @@ mod entry_line;
 mod event_line;
 mod line;
 mod lines;
+mod memory;
 mod report;
 mod send_line;
 mod tens;

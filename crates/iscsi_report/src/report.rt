@@ -14,7 +14,7 @@ use crate::effect_line::{
 };
 use crate::event_line::{write_arrival, write_completion};
 use crate::line::put_text;
-use crate::lines::{LONGEST_LINE, make_room};
+use crate::memory::{Memory, has_room, has_room_to_begin};
 use crate::send_line::write_made_send;
 use crate::tens::Tens;
 use crate::vector::digits_of_four;
@@ -34,21 +34,8 @@ const FROM_END: usize = 41;
 /// How many bytes the sense of a SCSI Response takes with its length.
 const SENSE: usize = 20;
 
-/// An event mostly has fewer replies.
-const MOST_REPLIES: usize = 512;
-
 /// What stands for the numbers of an event before its end.
 const NOT_YET: Numbers = Numbers { exp: 0, max: 0 };
-
-/// Memory for lines, which are at its front. What asks for room takes it whole, by one address.
-#[derive(Drop)]
-struct Memory {
-    text: Vec<u8>,
-    /// A line that begins before this place has room.
-    room: usize,
-    /// Memory has sufficed.
-    is_whole: bool,
-}
 
 /// The lines of events and of their effects, one after another, as they come. The numbers of an event's replies are
 /// filled in at its end.
@@ -304,69 +291,6 @@ impl EffectSink for Report {
             self.len = write_ignore(why, &mut self.memory.text, self.len);
         }
     }
-}
-
-/// Whether there is room for the line of an event. Where memory is refused there isn't, and that is noted.
-#[inline(always)]
-fn has_room_to_begin(places: &mut Vec<usize>, memory: &mut Memory, len: usize) -> bool
-    requires within { len ≤ vec_len memory.old.text }
-    requires room { memory.old.room ≤ vec_len memory.old.text - 255 }
-    ensures places { places.new.items ≡ places.old.items }
-    ensures kept { take len memory.new.text.items ≡ take len memory.old.text.items }
-    ensures longer { len ≤ vec_len memory.new.text }
-    ensures there { memory.new.room ≤ vec_len memory.new.text - 255 }
-    ensures room { result ≡ true → len + 256 ≤ vec_len memory.new.text }
-    ensures same { result ≡ true → memory.new.is_whole ≡ memory.old.is_whole }
-    ensures wanting { result ≡ false → memory.new.is_whole ≡ false }
-{
-    // There is room for the places before there is memory for lines, so that this can grow where it lies.
-    if memory.room <= len && places.reserve(MOST_REPLIES).is_err() {
-        memory.is_whole = false;
-        return false;
-    }
-    has_room(memory, len)
-}
-
-/// Whether there is room for a line more. Where memory is refused there isn't, and that is noted.
-#[inline(always)]
-fn has_room(memory: &mut Memory, len: usize) -> bool
-    requires within { len ≤ vec_len memory.old.text }
-    requires room { memory.old.room ≤ vec_len memory.old.text - 255 }
-    ensures kept { take len memory.new.text.items ≡ take len memory.old.text.items }
-    ensures longer { len ≤ vec_len memory.new.text }
-    ensures there { memory.new.room ≤ vec_len memory.new.text - 255 }
-    ensures room { result ≡ true → len + 256 ≤ vec_len memory.new.text }
-    ensures same { result ≡ true → memory.new.is_whole ≡ memory.old.is_whole }
-    ensures fits { len + 256 ≤ vec_len memory.old.text → result ≡ true }
-    ensures wanting { result ≡ false → memory.new.is_whole ≡ false }
-    ensures whole { memory.new.is_whole ≡ true → memory.old.is_whole ≡ true }
-{
-    if len < memory.room {
-        return true;
-    }
-    has_grown(memory, len)
-}
-
-/// The same, where there isn't room yet.
-#[inline(never)]
-fn has_grown(memory: &mut Memory, len: usize) -> bool
-    requires within { len ≤ vec_len memory.old.text }
-    requires room { memory.old.room ≤ vec_len memory.old.text - 255 }
-    ensures kept { take len memory.new.text.items ≡ take len memory.old.text.items }
-    ensures longer { len ≤ vec_len memory.new.text }
-    ensures there { memory.new.room ≤ vec_len memory.new.text - 255 }
-    ensures room { result ≡ true → len + 256 ≤ vec_len memory.new.text }
-    ensures same { result ≡ true → memory.new.is_whole ≡ memory.old.is_whole }
-    ensures fits { len + 256 ≤ vec_len memory.old.text → result ≡ true }
-    ensures wanting { result ≡ false → memory.new.is_whole ≡ false }
-    ensures whole { memory.new.is_whole ≡ true → memory.old.is_whole ≡ true }
-{
-    if make_room(&mut memory.text, len).is_err() {
-        memory.is_whole = false;
-        return false;
-    }
-    memory.room = memory.text.len() - (LONGEST_LINE - 1);
-    true
 }
 
 /// Writes the line of a reply, and notes where its numbers are to be filled in. On `Err` memory was wanting for that.
