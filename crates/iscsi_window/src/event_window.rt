@@ -9,7 +9,8 @@ use crate::answer::{Offer, Place};
 use crate::fault::WindowFault;
 use crate::held_request::HeldRequest;
 use crate::places::{
-    Places, at, clear, empty_places, fill, first_command, first_held, holds_from, turn_first,
+    Places, at, clear, empty_places, first_command, first_held, hold, holds_from, receive,
+    turn_first,
 };
 use iscsi_wire::{Request, serial_lt};
 use std::alloc::Global;
@@ -153,8 +154,7 @@ impl EventWindow {
         let Place::Inside(k) = self.place(request.cmd_sn()) else {
             return Offer::Outside;
         };
-        let request = *request;
-        if fill(&mut self.places, k, Some(HeldRequest { request, event })) {
+        if hold(&mut self.places, k, request, event) {
             Offer::Held
         } else {
             Offer::Duplicate
@@ -171,7 +171,7 @@ impl EventWindow {
         let Place::Inside(k) = self.place(w) else {
             unreachable!();
         };
-        fill(&mut self.places, k, None)
+        receive(&mut self.places, k)
     }
 
     /// The lowest number, below the one that the wire shows as `below`, for which a SCSI Command with this
@@ -265,6 +265,7 @@ impl EventWindow {
     }
 
     /// The expected number turns, whatever its place has.
+    #[inline(always)]
     fn turn(&mut self)
         requires { self.old.turned < 2 ^ 64 - 1 }
         ensures state { self.new ≡ turned_on self.old }

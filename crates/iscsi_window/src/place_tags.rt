@@ -1,13 +1,11 @@
 //! The tags of the places of a window, side by side.
 
-ghost use Rattle.std.specs.Prelude.{◌≡◌, ◌≢◌, ℕ, ◌+◌, ◌-◌, ◌*◌, ◌/◌, ◌^◌, ◌%◌, ◌<◌, ◌≤◌, ◌==◌, false, length, take, drop, replicate, slice_index, IfOk};
+ghost use Rattle.std.specs.Prelude.{◌≡◌, ◌≢◌, ℕ, ◌+◌, ◌-◌, ◌*◌, ◌/◌, ◌^◌, ◌%◌, ◌<◌, ◌≤◌, ◌==◌, false, length, take, drop, replicate, slice_index, slice_set, IfOk};
 ghost use Rattle.std.specs.Int.{bit_at};
 ghost use Rattle.std.specs.List.{list_any};
 ghost use Rattle.iscsi_window.specs.FilledSlots.{NoneTagged};
-ghost use Rattle.iscsi_window.specs.PlaceTags.{labelled};
 
 use crate::filled_slots::FilledSlots;
-use crate::places::Received;
 use std::alloc::{AllocError, Global};
 use std::marker::Model;
 
@@ -51,13 +49,11 @@ impl PlaceTags {
         Ok(PlaceTags { tags })
     }
 
-    /// The place with this number gets the tag of what it receives, if that is a request.
-    pub(crate) fn put(&mut self, received: &Received, number: u64)
-        ensures { self.new ≡ labelled self.old received.now number }
+    /// The place with this number gets a request with this tag.
+    pub(crate) fn put(&mut self, itt: u32, number: u64)
+        ensures { self.new ≡ slice_set self.old (number % 1024) itt }
     {
-        if let Some(Some(held)) = received {
-            self.tags[(number % SLOTS) as usize] = held.request.itt();
-        }
+        self.tags[(number % SLOTS) as usize] = itt;
     }
 
     /// Whether one of the filled places may have this tag. The first one has number `turned`.

@@ -11,7 +11,7 @@ use crate::place_tags::{PlaceTags, of_one_word};
 use crate::tags::{TagBounds, TagCounts};
 use circular_buffer::HeapCircularBuffer;
 use iscsi_wire::opcode::SCSI_COMMAND;
-use iscsi_wire::unit_of;
+use iscsi_wire::{Request, unit_of};
 use std::alloc::{AllocError, Global};
 use std::marker::Model;
 
@@ -110,16 +110,16 @@ pub(crate) fn at(places: &Places, k: u32) -> Received
     places.ring.get(k as usize).copied().flatten()
 }
 
-/// Receives the number of place `k`, with a request that is held for it or with none, and answers true. Where it was
+/// Holds a request at place `k` with the event in which it arrived, and answers true. Where the place's number was
 /// received before, the answer is false and nothing changes.
-// It is inlined, so that what it holds is written from registers into its place.
+// It is inlined, and looks at the request where it stands: so it is copied once.
 #[inline(always)]
-pub(crate) fn fill(places: &mut Places, k: u32, held: Option<HeldRequest>) -> bool
+pub(crate) fn hold(places: &mut Places, k: u32, request: &Request, event: u64) -> bool
     requires { k < length places.old.items }
     ensures answer { result ≡ not (is_some (slice_index_or places.old.items k None)) }
     ensures state { places.new ≡ record places.old {
       items = if is_some (slice_index_or places.old.items k None) then places.old.items
-          else slice_set places.old.items k (Some held);
+          else slice_set places.old.items k (Some (Some (record { request = request.now; event = event })));
     } }
 {
     let Some(place) = places.ring.get_mut(k as usize) else {
@@ -128,17 +128,43 @@ pub(crate) fn fill(places: &mut Places, k: u32, held: Option<HeldRequest>) -> bo
     if place.is_some() {
         return false;
     }
-    let received = Some(held);
+    let itt = request.itt();
     let number = places.turned.saturating_add(k as u64);
-    let is_only = places.tags.is_none_like(&received);
-    places.bounds.occupy(&received, number, is_only);
-    places.tags.raise(&received);
-    places.labels.put(&received, number);
+    let is_only = places.tags.is_none(itt);
+    places.bounds.occupy(itt, number, is_only);
+    places.tags.raise(itt);
+    places.labels.put(itt, number);
     places.filled.set(number);
     places.received += 1;
-    places.held += count_held(&received);
-    *place = received;
+    places.held += 1;
+    *place = Some(Some(HeldRequest {
+        request: *request,
+        event,
+    }));
     true
+}
+
+/// Receives the number of place `k` with nothing held for it, and answers true. Where it was received before, the answer
+/// is false and nothing changes.
+pub(crate) fn receive(places: &mut Places, k: u32) -> bool
+    requires { k < length places.old.items }
+    ensures answer { result ≡ not (is_some (slice_index_or places.old.items k None)) }
+    ensures state { places.new ≡ record places.old {
+      items = if is_some (slice_index_or places.old.items k None) then places.old.items
+          else slice_set places.old.items k (Some None);
+    } }
+{
+    let Some(received) = places.ring.get_mut(k as usize) else {
+        unreachable!();
+    };
+    let is_new = received.is_none();
+    if is_new {
+        let number = places.turned.saturating_add(k as u64);
+        places.filled.set(number);
+        places.received += 1;
+        *received = Some(None);
+    }
+    is_new
 }
 
 /// Place `k` holds no request from now on, and its number stays received. Beyond the last place nothing changes.
@@ -156,6 +182,8 @@ pub(crate) fn clear(places: &mut Places, k: u32)
 }
 
 /// Takes the first place off, and adds one at the end, where nothing was received.
+// Mostly no number waits for its turn, and all places are alike.
+#[inline(always)]
 pub(crate) fn turn_first(places: &mut Places)
     requires some { 0 < length places.old.items }
     requires full { length places.old.items ≡ places.old.capacity }
@@ -166,12 +194,28 @@ pub(crate) fn turn_first(places: &mut Places)
     } }
 {
     if places.received > 0 {
-        let first = turn_ring(&mut places.ring);
-        places.tags.lower(&first);
-        places.received -= count(&first);
-        places.held -= count_held(&first);
-        places.filled.clear(places.turned);
+        turn_with_received(places);
+        return;
     }
+    places.turned += 1;
+}
+
+/// The same, where a number was received.
+#[inline(never)]
+fn turn_with_received(places: &mut Places)
+    requires some { 0 < length places.old.items }
+    requires full { length places.old.items ≡ places.old.capacity }
+    requires turned { places.old.turned < 2 ^ 64 - 1 }
+    ensures { places.new ≡ record places.old {
+      turned = places.old.turned + 1;
+      items = drop 1 places.old.items ++ None ∷ [];
+    } }
+{
+    let first = turn_ring(&mut places.ring);
+    places.tags.lower(&first);
+    places.received -= count(&first);
+    places.held -= count_held(&first);
+    places.filled.clear(places.turned);
     places.turned += 1;
 }
 

@@ -1,7 +1,7 @@
 //! Of each group of tags: how many held requests have one, and a number below which none is held.
 
 ghost use Rattle.std.specs.Prelude.{◌≡◌, ℕ, ◌%◌, ◌<◌, ◌==◌, replicate, slice_index, Some, IfOk};
-ghost use Rattle.iscsi_window.specs.Tags.{group_of, raised, lowered, is_none_of, occupied, vacated};
+ghost use Rattle.iscsi_window.specs.Tags.{group_of, raised, lowered, occupied, vacated};
 
 use crate::places::Received;
 use std::alloc::{AllocError, Global};
@@ -46,24 +46,12 @@ impl TagCounts {
         self.counts[(itt % GROUPS) as usize] == 0
     }
 
-    /// Whether no request is held that is of the group of this one. True where this is none.
-    pub(crate) fn is_none_like(&self, received: &Received) -> bool
-        ensures { result ≡ is_none_of self.now (group_of received.now) }
-    {
-        match received {
-            Some(Some(held)) => self.is_none(held.request.itt()),
-            _ => true,
-        }
-    }
-
-    /// Counts what a place gets, if that is a request.
-    pub(crate) fn raise(&mut self, received: &Received)
+    /// Counts a request that a place gets, with this tag.
+    pub(crate) fn raise(&mut self, itt: u32)
         requires { (g : ℕ) → slice_index self.old g < 65535 }
-        ensures { self.new ≡ raised self.old (group_of received.now) }
+        ensures { self.new ≡ raised self.old (Some (itt % 4093)) }
     {
-        if let Some(Some(held)) = received {
-            self.counts[(held.request.itt() % GROUPS) as usize] += 1;
-        }
+        self.counts[(itt % GROUPS) as usize] += 1;
     }
 
     /// Takes back from the count what a place had, if that is a request.
@@ -109,14 +97,12 @@ impl TagBounds {
         self.bounds[(itt % GROUPS) as usize]
     }
 
-    /// A place with this number gets a request, if it is one: the only one of its group, or one more.
-    pub(crate) fn occupy(&mut self, received: &Received, number: u64, is_only: bool)
-        ensures { self.new ≡ occupied self.old (group_of received.now) number is_only }
+    /// A place with this number gets a request with this tag: the only one of its group, or one more.
+    pub(crate) fn occupy(&mut self, itt: u32, number: u64, is_only: bool)
+        ensures { self.new ≡ occupied self.old (Some (itt % 4093)) number is_only }
     {
-        if let Some(Some(held)) = received {
-            let bound = &mut self.bounds[(held.request.itt() % GROUPS) as usize];
-            *bound = if is_only { number } else { number.min(*bound) };
-        }
+        let bound = &mut self.bounds[(itt % GROUPS) as usize];
+        *bound = if is_only { number } else { number.min(*bound) };
     }
 
     /// The place with this number gives up what it had. Where that was the first request of its group, the next one
