@@ -12,13 +12,13 @@ use Rattle.iscsi_session.specs.promises.Refusals.{RefusesAs, refusal_of}
 use Rattle.iscsi_session.specs.promises.Bounds.{most_effects}
 use Rattle.iscsi_session.specs.private.Standing.{Core, StandsFor}
 use Rattle.iscsi_session.specs.private.Steps.{refusal_by}
-use Rattle.iscsi_session.proofs.AgendaLemmas.{refusal_is}
+use Rattle.iscsi_session.proofs.AgendaLemmas.{refusal_as}
 use Rattle.iscsi_host.specs.Serving.{Hosted, Serves, last_effects}
 use Rattle.iscsi_host.proofs.EffectLemmas.{last_effects-push}
 
 -- what a host says of the refusal of the next event
 pub refusal_here : (o : Setting) (h : List Event) (e : Event) (host : Hosted) (refusal : Option SessionFault) → Serves o host h → refusal ≡ refusal_by host.session e → refusal ≡ refusal_of o h e
-refusal_here o h e host refusal serves is = is ∙ refusal_is o host.session h e serves.stands
+refusal_here o h e host refusal serves is = sym (refusal_as o host.session h e refusal serves.stands (sym is))
 
 -- a step that isn't due to be refused is done, as there is room
 pub never_refused : (o : Setting) (h : List Event) (e : Event) (host : Hosted) (len room : ℕ) (refusal : Option SessionFault) (result : Result Numbers SessionFault) (fault : SessionFault)

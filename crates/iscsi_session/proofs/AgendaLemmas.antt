@@ -103,14 +103,12 @@ offered_known o s event t r said h not_immediate known taken =
 
 -- ---- refusals
 
-pub refusal_is : (o : Setting) (s : Core) (h : List Event) (e : Event) → StandsFor o s h → refusal_by s e ≡ refusal_of o h e
-refusal_is o s h e stands =
-    let same : comes_on s.conns e ≡ belongs o e = grind (arith, nat_tests, is_known-cids, stands.settled.agrees) in
-    cc same
-
 -- what the session found is what the definitions say
 pub refusal_as : (o : Setting) (s : Core) (h : List Event) (e : Event) (x : Option SessionFault) → StandsFor o s h → refusal_by s e ≡ x → refusal_of o h e ≡ x
-refusal_as o s h e x stands is = sym (refusal_is o s h e stands) ∙ is
+refusal_as o s h e x stands is =
+    let same : comes_on s.conns e ≡ belongs o e = grind (arith, nat_tests, is_known-cids, stands.settled.agrees) in
+    let here : refusal_by s e ≡ refusal_of o h e = cc same in
+    sym here ∙ is
 
 -- an event that isn't refused
 pub taken_by : (s : Core) (e : Event) → refusal_by s e ≡ None → (comes_on s.conns e ≡ true) × (s.taken < s.events)

@@ -43,11 +43,6 @@ module _ (o : Setting) (t : Trace) (tag unit below : ℕ) where
       ] in
       ⊎_elim (λ lt. by_held (omega arith) lt (held t e) refl) (λ ge. let none : below - e ≡ 0 = omega arith in rw (none_below o t tag unit below (suc (length ps)) e ge, none)) (cases_lt e below)
 
--- the held command of the definitions has the number of the one that the window finds
-pub held_command-is : (o : Setting) (w : Arrived) (t : Trace) (tag unit below sn : ℕ) → WindowAgrees o w t → exp_of o t ≡ number_expected w → below ≡ lift (number_expected w) sn → unit < o.units
-    → option_map (λ (h : Arrival). h.number) (held_command o t tag unit below) ≡ option_map (λ k. number_expected w + k) (find_held w tag unit sn)
-held_command-is o w t tag unit below sn h exp own inside = rw (exp, ← h.size, own) (found_numbers o t tag unit (lift (number_expected w) sn) w.places (number_expected w) inside h.inside)
-
 -- ---- live commands
 
 find-two : (p : Live → Bool) (q r : Command → Bool) (cs : List Command) → ((c : Command) → p (kept c) ≡ (q c && r c)) → find p (map kept cs) ≡ option_map kept (first_of (filter r (filter q cs)))
@@ -78,11 +73,6 @@ none_held_below w r unit n next shows = grind (arith, nat_tests, last_number)
 pub numbered_deed : (s : Core) (r : Request) (n : ℕ) (d : Deed) → is_immediate r ≡ false → n + 1 ≡ number_expected s.window → wire (cmd_sn r) ≡ wire n → Fits s r d → is_of_number d ≡ false
 numbered_deed s r number d later next shows fits = grind (arith, nat_tests, false≢true, missing_parts, none_held_below)
 
--- a number is voided where it is in the window and below the function's own
-missing_is : (o : Setting) (s : Core) (t : Trace) (a : Arrival) → WindowAgrees o s.window t → exp_of o t ≡ number_expected s.window → max_of o t ≡ number_expected s.window + length s.window.places - 1 - s.window.unfinished → a.number ≡ lift (number_expected s.window) (cmd_sn a.request)
-    → (facts_of o t a).is_missing ≡ missing_by s a.request
-missing_is o s t a h exp max own = grind (arith, nat_tests, within_window)
-
 -- an immediate request, at its arrival
 pub Found-arrived : (o : Setting) (s : Core) (index : ℕ) (t : Trace) (r : Request) → Settled o s t → waiting ((Executes (arrival_of o index t r) ∷ []) ∷ t) ≡ map (arrival_waiting o.first) s.waiting
     → Found o s ((Executes (arrival_of o index t r) ∷ []) ∷ t) (arrival_of o index t r)
@@ -95,11 +85,11 @@ Found-arrived o s index t r h waits =
     let own : a.number ≡ lift (number_expected s.window) (cmd_sn r) = ap (λ e. lift e (cmd_sn r)) (settled_expected o s t h) in
     let exp : exp_of o t' ≡ number_expected s.window = settled_expected o s t' h' in
     record {
-      held_same = λ unit inside. held_command-is o s.window t' (rtt r) unit a.number (cmd_sn r) now.window exp own inside;
+      held_same = λ unit inside. rw (exp, ← now.window.size, own) (found_numbers o t' (rtt r) unit (lift (number_expected s.window) (cmd_sn r)) s.window.places (number_expected s.window) inside now.window.inside);
       held_inside = λ unit x found.
           let k = held_command-held o t' (rtt r) unit a.number x found in
           (k.0, omega (arith, k.1.0, exp), omega (arith, k.1.1, exp, now.window.size), omega (arith, held_command-below o t' (rtt r) unit a.number x found, own));
-      missing_same = missing_is o s t' a now.window exp (settled_max o s t' h') own;
+      missing_same = grind (arith, nat_tests, within_window, settled_max o s t' h', exp, own, now.window);
       expected_is = λ is. exp;
     }
 
