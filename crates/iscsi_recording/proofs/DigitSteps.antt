@@ -1,8 +1,8 @@
 -- Steps of the loops over digits and over their values.
-use Rattle.std.proofs.Common.{◌≡◌, ℕ, zero, suc, ◌+◌, ◌-◌, ◌*◌, ◌/◌, ◌%◌, ◌<◌, ◌≤◌, min, true, List, [], ◌∷◌, ◌++◌, length, take, drop, slice_index, slice_set, Option, Some, None, Result, Ok, Err, is_some, refl, sym, ap, ap₂, ◌∙◌, arith, inl, inr, get_or-set_other, get_or-set_same, below_more}
+use Rattle.std.proofs.Common.{◌≡◌, ℕ, zero, suc, ◌+◌, ◌-◌, ◌*◌, ◌/◌, ◌%◌, ◌<◌, ◌≤◌, min, true, List, [], ◌∷◌, length, slice_index, slice_set, Option, Some, None, Result, Ok, Err, is_some, refl, sym, ap, ◌∙◌, arith, inl, inr, get_or-set_other, get_or-set_same, below_more}
 use Rattle.std.specs.Prelude.{MatchOption, IsOk}
 use Rattle.std.specs.Result.{result_ok}
-use Rattle.std.proofs.lemmas.List.{get_or-map, length-map, length-set, append_assoc, append-nil, drop_all, drop_more, take_all, take_more_set}
+use Rattle.std.proofs.lemmas.List.{get_or-map, length-map, length-set}
 use Rattle.std.proofs.lemmas.Bool.{cases_lt}
 use Rattle.hex.specs.Hex.{decode_pairs, decode_sized, pair_value, hex_digit_value}
 use Rattle.hex.specs.declared.error.FromHexError.{FromHexError}
@@ -72,37 +72,6 @@ lowered_at values k h = get_or-map (λ v. v - 240) values k 0 0 h
 
 pub byte_of_raised : (h l : ℕ) → 239 < h → h < 256 → 239 < l → l < 256 → ((h + 256 * l) * 4097 % 65536 / 256 + 16) % 256 ≡ (h - 240) * 16 + (l - 240)
 byte_of_raised h l a b c d = omega arith
-
--- ---- bytes of values
-
-paired-drop : (values : List ℕ) (i : ℕ) → 2 * i + 1 < length values
-    → paired (drop (2 * i) values) ≡ (slice_index values (2 * i) * 16 + slice_index values (2 * i + 1)) ∷ paired (drop (2 * (i + 1)) values)
-paired-drop values i fits =
-    let a = drop_more values (2 * i) 0 (omega arith) in
-    let b = drop_more values (2 * i + 1) 0 (omega arith) in
-    let two : 2 * i + 1 + 1 ≡ 2 * (i + 1) = omega arith in
-    rw (a, b, two) refl
-
-pub pair_step : (values bytes : List ℕ) (i : ℕ) → 2 * i + 1 < length values → i < length bytes
-    → take i bytes ++ paired (drop (2 * i) values) ≡ paired values
-    → take (i + 1) (slice_set bytes i (slice_index values (2 * i) * 16 + slice_index values (2 * i + 1))) ++ paired (drop (2 * (i + 1)) values) ≡ paired values
-pair_step values bytes i fits room so =
-    rw (take_more_set bytes i (slice_index values (2 * i) * 16 + slice_index values (2 * i + 1)) room)
-    (append_assoc (take i bytes) _ _ ∙ ap (λ l. take i bytes ++ l) (sym (paired-drop values i fits)) ∙ so)
-
-pub pairs_done : (values bytes : List ℕ) (i : ℕ) → length values ≤ 2 * i → length bytes ≤ i
-    → take i bytes ++ paired (drop (2 * i) values) ≡ paired values → bytes ≡ paired values
-pairs_done values bytes i end room so =
-    rw (drop_all (2 * i) values end, append-nil, take_all i bytes room) at so
-
-pub raised_step : (values bytes : List ℕ) (i b : ℕ) → 2 * i + 1 < length values → i < length bytes
-    → b ≡ (slice_index values (2 * i) - 240) * 16 + (slice_index values (2 * i + 1) - 240)
-    → take i bytes ++ paired (drop (2 * i) (lowered values)) ≡ paired (lowered values)
-    → take (i + 1) (slice_set bytes i b) ++ paired (drop (2 * (i + 1)) (lowered values)) ≡ paired (lowered values)
-raised_step values bytes i b fits room is so =
-    let e : b ≡ slice_index (lowered values) (2 * i) * 16 + slice_index (lowered values) (2 * i + 1) =
-    is ∙ sym (ap₂ (λ x y. x * 16 + y) (lowered_at values (2 * i) (omega arith)) (lowered_at values (2 * i + 1) fits)) in
-    rw e (pair_step (lowered values) bytes i (omega (arith, length-map values (λ v. v - 240))) room so)
 
 -- ---- what is decoded
 

@@ -1,9 +1,9 @@
 -- The first line of bytes of which more may come.
-use Rattle.std.proofs.Common.{◌≡◌, ℕ, zero, suc, ◌+◌, ◌-◌, ◌*◌, ◌^◌, ◌<◌, ◌≤◌, ◌==◌, Bool, true, false, cond, List, [], ◌∷◌, ◌++◌, length, get_or, take, drop, Option, Some, None, Result, Ok, Err, is_some, slice_index, refl, sym, ap, ap₂, ◌∙◌, arith, length-take, take-append-drop}
+use Rattle.std.proofs.Common.{◌≡◌, ℕ, zero, suc, ◌+◌, ◌-◌, ◌*◌, ◌%◌, ◌^◌, ◌<◌, ◌≤◌, ◌==◌, Bool, true, false, cond, List, [], ◌∷◌, ◌++◌, length, get_or, take, drop, Option, Some, None, Result, Ok, Err, is_some, slice_index, inl, inr, refl, sym, ap, ap₂, ◌∙◌, arith, length-take, take-append-drop}
 use Rattle.std.specs.Prelude.{option_map, option_and_then, IsOk}
 use Rattle.std.specs.List.{list_any}
 use Rattle.std.specs.Result.{result_ok}
-use Rattle.std.proofs.lemmas.Bool.{eqb-true}
+use Rattle.std.proofs.lemmas.Bool.{cases_lt, eqb-true}
 use Rattle.std.proofs.lemmas.List.{drop_more, take_more}
 use Rattle.std.proofs.Math.Seq.{take-append-add}
 use Rattle.hex.specs.Hex.{decode_sized, hex_digit_value}
@@ -222,3 +222,24 @@ completion_first bytes rest ticket status count size is long letter blank leads 
     rw (whole, ← five) (first_says bytes 68 ticket count 2 (Done ticket status) first refl
     (no_end-hex 1 (take 2 (drop (count + 1) (drop 2 bytes))) (status ∷ []) digits)
     (completion_line (take count (drop 2 bytes)) _ ticket status clear (number.number (2 ^ 64 - 1) (omega (arith, number.small))) digits))
+
+-- ---- a digit and a blank, as one number
+
+pub one_led : (bytes : List ℕ) (n : ℕ) → 1 < length bytes → n ≡ (get_or bytes 0 0 + 256 * get_or bytes 1 0 + (65536 - 8240)) % 65536
+    → get_or bytes 0 0 < 256 → get_or bytes 1 0 < 256 → n < 10 → LeadsWith bytes n 1
+one_led bytes n lt is a b few =
+    let blank : get_or bytes 1 0 ≡ 32 = omega (arith, is) in
+    let low : get_or bytes 0 0 ≡ 48 + n = omega (arith, is) in
+    elim (cases_lt 0 n) [
+      | inl some ↦ (
+          let digit : is_digit (get_or bytes 0 0) ≡ true = grind (arith) in
+          let none : Numbered bytes 0 0 = record { read = refl; small = omega arith } in
+          let one = number_step bytes 0 0 (omega arith) digit none in
+          let same : 0 * 10 + (get_or bytes 0 0 - 48) ≡ n = omega arith in
+          number_led bytes n 1 (omega arith) (omega arith) lt blank (λ is_zero. absurd (omega arith)) (rw same at one)
+          )
+      | inr low_is ↦ (
+          let e : n ≡ 0 = omega arith in
+          rw e (zero_led bytes lt (omega arith) blank)
+          )
+    ]

@@ -11,6 +11,7 @@ pub mod EffectLemmas
 pub mod SourceLemmas
 mod DigitTable
 mod DigitSteps
+mod PairLemmas
 mod FirstLemmas
 mod FrontLemmas
 mod EightLemmas

@@ -36,7 +36,7 @@ impl Model for Bytes {
 
 /// Writes bytes from a place of a slice on, and says where they end.
 #[inline(always)]
-fn put_at(bytes: &[u8], memory: &mut [u8], at: usize) -> usize
+pub fn put_at(bytes: &[u8], memory: &mut [u8], at: usize) -> usize
     requires { at + length bytes.now ≤ length memory.old }
     ensures end { result ≡ at + length bytes.now }
     ensures written { take result memory.new ≡ take at memory.old ++ bytes.now }
@@ -131,7 +131,23 @@ impl Bytes {
     /// Puts bytes behind the others where they fit without more memory being asked for, and tells whether they do.
     /// Otherwise the others stay as they were.
     #[inline(always)]
-    pub fn extend_in_place(&mut self, bytes: &[u8]) -> bool
+    pub fn extend_in_place<const N: usize>(&mut self, bytes: &[u8; N]) -> bool
+        ensures put { result ≡ true → self.new ≡ self.old ++ bytes.now }
+        ensures not { result ≡ false → self.new ≡ self.old }
+        ensures few { length self.old < 2 ^ 63 }
+    {
+        if self.memory.len() - self.len >= N {
+            self.len = put_at(bytes, &mut self.memory, self.len);
+            return true;
+        }
+        // A copy goes there, so that bytes that were made just now needn't stand in memory before.
+        let apart = *bytes;
+        self.extend_grown(&apart)
+    }
+
+    /// The same, where memory has to grow.
+    #[inline(never)]
+    fn extend_grown(&mut self, bytes: &[u8]) -> bool
         ensures put { result ≡ true → self.new ≡ self.old ++ bytes.now }
         ensures not { result ≡ false → self.new ≡ self.old }
         ensures few { length self.old < 2 ^ 63 }

@@ -8,6 +8,9 @@ use crate::parse::is_decimal;
 /// How many digits a CID has at most.
 const CID_DIGITS: usize = 5;
 
+/// The digit 0 and a blank, the first of which is the lower byte.
+const DIGIT_AND_BLANK: u16 = 0x2030;
+
 /// The number 0 at the front of these bytes, where a blank ends it.
 #[inline(always)]
 fn zero_first(bytes: &[u8]) -> Option<(u64, usize)>
@@ -44,6 +47,17 @@ pub fn number_first(bytes: &[u8], most: usize) -> Option<(u64, usize)>
         n = n * 10 + u64::from(d - b'0');
     }
     None
+}
+
+/// The number of one digit at the front of these bytes, where a blank stands behind it. Both are looked at as one number.
+/// `None` decides nothing.
+#[inline(always)]
+pub fn one_digit_first(bytes: &[u8]) -> Option<u16>
+    requires { 1 < length bytes.now }
+    ensures { IfSome result (λ n. LeadsWith bytes.now n 1) }
+{
+    let n = u16::from_le_bytes([bytes[0], bytes[1]]).wrapping_sub(DIGIT_AND_BLANK);
+    if n < 10 { Some(n) } else { None }
 }
 
 /// The number of two digits at the front of these bytes, behind which a blank stands, and that it has two. `None`

@@ -10,6 +10,7 @@ mod events;
 mod fault;
 mod fronts;
 mod line;
+mod pairs;
 mod parse;
 mod reading;
 mod recording;

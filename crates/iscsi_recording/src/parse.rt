@@ -9,8 +9,9 @@ ghost use Rattle.iscsi_recording.specs.Grammar.{arrival_of, completion_of, event
 ghost use Rattle.iscsi_recording.specs.Fronts.{FirstSays, LeadsWith};
 
 use crate::eight::{TICKET_DIGITS, common_ticket, good_ticket};
-use crate::fronts::longer_cid_first;
+use crate::fronts::{longer_cid_first, one_digit_first};
 use crate::line::Line;
+use crate::pairs::joined;
 use iscsi_rules::Event;
 
 #[inline(always)]
@@ -151,7 +152,7 @@ fn raised_values(text: &[u8]) -> Option<[u8; 96]>
 
 /// The byte of two digits with these raised values.
 ///
-/// The first one is added to the second's upper half where they lie, so that many pairs are taken at once.
+/// The first one is added to the second's upper half where they lie.
 #[inline(always)]
 fn byte_of(pair: [u8; 2]) -> u8
     requires { (239 < slice_index pair 0) × (239 < slice_index pair 1) }
@@ -159,19 +160,6 @@ fn byte_of(pair: [u8; 2]) -> u8
 {
     let word = u16::from_le_bytes(pair).wrapping_mul(0x1001);
     ((word >> 8) as u8).wrapping_add(0x10)
-}
-
-/// The bytes of which these are the digits' raised values.
-#[inline(always)]
-fn joined(values: &[u8; 96]) -> [u8; 48]
-    requires { (k : ℕ) → k < 96 → 239 < slice_index values.now k }
-    ensures { result ≡ paired (lowered values.now) }
-{
-    let mut bytes = [0u8; 48];
-    'bytes: for i in 0..48usize {
-        bytes[i] = byte_of([values[2 * i], values[2 * i + 1]]);
-    }
-    bytes
 }
 
 /// The 48 bytes of 96 digits.
@@ -210,6 +198,29 @@ const SHORTEST_ARRIVAL: usize = 2 + 1 + 1 + 96;
 
 const LONGEST_COMPLETION: usize = 2 + TICKET_DIGITS + 1 + 2;
 
+/// The letter of an arrival and a blank, and those of a completion, which are looked at as one number.
+const ARRIVAL_MARK: u16 = 0x2043;
+
+const COMPLETION_MARK: u16 = 0x2044;
+
+/// Whether the letter of an arrival and a blank stand first.
+#[inline(always)]
+fn begins_arrival(bytes: &[u8]) -> bool
+    requires { 1 < length bytes.now }
+    ensures { result ≡ true → (slice_index bytes.now 0 ≡ 67) × (slice_index bytes.now 1 ≡ 32) }
+{
+    u16::from_le_bytes([bytes[0], bytes[1]]) == ARRIVAL_MARK
+}
+
+/// Whether more bytes stand here than the longest completion in its common form has, and first its letter and a blank.
+#[inline(always)]
+pub fn begins_completion(bytes: &[u8]) -> bool
+    ensures long { result ≡ true → 23 < length bytes.now }
+    ensures mark { result ≡ true → (slice_index bytes.now 0 ≡ 68) × (slice_index bytes.now 1 ≡ 32) }
+{
+    bytes.len() > LONGEST_COMPLETION && u16::from_le_bytes([bytes[0], bytes[1]]) == COMPLETION_MARK
+}
+
 /// The arrival that the first line of these bytes says, where its CID has one digit, and how many bytes that line has
 /// without its end. `None` decides nothing.
 ///
@@ -218,14 +229,11 @@ const LONGEST_COMPLETION: usize = 2 + TICKET_DIGITS + 1 + 2;
 pub fn short_arrival(bytes: &[u8]) -> Option<(u16, [u8; 48], usize)>
     ensures { IfSome result (λ r. FirstSays bytes.now r.2 (Event.Arrive r.0 r.1)) }
 {
-    if bytes.len() <= SHORTEST_ARRIVAL || bytes[0] != b'C' || bytes[1] != b' ' {
+    if bytes.len() <= SHORTEST_ARRIVAL || !begins_arrival(bytes) {
         return None;
     }
-    let rest = &bytes[2..];
-    if rest[1] != b' ' || !is_decimal(rest[0]) {
-        return None;
-    }
-    arrival_behind(bytes, u16::from(rest[0] - b'0'), 1)
+    let conn = one_digit_first(&bytes[2..])?;
+    arrival_behind(bytes, conn, 1)
 }
 
 /// The same, where its CID has more digits.
@@ -233,7 +241,7 @@ pub fn short_arrival(bytes: &[u8]) -> Option<(u16, [u8; 48], usize)>
 pub fn longer_arrival(bytes: &[u8]) -> Option<(u16, [u8; 48], usize)>
     ensures { IfSome result (λ r. FirstSays bytes.now r.2 (Event.Arrive r.0 r.1)) }
 {
-    if bytes.len() <= SHORTEST_ARRIVAL || bytes[0] != b'C' || bytes[1] != b' ' {
+    if bytes.len() <= SHORTEST_ARRIVAL || !begins_arrival(bytes) {
         return None;
     }
     let conn = longer_cid_first(&bytes[2..])?;
@@ -282,7 +290,7 @@ fn decode_1(high: u8, low: u8) -> Option<u8>
 pub fn first_completion(bytes: &[u8]) -> Option<(u64, u8, usize)>
     ensures { IfSome result (λ r. FirstSays bytes.now r.2 (Event.Done r.0 r.1)) }
 {
-    if bytes.len() <= LONGEST_COMPLETION || bytes[0] != b'D' || bytes[1] != b' ' {
+    if !begins_completion(bytes) {
         return None;
     }
     let rest = &bytes[2..];

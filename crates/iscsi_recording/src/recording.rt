@@ -11,7 +11,8 @@ use crate::events::Events;
 use crate::fault::ReplayFault;
 use crate::line::Line;
 use crate::parse::{
-    arrival, completion, first_completion, longer_arrival, parse_line, short_arrival,
+    arrival, begins_completion, completion, first_completion, longer_arrival, parse_line,
+    short_arrival,
 };
 use iscsi_rules::Event;
 use std::alloc::Global;
@@ -165,11 +166,10 @@ impl Recording {
         ensures taken { 0 < result → TookFirst (view self.old) (view self.new) bytes.now result }
         ensures not { result ≡ 0 → self.new ≡ self.old }
     {
-        match bytes {
-            [b'C', ..] => self.take_first_arrival(bytes),
-            [b'D', ..] => self.take_first_completion(bytes),
-            _ => 0,
+        if begins_completion(bytes) {
+            return self.take_first_completion(bytes);
         }
+        self.take_first_arrival(bytes)
     }
 
     /// Takes the arrival that these bytes of line `number` say.
