@@ -18,7 +18,7 @@ pub length_events : (n : ℕ) (bytes : List ℕ) → length (events_of n bytes) 
 length_events zero bytes = refl
 length_events (suc n) bytes = ap suc (length_events n (drop (first_size bytes) bytes))
 
-size_least : (bytes : List ℕ) → 10 ≤ first_size bytes
+pub size_least : (bytes : List ℕ) → 10 ≤ first_size bytes
 size_least bytes = elim (slice_index bytes 0 == 0) as (λ b. 10 ≤ (if b then 51 else 10)) [ true ↦ lit≤ tt | false ↦ lit≤ tt ]
 
 -- each takes ten bytes or more

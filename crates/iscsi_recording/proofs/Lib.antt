@@ -15,3 +15,4 @@ mod PairLemmas
 mod FirstLemmas
 mod FrontLemmas
 mod EightLemmas
+pub mod NextLemmas

@@ -10,3 +10,4 @@ pub mod Known
 pub mod Dense
 pub mod Writing
 pub mod DigitValues
+pub mod Firsts

@@ -1,7 +1,9 @@
 //! Events that stand one after another in few bytes.
 
-ghost use Rattle.std.specs.Prelude.{◌≡◌, ◌==◌, ◌<◌, ◌^◌, [], ◌∷◌, ◌++◌, length, true, false, OnOk, OnErr};
+ghost use Rattle.std.specs.Prelude.{◌≡◌, ◌==◌, ◌<◌, ◌^◌, [], ◌∷◌, ◌++◌, length, drop, slice_index, true, false, OnOk, OnErr};
+ghost use Rattle.byteorder.specs.Endian.{big_number};
 ghost use Rattle.iscsi_recording.specs.Dense.{bytes_of, Fits, first_size, event_in};
+ghost use Rattle.iscsi_recording.specs.Firsts.{begins_with_arrival, begins_with_completion};
 
 use crate::bytes::Bytes;
 use crate::event_source::EventSource;
@@ -160,6 +162,26 @@ fn read_event(bytes: &[u8], event: &mut Event)
     }
 }
 
+/// The CID and the header of the arrival that has these bytes.
+#[inline(always)]
+fn arrival_in(bytes: &[u8]) -> (u16, [u8; 48])
+    requires { length bytes.now ≡ 51 }
+    ensures { (result.0 ≡ big_number 2 (drop 1 bytes.now)) × (result.1 ≡ drop 3 bytes.now) }
+{
+    let mut header = [0u8; 48];
+    header.copy_from_slice(&bytes[3..]);
+    (BigEndian::read_u16(&bytes[1..]), header)
+}
+
+/// The ticket and the status of the completion that has these bytes.
+#[inline(always)]
+fn completion_in(bytes: &[u8]) -> (u64, u8)
+    requires { length bytes.now ≡ 10 }
+    ensures { (result.0 ≡ big_number 8 (drop 1 bytes.now)) × (result.1 ≡ slice_index bytes.now 9) }
+{
+    (BigEndian::read_u64(&bytes[1..]), bytes[9])
+}
+
 impl Events {
     /// No events, without memory.
     pub fn new(alloc: Global) -> Events
@@ -256,6 +278,51 @@ impl<'a> Model for Cursor<'a> {
     ghost view = { λ c. events_of c.count c.left.now };
 
     ghost invariant = { λ c. IsDense c.count c.left.now };
+}
+
+impl Cursor<'_> {
+    /// Tells whether an event comes next.
+    #[inline(always)]
+    pub fn has_next(&self) -> bool
+        ensures some { result ≡ true → 0 < length self.now }
+        ensures none { result ≡ false → self.now ≡ [] }
+    {
+        self.count > 0
+    }
+
+    /// Tells whether the event that comes next is an arrival.
+    #[inline(always)]
+    pub fn is_at_arrival(&self) -> bool
+        requires { 0 < length self.now }
+        ensures arrival { result ≡ true → begins_with_arrival self.now ≡ true }
+        ensures completion { result ≡ false → begins_with_completion self.now ≡ true }
+    {
+        self.left[0] == ARRIVAL
+    }
+
+    /// The CID and the header of the arrival that comes next, which is passed.
+    #[inline(always)]
+    pub fn pass_arrival(&mut self) -> (u16, [u8; 48])
+        requires { begins_with_arrival self.old ≡ true }
+        ensures { self.old ≡ Event.Arrive result.0 result.1 ∷ self.new }
+    {
+        let (first, left) = self.left.split_at(ARRIVAL_SIZE);
+        self.left = left;
+        self.count -= 1;
+        arrival_in(first)
+    }
+
+    /// The ticket and the status of the completion that comes next, which is passed.
+    #[inline(always)]
+    pub fn pass_completion(&mut self) -> (u64, u8)
+        requires { begins_with_completion self.old ≡ true }
+        ensures { self.old ≡ Event.Done result.0 result.1 ∷ self.new }
+    {
+        let (first, left) = self.left.split_at(COMPLETION_SIZE);
+        self.left = left;
+        self.count -= 1;
+        completion_in(first)
+    }
 }
 
 impl EventSource for Cursor<'_> {

@@ -1,2 +1,3 @@
 pub mod promises
 pub mod rules
+pub mod Stepped

@@ -3,6 +3,7 @@
 #![tactic(auto)]
 
 mod program;
+mod recorded;
 mod replaying;
 mod stopping;
 mod threading;

@@ -19,6 +19,7 @@ ghost use Rattle.iscsi_replay.specs.promises.Replayed.{setting_with, report_by, 
 ghost use Rattle.iscsi_recording.specs.Writing.{AppendsFront, AppendsBut};
 ghost use Rattle.iscsi_replay.specs.promises.Again.{IsRecordable, IsReadAgain};
 
+use crate::recorded::write_recorded;
 use iscsi_recording::{
     EventSource, NO_EVENT, Recording, ReplayFault, Sink, Source, put_all, read_recording,
 };
@@ -46,7 +47,7 @@ fn fault_of(fault: SessionFault) -> ReplayFault
 }
 
 /// Opens a session of a recording's connections that takes so many events.
-fn open(
+pub fn open(
     alloc: Global,
     settings: &Settings,
     most: u64,
@@ -72,7 +73,7 @@ fn open(
 }
 
 /// Writes out the lines that wait, once they are many.
-fn write_chunk<W: Sink>(report: &mut Report, writer: &mut W) -> Result<(), ReplayFault>
+pub fn write_chunk<W: Sink>(report: &mut Report, writer: &mut W) -> Result<(), ReplayFault>
     requires fresh { W.has_failed writer.old ≡ false }
     requires rest { IsAtRest report.old }
     ensures ok { OnOk result (AppendsBut (W.contents writer.old) (W.contents writer.new) report.new.bytes
@@ -95,7 +96,11 @@ fn write_chunk<W: Sink>(report: &mut Report, writer: &mut W) -> Result<(), Repla
 ///
 /// An arrival and a completion part here once, so that neither asks again what it is.
 #[inline(always)]
-fn step(session: &mut Session, event: &Event, report: &mut Report) -> Result<Numbers, SessionFault>
+pub fn step(
+    session: &mut Session,
+    event: &Event,
+    report: &mut Report,
+) -> Result<Numbers, SessionFault>
     requires { IsAtRest report.old }
     ensures stands { (o : Setting) (h : List SpecEvent) → StandsFor o session.old h →
         OnOk result (StandsFor o session.new (h ++ event.now ∷ [])) }
@@ -208,7 +213,7 @@ pub fn replay<R: Source, W: Sink>(
     let mut recording = Recording::new(alloc);
     read_recording(alloc, reader, &mut recording)?;
     let Recording { conns, events } = recording;
-    write_report(
+    write_recorded(
         alloc,
         settings,
         MAX_EVENTS,
