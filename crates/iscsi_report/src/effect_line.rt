@@ -48,8 +48,8 @@ pub fn write_effect(
     }
 }
 
-/// The line of an event that is passed over.
-#[inline(never)]
+/// The line of an event that is passed over. Where this is inlined it is known why, so that its text is.
+#[inline(always)]
 pub fn write_ignore(why: Why, line: &mut [u8], at: usize) -> usize
     requires { at + 256 ≤ length line.old }
     ensures end { result ≤ at + 256 }
