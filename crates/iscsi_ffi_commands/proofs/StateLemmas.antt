@@ -1,7 +1,7 @@
 -- All commands, as one enters, changes and goes.
 use Rattle.std.proofs.Common.{◌≡◌, ◌≢◌, ℕ, suc, ◌+◌, ◌<◌, ◌≤◌, ◌==◌, not, cond, Bool, true, false, List, [], ◌∷◌, ◌++◌, length, map, filter, find, get_or, set, All, Option, Some, None, option_map, refl, ap, sym, subst, ◌∙◌, arith, ⊎_elim, eq-eqb, ne_eqb}
 use Rattle.std.proofs.lemmas.Bool.{cases_eq, eqb-true, false≢true}
-use Rattle.std.proofs.lemmas.List.{get_or-set_same, get_or-set_other, length-map, length-set, length_push, map-append}
+use Rattle.std.proofs.lemmas.List.{get_or_default, get_or-set_same, get_or-set_other, length-map, length-set, length_push, map-append}
 use Rattle.iscsi_slots.specs.Slots.{times}
 use Rattle.iscsi_lists.specs.Lists.{AreApart, Listed, last_of, linked_in, times_in, with_last, without}
 use Rattle.iscsi_lists.proofs.PlaceLemmas.{times_any}
@@ -89,6 +89,36 @@ module _ (tickets : Known) (kept : Listed Command) (slots counts : List ℕ) (ce
 
   pub found_some : (ticket slot : ℕ) → value_of ticket tickets.entries ≡ Some slot → IsFound cells ticket slot
   found_some ticket slot is = is_found cells ticket slot (ap (value_of ticket) (sym are.entries) ∙ is)
+
+  -- the cell of a command that was found
+  pub record IsCellOf (ticket : ℕ) (command : Command) : Type 0 where
+    pub cell : Cell
+    pub there : IsIn cell cells
+    pub is : cell.command ≡ command
+
+  pub cell_of : (ticket : ℕ) (command : Command) → find_ticket ticket value ≡ Some command → IsCellOf ticket command
+  cell_of ticket command found =
+      let p : Cell → Bool = λ c. ticket_of c == ticket in
+      elim (find p cells) as (λ r. find p cells ≡ r → option_map command_of r ≡ Some command → IsCellOf ticket command) [
+        | None ↦ λ _ no. absurd (let e : None ≡ Some command = no in cc)
+        | Some c ↦ λ e same.
+            let picked = find_in p c cells e in
+            record { cell = c; there = picked.there; is = let s : Some (c.command) ≡ Some command = same in cc }
+      ] refl (sym (find_mapped command_of (has_ticket ticket) cells) ∙ found)
+
+  module _ (ticket : ℕ) (command : Command) (h : IsCellOf ticket command) where
+    pub request_is : request_of h.cell ≡ command.request
+    request_is = ap (λ (c : Command). c.request) h.is
+
+    pub request_in : command.request < length slots
+    request_in = let a = are.high h.cell h.there in let b = are.slots_long in let d = request_is in omega (arith, a, b, d)
+
+    pub slot_told : (slot : ℕ) → slot ≡ get_or slots command.request slot → h.cell.slot ≡ slot
+    slot_told slot read =
+        sym (are.here h.cell h.there)
+        ∙ ap (λ r. get_or slots r 0) request_is
+        ∙ sym (get_or_default slots command.request slot 0 request_in)
+        ∙ sym read
 
   pub there : (x : Cell) → IsIn x cells → 1 ≤ times (x.slot) (slots_at kept (x.command.unit))
   there x is = let a = slot_times x cells is in let b = ap (times (x.slot)) (are.lists (x.command.unit)) in omega (arith, a, b)

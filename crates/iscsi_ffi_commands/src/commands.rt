@@ -1,6 +1,6 @@
 //! The commands of a side.
 
-ghost use Rattle.std.specs.Prelude.{◌≡◌, ℕ, ◌+◌, ◌*◌, ◌<◌, ◌≤◌, true, length, replicate, slice_index_or, IfOk};
+ghost use Rattle.std.specs.Prelude.{◌≡◌, ℕ, ◌+◌, ◌*◌, ◌<◌, ◌≤◌, Some, true, length, replicate, slice_index_or, IfOk};
 ghost use Rattle.iscsi_ffi_commands.specs.declared.command.Stage.TheVariants.{Entered};
 ghost use Rattle.iscsi_ffi_commands.specs.Commands.{AreKnown, entered, find_ticket, first_of, forgotten, is_clearing, may_enter, next_of, opened, staged};
 ghost use Rattle.iscsi_ffi_commands.specs.Kept.{marks};
@@ -150,6 +150,22 @@ impl Commands {
         self.kept.set(slot, Command { stage, ..command });
         let unit = usize::from(command.unit);
         self.marked[unit] = recounted(self.marked[unit], command.stage, stage);
+    }
+
+    /// A command that was found by this ticket comes to another stage. It stands where its request says, and isn't searched for.
+    #[inline(always)]
+    pub fn advance(&mut self, ticket: u64, command: &Command, stage: Stage)
+        requires { find_ticket ticket self.old ≡ Some command.now }
+        ensures { self.new ≡ staged stage command.now.ticket self.old }
+    {
+        self.tickets.known();
+        self.kept.known();
+        let slot = self.slots[command.request as usize];
+        let kept = *self.kept.at(slot);
+        self.kept.set(slot, Command { stage, ..kept });
+        let unit = usize::from(command.unit);
+        let count = self.marked[unit];
+        self.marked[unit] = recounted(count, command.stage, stage);
     }
 
     /// The command of this request isn't kept any more, if it has one.

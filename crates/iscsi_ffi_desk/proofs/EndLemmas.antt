@@ -1,5 +1,5 @@
 -- At the end of a call: connection by connection.
-use Rattle.std.proofs.Common.{◌≡◌, ◌<◌, ◌≤◌, ℕ, ◌+◌, ◌&&◌, not, Bool, true, false, List, [], ◌∷◌, length, drop, get_or, set, refl, sym, ap, ◌∙◌, if◌then◌else◌}
+use Rattle.std.proofs.Common.{◌≡◌, ◌<◌, ◌≤◌, ℕ, ◌+◌, ◌&&◌, not, Bool, true, false, List, [], ◌∷◌, length, drop, get_or, set, refl, sym, ap, ◌∙◌, arith, if◌then◌else◌}
 use Rattle.std.proofs.lemmas.List.{drop_more}
 use Rattle.std.proofs.Math.ListN.{drop_of_length-le}
 use Rattle.iscsi_outbox_steps.specs.declared.given.Given.{Given}
@@ -10,6 +10,8 @@ use Rattle.iscsi_outbox.proofs.AskLemmas.{none_over}
 use Rattle.iscsi_ffi_rules.specs.declared.action.Action.TheVariants.{Ready, Close}
 use Rattle.iscsi_ffi_steps.specs.Walk.{Doing, in_state, tell}
 use Rattle.iscsi_ffi_steps.specs.Steps.{close_each, close_on, gives, gives_no_more, tell_each, tell_on}
+use Rattle.iscsi_ffi_desk.specs.Awake.{asleep_in}
+use Rattle.iscsi_ffi_desk.proofs.AwakeLemmas.{none_asleep}
 
 told_outbox : (conn cid : ℕ) (d : Doing) (b : Bool) → (if b then in_state (λ s. record s { awake = set s.awake conn true }) (tell (Ready cid) d) else d).state.outbox ≡ d.state.outbox
 told_outbox conn cid d true = refl
@@ -44,6 +46,22 @@ close_each_done conn cids d all = ap (λ (xs : List ℕ). close_each conn xs d) 
 pub tell_each_outbox : (conn : ℕ) (cids : List ℕ) (d : Doing) → (tell_each conn cids d).state.outbox ≡ d.state.outbox
 tell_each_outbox conn [] d = refl
 tell_each_outbox conn (cid ∷ cids) d = tell_each_outbox (conn + 1) cids (tell_on conn cid d) ∙ tell_on_outbox conn cid d
+
+-- ---- all were told to be ready
+
+one_told : (conn cid : ℕ) (d : Doing) (b : Bool) → get_or d.state.awake conn false ≡ true
+    → (if b && not (get_or d.state.awake conn false) then in_state (λ s. record s { awake = set s.awake conn true }) (tell (Ready cid) d) else d) ≡ d
+one_told conn cid d true e = cc
+one_told conn cid d false e = refl
+
+all_told : (conn : ℕ) (cids : List ℕ) (d : Doing) → ((k : ℕ) → k < conn + length cids → get_or d.state.awake k false ≡ true) → tell_each conn cids d ≡ d
+all_told conn [] d all = refl
+all_told conn (cid ∷ cids) d all =
+    ap (λ (e : Doing). tell_each (conn + 1) cids e) (one_told conn cid d (gives (given cid d.state.outbox)) (all conn (omega arith)))
+    ∙ all_told (conn + 1) cids d (λ k l. all k (omega (arith, l)))
+
+pub none_told : (cids : List ℕ) (d : Doing) → length d.state.awake ≡ length cids → asleep_in d.state.awake ≡ 0 → tell_each 0 cids d ≡ d
+none_told cids d long none = all_told 0 cids d (λ k l. none_asleep d.state.awake none k (omega (arith, l, long)))
 
 -- ---- no connection is closed
 

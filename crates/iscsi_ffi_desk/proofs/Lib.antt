@@ -1,4 +1,5 @@
 pub mod AskLemmas
+pub mod AwakeLemmas
 pub mod DropLemmas
 pub mod OutboxLemmas
 pub mod PlaceLemmas

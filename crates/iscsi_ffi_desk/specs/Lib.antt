@@ -1,3 +1,4 @@
+pub mod Awake
 pub mod Calls
 pub mod Courses
 pub mod Kept

@@ -43,7 +43,7 @@ pub record AreBuffers (conns room : ℕ) (b : Buffers) : Type 0 where
   pub withheld : b.withheld.items ≡ []
   pub actions : b.actions.items ≡ []
   pub forgets : b.forgets.items ≡ []
-  pub awake : b.awake.items ≡ replicate conns false
+  pub awake : b.awake ≡ replicate conns false
   pub over : b.over.items ≡ replicate conns false
   pub room_withheld : vec_capacity b.withheld ≡ room
   pub room_actions : vec_capacity b.actions ≡ room

@@ -19,6 +19,7 @@ mod taking;
 mod telling;
 mod walking;
 
+use crate::awake::Awake;
 use iscsi_ffi_commands::Commands;
 use iscsi_ffi_rules::Action;
 use iscsi_outbox::{Outbox, OutboxFault};
@@ -47,7 +48,7 @@ pub struct Desk {
     /// The tickets of the commands that are to be completed and never start, going up.
     withheld: Vec<u64>,
     /// The connections that were told to be ready, and didn't give nothing since.
-    awake: Vec<bool>,
+    awake: Awake,
     /// The connections that were told to be closed.
     over: Vec<bool>,
     /// How many actions may be told in a call.
@@ -97,7 +98,7 @@ impl Model for Desk {
         noted = d.noted;
         unwritten = d.unwritten;
         withheld = d.withheld.items;
-        awake = d.awake.items;
+        awake = d.awake;
         over = d.over.items;
         room = d.room;
       };
@@ -115,7 +116,7 @@ impl Model for Desk {
       noted = d.noted;
       unwritten = d.unwritten;
       withheld = d.withheld.items;
-      awake = d.awake.items;
+      awake = d.awake;
       over = d.over.items;
       room = d.room;
     }) (vec_capacity d.actions) (vec_capacity d.forgets) (vec_capacity d.withheld) };

@@ -2,6 +2,7 @@
 //! the request has still, and what was told in a call (RFC 7143 sections 4.2.2 and 4.2.3, SAM-5 section 7).
 #![tactic(auto)]
 
+mod awake;
 mod course;
 mod desk;
 mod items;

@@ -1,5 +1,5 @@
 -- What a side tells is handed over, one after the other.
-use Rattle.std.proofs.Common.{◌≡◌, ◌∙◌, ℕ, zero, ◌+◌, ◌-◌, ◌<◌, ◌≤◌, ◌||◌, Bool, true, false, List, [], ◌∷◌, ◌++◌, min, nat_lt, length, set, take, drop, suc, Some, None, IsSome, if◌then◌else◌, refl, sym, ap, arith}
+use Rattle.std.proofs.Common.{◌≡◌, ◌∙◌, ℕ, zero, ◌+◌, ◌-◌, ◌<◌, ◌≤◌, ◌||◌, Bool, true, false, List, [], ◌∷◌, ◌++◌, min, nat_lt, length, set, take, drop, suc, Some, None, if◌then◌else◌, refl, sym, ap, arith}
 use Rattle.std.proofs.lemmas.Bool.{false≢true, ltb-false, ltb-true}
 use Rattle.std.proofs.lemmas.List.{drop-drop, drop_all, drop_more, take_all}
 use Rattle.iscsi_ffi_rules.specs.declared.action.Action.{Action}
@@ -185,9 +185,3 @@ next_over n xs old a is lt = by_suc n xs old is lt ∙ ap (λ k. written_over ol
         no n lt = omega (arith, lt)
     by_suc zero (x ∷ xs) (o ∷ os) is lt = ap (λ (y : Action). plain_action y ∷ os) (sym (some_is is))
     by_suc (suc n) (x ∷ xs) (o ∷ os) is lt = ap (λ (zs : List PlainAction). plain_action x ∷ zs) (by_suc n xs os is (below n (length os) lt))
-
--- ---- one waits
-
-pub one_oldest : (xs : List Action) → length xs ≡ 1 → IsSome (oldest xs)
-one_oldest [] e = absurd (omega (arith, e))
-one_oldest (x ∷ xs) e = refl

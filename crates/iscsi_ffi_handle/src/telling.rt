@@ -1,7 +1,6 @@
 //! What a side tells is handed over.
 
-ghost use Rattle.std.specs.Prelude.{◌≡◌, ◌≤◌, length};
-ghost use Rattle.iscsi_ffi.specs.Standing.{waiting};
+ghost use Rattle.std.specs.Prelude.{◌≡◌};
 ghost use Rattle.iscsi_ffi_handle.specs.Telling.{places_after, side_after, told_after};
 
 use crate::plain::{PlainAction, PlainTold, plain_action, write_action};
@@ -33,26 +32,18 @@ fn hand_over_some(side: &mut Side, actions: &mut [PlainAction]) -> PlainTold
     ensures actions { actions.new ≡ places_after actions.old side.old }
     ensures told { result ≡ told_after actions.old side.old }
 {
-    if side.waiting() == 1 && !actions.is_empty() {
-        return hand_over_one(side, actions);
+    if actions.is_empty() {
+        return hand_over_each(side, actions);
     }
-    hand_over_each(side, actions)
-}
-
-/// One is handed over.
-#[inline(always)]
-fn hand_over_one(side: &mut Side, actions: &mut [PlainAction]) -> PlainTold
-    requires one { length (waiting side.old) ≡ 1 }
-    requires room { 1 ≤ length actions.old }
-    ensures side { side.new ≡ side_after actions.old side.old }
-    ensures actions { actions.new ≡ places_after actions.old side.old }
-    ensures told { result ≡ told_after actions.old side.old }
-{
-    let action = side.take_action().unwrap();
-    write_action(&mut actions[0], action);
-    PlainTold {
-        count: 1,
-        waiting: 0,
+    match side.take_only() {
+        Some(action) => {
+            write_action(&mut actions[0], action);
+            PlainTold {
+                count: 1,
+                waiting: 0,
+            }
+        }
+        None => hand_over_each(side, actions),
     }
 }
 

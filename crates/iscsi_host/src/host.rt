@@ -80,6 +80,7 @@ impl Host {
     }
 
     /// The effects of the last event: none before the first event.
+    #[inline(always)]
     pub fn effects(&self) -> &[Effect]
         ensures { result.now ≡ self.now.effects }
     {
@@ -87,6 +88,7 @@ impl Host {
     }
 
     /// ExpCmdSN and MaxCmdSN after the last event (RFC 7143 section 4.2.2.1).
+    #[inline(always)]
     pub fn event_numbers(&self) -> Numbers
         ensures { result ≡ self.now.numbers }
     {

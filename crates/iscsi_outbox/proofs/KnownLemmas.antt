@@ -1,10 +1,11 @@
 -- What holds of a command that is found.
-use Rattle.std.proofs.Common.{◌≡◌, ◌<◌, ◌≤◌, ℕ, suc, ◌==◌, ◌||◌, cond, Bool, true, false, List, [], ◌∷◌, length, find, Some, None, refl, sym, ap, subst, ◌∙◌, arith, eq-eqb, if◌then◌else◌}
+use Rattle.std.proofs.Common.{◌≡◌, ◌<◌, ◌≤◌, ℕ, suc, ◌==◌, ◌||◌, cond, Bool, true, false, List, [], ◌∷◌, ◌++◌, length, find, get_or, Some, None, refl, sym, ap, subst, ◌∙◌, arith, eq-eqb, ne_eqb, if◌then◌else◌}
 use Rattle.std.specs.List.{All, list_any}
 use Rattle.iscsi_lists.specs.Lists.{last_of}
 use Rattle.iscsi_tracked.specs.declared.command.Command.{Command}
+use Rattle.iscsi_tracked.specs.declared.command.Entering.{Entering}
 use Rattle.iscsi_tracked.specs.declared.command.Phase.{Phase}
-use Rattle.iscsi_tracked.specs.Tracked.{AreKnown, IsTrailed, Tracked, arrived, find_place, find_ticket, has_place, in_phase, is_at, next_place, to_phase, with_command, with_out}
+use Rattle.iscsi_tracked.specs.Tracked.{AreKnown, IsTrailed, Tracked, arrived, as_command, entered, find_place, find_ticket, has_place, in_phase, is_at, next_place, to_phase, with_command, with_out}
 
 pub found_all : {A : Type 0} (test : A → Bool) (P : A → Type 0) (xs : List A) (x : A) → All P xs → find test xs ≡ Some x → P x
 found_all test P [] x all e = cc
@@ -82,3 +83,17 @@ ticket_has v ticket c e = found_has (λ (d : Command). d.ticket == ticket) (is_a
 -- where there is no room, there is no place
 pub none_next : (v : Tracked) → AreKnown v → length v.commands ≡ v.room → next_place v ≡ None
 none_next v k full = none_last v.free (omega (arith, k.counted, full))
+
+-- ---- one has entered
+
+find_last : {A : Type 0} (test : A → Bool) (xs : List A) (x : A) → All (λ y. test y ≡ false) xs → test x ≡ true → find test (xs ++ x ∷ []) ≡ Some x
+find_last test [] x none is = ap (λ b. cond b (Some x) None) is
+find_last test (y ∷ ys) x none is =
+    ap (λ b. cond b (Some y) (find test (ys ++ x ∷ []))) (none 0 y (omega arith))
+    ∙ find_last test ys x (λ k d l. none (suc k) d (omega (arith, l))) is
+
+-- it is found by its ticket, which is above those before
+pub newest_found : (v : Tracked) (e : Entering) (place : ℕ) → AreKnown v → v.last < e.ticket → find_ticket (e.ticket) (entered e place v) ≡ Some (as_command e place)
+newest_found v e place k newer = find_last (λ (c : Command). c.ticket == e.ticket) v.commands (as_command e place)
+    (λ i d l. let low : (get_or v.commands i d).ticket ≤ v.last = k.newest i d l in ne_eqb _ _ (λ same. omega (arith, low, newer, same)))
+    (eq-eqb (e.ticket) (e.ticket) refl)

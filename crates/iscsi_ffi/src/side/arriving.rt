@@ -1,6 +1,7 @@
 //! A request arrives.
 
 ghost use Rattle.std.specs.Prelude.{◌≡◌, ◌+◌, ◌≤◌, List, [], ◌∷◌, ◌++◌, nat_lt, true, false, Some};
+ghost use Rattle.iscsi_wire.specs.Fields.{is_immediate, request_of};
 ghost use Rattle.iscsi_rules.specs.rules.Settings.{is_known};
 ghost use Rattle.iscsi_ffi_rules.specs.rules.Calls.{Arrives, Call, Interface};
 ghost use Rattle.iscsi_ffi_rules.specs.rules.Run.{tag_heard, word_at};
@@ -16,8 +17,11 @@ use crate::side::events::following;
 use byteorder::{BigEndian, ByteOrder};
 use iscsi_ffi_rules::Refusal;
 use iscsi_rules::{Effect, Event};
+use iscsi_wire::NO_TAG;
 use iscsi_wire::opcode::NOP_OUT;
-use iscsi_wire::{NO_TAG, Request};
+
+/// Where a header has its CmdSN.
+const CMD_SN: usize = 24;
 
 impl Side {
     /// A request PDU arrived on a connection, with the caller's word for it. Its header is heard, too.
@@ -79,11 +83,13 @@ impl Side {
         ensures { (i : Interface) (g : Going) → Begun i self.old g → is_known cid i.outbox.session.conns ≡ true → nat_lt g.event i.outbox.session.events ≡ true →
             Begun i self.new (arriving i cid header.now (Some place) g) }
     {
-        let header = *header;
-        let request = Request::read(cid, &header);
-        if let Ok(()) = self.host.step(&Event::Arrive { conn: cid, header }) {
+        let event = Event::Arrive {
+            conn: cid,
+            header: *header,
+        };
+        if let Ok(()) = self.host.step(&event) {
             self.taken = following(self.taken, self.events);
-            let own = self.place_request(&request, place);
+            let own = self.place_request(cid, header, place);
             self.desk
                 .take(own, self.host.effects(), self.host.event_numbers());
             self.complete_withheld();
@@ -92,12 +98,12 @@ impl Side {
 
     /// The request that arrives is held, if it is received; else this is its place.
     #[inline(always)]
-    fn place_request(&mut self, request: &Request, place: u32) -> Option<u32>
-        ensures own { result ≡ own_of request.now place self.old.host.effects }
-        ensures state { self.new ≡ record self.old { desk = held_of request.now place self.old.host.effects self.old.desk } }
+    fn place_request(&mut self, cid: u16, header: &[u8; 48], place: u32) -> Option<u32>
+        ensures own { result ≡ own_of (request_of cid header.now) place self.old.host.effects }
+        ensures state { self.new ≡ record self.old { desk = held_of (request_of cid header.now) place self.old.host.effects self.old.desk } }
     {
-        if is_held_first(request, self.host.effects()) {
-            self.desk.hold(request, place);
+        if is_held_first(cid, header, self.host.effects()) {
+            self.desk.hold_number(word_at(header, CMD_SN), place);
             return None;
         }
         Some(place)
@@ -106,13 +112,21 @@ impl Side {
 
 /// Whether a request is received, and held until its turn comes, also where that is at once: by what comes of it.
 #[inline(always)]
-fn is_held_first(request: &Request, effects: &[Effect]) -> bool
-    ensures { result ≡ is_held_first request.now effects.now }
+fn is_held_first(cid: u16, header: &[u8; 48], effects: &[Effect]) -> bool
+    ensures { result ≡ is_held_first (request_of cid header.now) effects.now }
 {
     match effects.first() {
         Some(Effect::Ignore { .. } | Effect::Send { .. }) => false,
-        _ => !request.immediate(),
+        _ => !is_immediate(cid, header),
     }
+}
+
+/// The I bit of a header (RFC 7143 section 11.2.1.1).
+#[inline(always)]
+fn is_immediate(_cid: u16, header: &[u8; 48]) -> bool
+    ensures { result ≡ is_immediate (request_of _cid header.now) }
+{
+    header[0] / 64 % 2 == 1
 }
 
 /// The number of four bytes of a header.

@@ -1,6 +1,6 @@
 //! What is told, and handed over.
 
-ghost use Rattle.std.specs.Prelude.{◌≡◌, [], length, min};
+ghost use Rattle.std.specs.Prelude.{◌≡◌, [], ◌∷◌, None, length, min, IfSome};
 ghost use Rattle.iscsi_ffi_rules.specs.rules.Calls.{Interface};
 ghost use Rattle.iscsi_ffi_steps.specs.Steps.{Going, after, ended, going};
 ghost use Rattle.iscsi_ffi.specs.Standing.{Begun, Stands, is_waiting, taken_one, waiting};
@@ -41,6 +41,32 @@ impl Side {
         let forget = self.desk.forgets().get(self.forgotten).copied()?;
         self.forgotten += 1;
         Some(forget)
+    }
+
+    /// Hands over the next of them where no other one waits, as `take_action` does. Where it gives none, nothing changes, and any number
+    /// may wait.
+    #[inline(always)]
+    pub fn take_only(&mut self) -> Option<Action>
+        ensures only { IfSome result (λ action. waiting self.old ≡ action ∷ []) }
+        ensures taken { IfSome result (λ action. self.new ≡ taken_one self.old) }
+        ensures none { result ≡ None → self.new ≡ self.old }
+    {
+        let (told, gone) = (self.desk.actions().len(), self.desk.forgets().len());
+        if self.forgotten < gone {
+            if self.given < told || gone - self.forgotten > 1 {
+                return None;
+            }
+            let forget = self.desk.forgets()[self.forgotten];
+            self.forgotten += 1;
+            return Some(forget);
+        }
+        let at = self.given;
+        if at >= told || told - at > 1 {
+            return None;
+        }
+        let action = self.desk.actions()[at];
+        self.given = at + 1;
+        Some(action)
     }
 
     /// A call begins: nothing was told in it yet.

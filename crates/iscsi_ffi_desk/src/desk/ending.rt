@@ -18,9 +18,20 @@ impl Desk {
         self.tell_closed();
     }
 
-    /// Tells which connections have something to hand out that weren't told so since they last gave nothing.
+    /// Tells which connections have something to hand out that weren't told so since they last gave nothing. Mostly none was.
     #[inline(always)]
     fn tell_ready(&mut self)
+        ensures { self.new ≡ tell_each 0 self.old.state.outbox.limits.cids self.old }
+    {
+        if self.awake.are_all() {
+            return;
+        }
+        self.tell_each_ready();
+    }
+
+    /// Looks at each connection.
+    #[inline(never)]
+    fn tell_each_ready(&mut self)
         ensures { self.new ≡ tell_each 0 self.old.state.outbox.limits.cids self.old }
     {
         for conn in 0..self.outbox.conns() {
@@ -34,7 +45,7 @@ impl Desk {
         requires { conn < length self.old.state.outbox.limits.cids }
         ensures { self.new ≡ tell_on conn (cid_at self.old.state.outbox conn) self.old }
     {
-        if !self.awake[conn] {
+        if !self.awake.is_awake(conn) {
             self.wake(conn);
         }
     }
@@ -48,7 +59,7 @@ impl Desk {
     {
         let cid = self.outbox.cid(conn);
         if self.outbox.gives_pdu(cid) {
-            self.awake[conn] = true;
+            self.awake.wake(conn);
             self.tell(Action::Ready { cid });
         }
     }
@@ -92,6 +103,6 @@ impl Desk {
         requires { conn < length self.old.state.outbox.limits.cids }
         ensures { self.new ≡ asleep conn self.old }
     {
-        self.awake[conn] = false;
+        self.awake.put_to_sleep(conn);
     }
 }

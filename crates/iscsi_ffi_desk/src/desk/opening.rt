@@ -6,6 +6,7 @@ ghost use Rattle.iscsi_outbox.specs.promises.Options.{limits_of};
 ghost use Rattle.iscsi_ffi_desk.specs.Options.{is_valid as valid_options, opened};
 ghost use Rattle.iscsi_ffi_desk.specs.Rooms.{AreBuffers, AreFew, AreRooms, AreTables};
 
+use crate::awake::Awake;
 use crate::desk::Desk;
 use iscsi_ffi_commands::Commands;
 use iscsi_ffi_rules::Action;
@@ -99,7 +100,7 @@ fn open_tables(alloc: Global, rooms: &Rooms, window: u32, units: u32) -> Result<
 #[derive(Drop)]
 struct Buffers {
     withheld: Vec<u64>,
-    awake: Vec<bool>,
+    awake: Awake,
     over: Vec<bool>,
     actions: Vec<Action>,
     forgets: Vec<Action>,
@@ -111,7 +112,7 @@ fn open_buffers(alloc: Global, conns: usize, room: usize) -> Result<Buffers, All
 {
     Ok(Buffers {
         withheld: Vec::with_capacity(alloc, room)?,
-        awake: flags(alloc, conns)?,
+        awake: Awake::none(alloc, conns)?,
         over: flags(alloc, conns)?,
         actions: Vec::with_capacity(alloc, room)?,
         forgets: Vec::with_capacity(alloc, room)?,

@@ -1,6 +1,7 @@
 //! A request arrives.
 
 ghost use Rattle.std.specs.Prelude.{◌≡◌};
+ghost use Rattle.iscsi_wire.specs.Fields.{cmd_sn};
 ghost use Rattle.iscsi_requests.specs.Cookies.{next_place};
 ghost use Rattle.iscsi_ffi_steps.specs.Steps.{hold};
 ghost use Rattle.iscsi_ffi_desk.specs.Calls.{entered_request};
@@ -28,5 +29,13 @@ impl Desk {
         ensures { self.new ≡ hold request.now place self.old }
     {
         self.held.put(request.cmd_sn(), place);
+    }
+
+    /// The same of a request that isn't read yet, by its CmdSN.
+    #[inline(always)]
+    pub fn hold_number(&mut self, number: u32, place: u32)
+        ensures { (r : Request) → cmd_sn r ≡ number → self.new ≡ hold r place self.old }
+    {
+        self.held.put(number, place);
     }
 }

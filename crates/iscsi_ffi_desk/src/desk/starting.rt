@@ -1,9 +1,9 @@
 //! What starts, and which resets other sessions' commands wait for.
 
-ghost use Rattle.std.specs.Prelude.{◌≡◌, ◌≤◌, [], ◌∷◌, ◌++◌, drop, filter_map, length, take};
+ghost use Rattle.std.specs.Prelude.{◌≡◌, ◌≤◌, [], ◌∷◌, ◌++◌, drop, filter_map, length, take, Some};
 ghost use Rattle.iscsi_rules.specs.rules.Execution.{unit_named};
 ghost use Rattle.iscsi_outbox_rules.specs.rules.Items.{ticket_enabled};
-ghost use Rattle.iscsi_ffi_commands.specs.Commands.{is_clearing};
+ghost use Rattle.iscsi_ffi_commands.specs.Commands.{find_ticket, is_clearing};
 ghost use Rattle.iscsi_ffi_steps.specs.State.{inserted, is_withheld, withhold};
 ghost use Rattle.iscsi_ffi_steps.specs.Steps.{reset_in, resets_in, start, start_each};
 ghost use Rattle.iscsi_ffi_steps.specs.Walk.{tell_all};
@@ -83,14 +83,15 @@ impl Desk {
         ensures { self.new ≡ start_each (ticket ∷ []) self.old }
     {
         match self.commands.find(ticket) {
-            Some(command) if command.stage != Stage::Over => self.start(&command),
+            Some(command) if command.stage != Stage::Over => self.start(ticket, &command),
             _ => {}
         }
     }
 
     /// A command that was enabled starts, or is to be completed.
     #[inline(always)]
-    fn start(&mut self, command: &Command)
+    fn start(&mut self, ticket: u64, command: &Command)
+        requires { find_ticket ticket self.old.state.commands ≡ Some command.now }
         ensures { self.new ≡ start command.now self.old }
     {
         if self.is_withheld(command) {
@@ -98,7 +99,7 @@ impl Desk {
             return;
         }
         let cookie = self.cookie(command.request);
-        self.set_stage(command.ticket, Stage::Started);
+        self.advance(ticket, command, Stage::Started);
         self.tell(Action::Start {
             ticket: command.ticket,
             unit: command.unit,

@@ -1,12 +1,13 @@
 //! What is told, and which requests are forgotten.
 
-ghost use Rattle.std.specs.Prelude.{◌≡◌};
+ghost use Rattle.std.specs.Prelude.{◌≡◌, Some};
+ghost use Rattle.iscsi_ffi_commands.specs.Commands.{find_ticket};
 ghost use Rattle.iscsi_ffi_rules.specs.declared.action.Action.TheVariants.{Forget};
 ghost use Rattle.iscsi_ffi_steps.specs.Walk.{release, release_if, tell, with_room, with_stage};
 ghost use Rattle.iscsi_requests.specs.Cookies.{cookie_at};
 
 use crate::desk::Desk;
-use iscsi_ffi_commands::Stage;
+use iscsi_ffi_commands::{Command, Stage};
 use iscsi_ffi_rules::Action;
 
 impl Desk {
@@ -72,5 +73,14 @@ impl Desk {
         ensures { self.new ≡ record { state = with_stage stage ticket self.old.state; actions = self.old.actions; forgets = self.old.forgets } }
     {
         self.commands.set_stage(ticket, stage);
+    }
+
+    /// So does one that was found by this ticket.
+    #[inline(always)]
+    pub(super) fn advance(&mut self, ticket: u64, command: &Command, stage: Stage)
+        requires { find_ticket ticket self.old.state.commands ≡ Some command.now }
+        ensures { self.new ≡ record { state = with_stage stage command.now.ticket self.old.state; actions = self.old.actions; forgets = self.old.forgets } }
+    {
+        self.commands.advance(ticket, command, stage);
     }
 }

@@ -5,7 +5,7 @@ ghost use Rattle.iscsi_rules.specs.declared.effect.Why.{Why};
 ghost use Rattle.iscsi_rules.specs.declared.effect.Effect.TheVariants.{Ignore};
 ghost use Rattle.iscsi_outbox_steps.specs.State.{place_of};
 ghost use Rattle.iscsi_ffi_commands.specs.Commands.{is_going, is_marked};
-ghost use Rattle.iscsi_ffi_steps.specs.Walk.{answering, conn_of, deliver, empty, end_item, enter, function_on, immediate, leave, may_wait, on_effect, on_effects, send, send_as, take_out, told_to_stop, wait};
+ghost use Rattle.iscsi_ffi_steps.specs.Walk.{answering, conn_of, deliver, empty, end_item, enter, function_on, immediate, leave, may_wait, on_effect, on_effects, release, send, send_as, take_out, told_to_stop, wait};
 ghost use Rattle.iscsi_ffi_steps.specs.Steps.{walk_from};
 ghost use Rattle.iscsi_ffi_desk.specs.declared.course.Course.{Course};
 ghost use Rattle.iscsi_ffi_desk.specs.Courses.{executing, walk_of};
@@ -54,9 +54,19 @@ impl Desk {
     pub(super) fn end_item(&mut self, course: &mut Course)
         ensures { walk_of self.new course.new ≡ end_item (walk_of self.old course.old) }
     {
-        self.release_if(course.current);
+        if let Some(request) = course.current {
+            self.drop_request(request);
+        }
         course.current = None;
         course.by = None;
+    }
+
+    /// A request is over that no reply or command has. Mostly there is none.
+    #[inline(never)]
+    fn drop_request(&mut self, request: u32)
+        ensures { self.new ≡ release request self.old }
+    {
+        self.release(request);
     }
 
     /// A numbered request executes, which was held.
@@ -150,7 +160,7 @@ impl Desk {
         match course.by {
             Some(why) => self.take_out(&command, why),
             None => {
-                self.set_stage(command.ticket, Stage::Over);
+                self.advance(ticket, &command, Stage::Over);
                 course.current = Some(command.request);
             }
         }

@@ -1,5 +1,5 @@
 -- Walks over the effects of an event, as the code takes them. For private contracts alone.
-use Rattle.std.specs.Prelude.{ℕ, ◌==◌, ◌^◌, ◌&&◌, ◌||◌, ◌++◌, not, nat_le, nat_lt, filter, filter_map, slice_index_or, Bool, true, false, List, [], ◌∷◌, Option, Some, None, if◌then◌else◌}
+use Rattle.std.specs.Prelude.{◌≡◌, ℕ, ◌==◌, ◌^◌, ◌&&◌, ◌||◌, ◌++◌, not, nat_le, nat_lt, filter, filter_map, slice_index_or, Bool, true, false, List, [], ◌∷◌, Option, Some, None, if◌then◌else◌}
 use Rattle.iscsi_wire.specs.declared.request.Request.{Request}
 use Rattle.std.specs.List.{list_any}
 use Rattle.iscsi_wire.specs.declared.reply.Reply.{Reply}
@@ -18,7 +18,7 @@ use Rattle.iscsi_tracked.specs.declared.command.Phase.{Phase}
 use Rattle.iscsi_tracked.specs.declared.command.Phase.TheVariants.{Dormant, Fresh, Started, Running, Gone}
 use Rattle.iscsi_tracked.specs.Tracked.{find_ticket}
 use Rattle.iscsi_outbox_steps.specs.State.{State, place_of}
-use Rattle.iscsi_outbox_steps.specs.Steps.{after_items, close_each, enter_command, entering, tell}
+use Rattle.iscsi_outbox_steps.specs.Steps.{after_items, close_each, enter_command, entering, is_dormant, tell}
 
 abbrev pub is_close : Effect → Bool
 is_close (CloseConn conn) = true
@@ -32,6 +32,13 @@ is_numbered_of s ticket = elim (find_ticket ticket s.tracked) [ Some c ↦ c.num
 -- a command enters by a request
 abbrev pub entered_one : Request → ℕ → ℕ → State → State
 entered_one r ticket unit s = elim (place_of s (connection_of r)) [ Some conn ↦ enter_command (entering conn r ticket unit) s | None ↦ s ]
+
+-- the command with this ticket has this place, and isn't enabled yet
+pub record HasEntered (ticket place : ℕ) (s : State) : Type 0 where
+  pub command : Command
+  pub found : find_ticket ticket s.tracked ≡ Some command
+  pub at : command.place ≡ place
+  pub dormant : is_dormant command ≡ true
 
 abbrev pub is_same_phase : Phase → Phase → Bool
 is_same_phase Dormant Dormant = true

@@ -1,6 +1,7 @@
 //! What may go out on a connection next (RFC 7143 sections 4.2.2.2 and 4.2.2.3).
 
-ghost use Rattle.std.specs.Prelude.{◌≡◌, ◌<◌, ℕ, Bool, length, option_map};
+ghost use Rattle.std.specs.Prelude.{◌≡◌, ◌&&◌, ◌<◌, not, nat_lt, ℕ, Bool, length, option_map};
+ghost use Rattle.iscsi_arrivals.specs.Counts.{is_behind_logout_by};
 ghost use Rattle.iscsi_outbox_steps.specs.State.{is_asked_for, is_fence_elsewhere, is_fence_here, is_fence_out, is_over, link_at, passes, wants_notice, wants_ping};
 ghost use Rattle.iscsi_outbox_steps.specs.Steps.{chosen};
 ghost use Rattle.iscsi_outbox.specs.rules.Words.{gives};
@@ -33,7 +34,7 @@ impl Outbox {
         if !link.is_open() || link.is_exhausted() {
             return None;
         }
-        if self.wants_ping(conn, &link) {
+        if self.wants_ping(conn) {
             return Some(Choice::Ping);
         }
         match self.waits.front(conn) {
@@ -131,7 +132,6 @@ impl Outbox {
     }
 
     /// Whether something waits for what was handed out on a connection to arrive, or may soon.
-    #[inline(never)]
     fn is_asked_for(&self, conn: usize, link: &Arrivals) -> bool
         requires conn { conn < length self.now.limits.cids }
         requires link { link.now ≡ link_at self.now conn }
@@ -144,15 +144,21 @@ impl Outbox {
 
     /// Whether a ping goes out on a connection.
     #[inline(always)]
-    fn wants_ping(&self, conn: usize, link: &Arrivals) -> bool
-        requires conn { conn < length self.now.limits.cids }
-        requires link { link.now ≡ link_at self.now conn }
+    fn wants_ping(&self, conn: usize) -> bool
+        requires { conn < length self.now.limits.cids }
         ensures { result ≡ wants_ping conn self.now }
     {
-        self.links.looks()
-            && self.is_asked_for(conn, link)
-            && !link.is_asking()
-            && !link.is_behind_logout()
+        self.links.looks() && self.may_ask(conn)
+    }
+
+    /// Whether one does, where it is looked whether what was written arrived.
+    #[inline(never)]
+    fn may_ask(&self, conn: usize) -> bool
+        requires { conn < length self.now.limits.cids }
+        ensures { result ≡ (is_asked_for conn self.now && not (nat_lt (link_at self.now conn).answered (link_at self.now conn).pings) && not (is_behind_logout_by (link_at self.now conn))) }
+    {
+        let link = self.links.at(conn);
+        self.is_asked_for(conn, &link) && !link.is_asking() && !link.is_behind_logout()
     }
 
     /// Whether a connection says that more may be shown: all numbers that were shown are used, and nothing waits there.

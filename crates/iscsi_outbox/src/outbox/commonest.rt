@@ -1,6 +1,6 @@
 //! The commonest events, straight: what they lack needs no look.
 
-ghost use Rattle.std.specs.Prelude.{◌≡◌, ◌||◌, ◌<◌, ℕ, List, [], ◌∷◌, length, None};
+ghost use Rattle.std.specs.Prelude.{◌≡◌, ◌≢◌, ◌||◌, ◌<◌, ℕ, List, [], ◌∷◌, length, None};
 ghost use Rattle.iscsi_tasks.specs.declared.task.Attr.{Attr};
 ghost use Rattle.iscsi_rules.specs.declared.effect.Effect.{Effect};
 ghost use Rattle.iscsi_rules.specs.declared.effect.Effect.TheVariants.{Deliver, Enable, Enter, Leave, Send};
@@ -8,7 +8,7 @@ ghost use Rattle.iscsi_tracked.specs.declared.command.Phase.TheVariants.{Fresh, 
 ghost use Rattle.iscsi_outbox_steps.specs.Steps.{enter, in_phase_if, is_dormant, is_fresh, placed, reply_item, send_placed, settle, taken};
 ghost use Rattle.iscsi_outbox_law.specs.promises.Called.{KeepsAllPromises, KeepsToRules};
 ghost use Rattle.iscsi_outbox_rules.specs.rules.Calls.{Takes};
-ghost use Rattle.iscsi_outbox.specs.private.Walks.{after_event};
+ghost use Rattle.iscsi_outbox.specs.private.Walks.{HasEntered, after_event};
 
 use crate::outbox::Outbox;
 use crate::outbox::sending::reply_item;
@@ -108,12 +108,38 @@ impl Outbox {
         ensures { (attr : Attr) (of : ℕ) → self.new ≡ after_event (Deliver request.now ∷ Enter ticket unit attr ∷ Enable enabled of ∷ []) self.old }
     {
         self.settle();
-        self.enter_one(request, ticket, unit);
-        self.enable_one(enabled);
+        let place = self.enter_one(request, ticket, unit);
+        self.enable_behind(place, ticket, enabled);
+    }
+
+    /// A command is enabled by an event in which one entered: mostly that one, whose place is known. 0: none did.
+    #[inline(always)]
+    fn enable_behind(&mut self, place: u32, ticket: u64, enabled: u64)
+        requires { place ≢ 0 → HasEntered ticket place self.old }
+        ensures { self.new ≡ in_phase_if is_fresh Started enabled (settle (in_phase_if is_dormant Fresh enabled self.old)) }
+    {
+        if place != 0 && enabled == ticket {
+            self.enable_entered(place, ticket);
+        } else {
+            self.enable_one(enabled);
+        }
+    }
+
+    /// The one that entered is enabled.
+    #[inline(always)]
+    fn enable_entered(&mut self, place: u32, ticket: u64)
+        requires { HasEntered ticket place self.old }
+        ensures { self.new ≡ in_phase_if is_fresh Started ticket (settle (in_phase_if is_dormant Fresh ticket self.old)) }
+    {
+        if self.lane.answers_waiting() == 0 {
+            self.tracked.set_phase(place, Phase::Started);
+        } else {
+            self.start_behind(ticket);
+        }
     }
 
     /// A command is enabled by an event, answers become due by that, and it counts as started.
-    #[inline(always)]
+    #[inline(never)]
     fn enable_one(&mut self, ticket: u64)
         ensures { self.new ≡ in_phase_if is_fresh Started ticket (settle (in_phase_if is_dormant Fresh ticket self.old)) }
     {

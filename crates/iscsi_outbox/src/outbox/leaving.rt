@@ -1,10 +1,10 @@
 //! Commands enter, are enabled and leave.
 
-ghost use Rattle.std.specs.Prelude.{◌≡◌, ◌<◌, ◌≤◌, filter_map, length, None, true, if◌then◌else◌};
+ghost use Rattle.std.specs.Prelude.{◌≡◌, ◌≢◌, ◌<◌, ◌≤◌, filter_map, length, None, true, if◌then◌else◌};
 ghost use Rattle.iscsi_outbox_rules.specs.rules.Items.{ticket_enabled, tickets_left};
 ghost use Rattle.iscsi_outbox_steps.specs.Steps.{completed, enable, enter_command, enter_commands, enter_each, in_phase_if, is_numbered, is_started, leave, leave_one, taken_out, tell};
 ghost use Rattle.iscsi_tracked.specs.Tracked.{has_place};
-ghost use Rattle.iscsi_outbox.specs.private.Walks.{entered_one, is_in, is_numbered_of};
+ghost use Rattle.iscsi_outbox.specs.private.Walks.{HasEntered, entered_one, is_in, is_numbered_of};
 
 use crate::outbox::Outbox;
 use crate::outbox::own::is_live;
@@ -144,35 +144,40 @@ impl Outbox {
         }
     }
 
-    /// A command enters, of a connection of the session.
+    /// A command enters, of a connection of the session: its place; 0: it has none.
     #[inline(always)]
-    pub(crate) fn enter_one(&mut self, request: &Request, ticket: u64, unit: u16)
-        ensures { self.new ≡ entered_one request.now ticket unit self.old }
+    pub(crate) fn enter_one(&mut self, request: &Request, ticket: u64, unit: u16) -> u32
+        ensures state { self.new ≡ entered_one request.now ticket unit self.old }
+        ensures place { result ≢ 0 → HasEntered ticket result self.new }
     {
-        if let Some(conn) = self.cids.place(request.conn()) {
-            self.enter_command(Entering {
+        match self.cids.place(request.conn()) {
+            Some(conn) => self.enter_command(Entering {
                 ticket,
                 conn: conn as u16,
                 unit,
                 tag: request.itt(),
                 numbered: !request.immediate(),
-            });
+            }),
+            None => 0,
         }
     }
 
-    /// A command enters, if there is a place, its ticket is above those before and its unit is one of the session's.
+    /// A command enters, if there is a place, its ticket is above those before and its unit is one of the session's: its place; 0: it
+    /// has none.
     #[inline(always)]
-    fn enter_command(&mut self, command: Entering)
+    fn enter_command(&mut self, command: Entering) -> u32
         requires { command.conn < length self.old.limits.cids }
-        ensures { self.new ≡ enter_command command self.old }
+        ensures state { self.new ≡ enter_command command self.old }
+        ensures place { result ≢ 0 → HasEntered command.ticket result self.new }
     {
         self.tracked.known();
         if self.tracked.is_full() {
-            return;
+            return 0;
         }
         if self.tracked.last() < command.ticket && u32::from(command.unit) < self.units {
-            self.tracked.enter(command);
+            return self.tracked.enter(command);
         }
+        0
     }
 
     /// The commands of an item that are enabled by it are so from now on.

@@ -75,6 +75,7 @@ impl Outbox {
     }
 
     /// The command with this ticket that is kept.
+    #[inline(always)]
     pub(crate) fn kept(&self, ticket: u64) -> Option<Command>
         ensures answer { result ≡ find_ticket ticket self.now.tracked }
         ensures conn { IfSome result (λ c. c.conn < length self.now.limits.cids) }
@@ -105,6 +106,7 @@ impl Outbox {
 }
 
 /// Whether a command is in its task set.
+#[inline(always)]
 pub(crate) fn is_live(command: &Command) -> bool
     ensures { result ≡ is_live command.now }
 {

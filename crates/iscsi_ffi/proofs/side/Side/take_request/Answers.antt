@@ -1,5 +1,4 @@
 use Rattle.std.proofs.Common.{◌≡◌, ◌∙◌, ℕ, List, Option, sym, ap, subst}
-use Rattle.iscsi_wire.specs.declared.request.Request.{Request}
 use Rattle.iscsi_wire.specs.Fields.{request_of}
 use Rattle.iscsi_rules.specs.declared.effect.Effect.{Effect}
 use Rattle.iscsi_rules.specs.declared.effect.Numbers.{Numbers}
@@ -37,9 +36,8 @@ returns-in-Ok c = λ i g b known fewer.
     let now = the_view c.self-in-Ok.inside in
     let w = record v { host = host; taken = c.following-self-inside.result; desk = held v.desk } in
     let is : now ≡ w =
-    c.self-in-Ok.view_is ∙ c.place_request-own.ensures.state
-    ∙ ap (λ (q : Request). record v { host = host; taken = c.following-self-inside.result; desk = held_of q place es v.desk }) c.read-request.ensures in
-    let own : c.place_request-own.result ≡ own_of r place es = c.place_request-own.ensures.own ∙ ap (λ (q : Request). own_of q place es) c.read-request.ensures in
+    c.self-in-Ok.view_is ∙ c.place_request-own.ensures.state in
+    let own : c.place_request-own.result ≡ own_of r place es = c.place_request-own.ensures.own in
     let told : c.take.new.self ≡ takes (own_of r place es) (record { numbers = host.numbers; effects = es }) (held v.desk) =
     c.take.ensures
     ∙ ap (λ (x : Option ℕ). takes x (record { numbers = c.event_numbers.result; effects = c.effects.result.now }) c.self-in-Ok.inside.desk) own

@@ -11,5 +11,5 @@ returns c = λ attr unit.
     let r = c.args.request.now in
     let enabled = c.args.enabled in
     let enter = λ (s : State). entered_one r c.args.ticket c.args.unit s in
-    c.enable_one.ensures
-    ∙ ap (λ (s : State). in_phase_if is_fresh Started enabled (settle (in_phase_if is_dormant Fresh enabled s))) (c.enter_one.ensures ∙ ap enter c.settle.ensures ∙ sym (close_nothing (Some r) (enter (settle c.args.self.now))))
+    c.enable_behind.ensures
+    ∙ ap (λ (s : State). in_phase_if is_fresh Started enabled (settle (in_phase_if is_dormant Fresh enabled s))) (c.enter_one-place.ensures.state ∙ ap enter c.settle.ensures ∙ sym (close_nothing (Some r) (enter (settle c.args.self.now))))

@@ -1,6 +1,6 @@
 use Rattle.std.proofs.Common.{◌≡◌, drop}
 use Rattle.iscsi_ffi_steps.specs.Steps.{tell_each}
-use Rattle.iscsi_ffi_desk.proofs.desk.Desk.tell_ready.Given as goal
+use Rattle.iscsi_ffi_desk.proofs.desk.Desk.tell_each_ready.Given as goal
 
 abbrev pub invariant-loop-conn : goal.invariant-loop-conn
 invariant-loop-conn l = record {
