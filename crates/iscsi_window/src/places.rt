@@ -112,7 +112,7 @@ pub(crate) fn at(places: &Places, k: u32) -> Received
 
 /// Holds a request at place `k` with the event in which it arrived, and answers true. Where the place's number was
 /// received before, the answer is false and nothing changes.
-// It is inlined, and looks at the request where it stands: so it is copied once.
+// It is inlined, and the request is looked at where it stands, before its place is written.
 #[inline(always)]
 pub(crate) fn hold(places: &mut Places, k: u32, request: &Request, event: u64) -> bool
     requires { k < length places.old.items }
