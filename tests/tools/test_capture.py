@@ -605,8 +605,9 @@ class Tool(unittest.TestCase):
         self.refused("No such file", os.path.join(self.folder, "none.pcap"))
         self.refused("Is a directory", self.folder)
         self.refused("empty", self.file("empty.pcap"))
-        self.refused("capture", self.file("text.pcap", b"hello, this is a text\n" * 40))
-        self.refused("capture", self.file("binary.pcap", bytes(range(256)) * 9))
+        why = "text.pcap: .*capture file" if HAS_TSHARK else "no pcap or pcapng of a common kind, and tshark is missing"
+        self.refused(why, self.file("text.pcap", b"hello, this is a text\n" * 40))
+        self.refused(why.replace("text", "binary"), self.file("binary.pcap", bytes(range(256)) * 9))
 
     def test_a_capture_cut_in_its_last_packet(self):
         with open(os.path.join(CAPTURES, "reset.pcapng"), "rb") as file:
