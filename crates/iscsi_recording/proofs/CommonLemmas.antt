@@ -28,10 +28,11 @@ the_line w bytes size e number fresh h =
     ap (λ p. read_line w.line (view w.so_far) (p ++ take size bytes)) fresh
     ∙ read_event w.line (view w.so_far) (take size bytes) e number (omega (arith, h.short, length-take size bytes)) h.said
 
-pub common_taken : (w v : Reading) (bytes : List ℕ) (size : ℕ) → IsReading w → w.line ≤ 1048576 → w.pending.items ≡ []
-    → v.line ≡ w.line → v.pending.items ≡ [] → TookFirst (view w.so_far) (view v.so_far) bytes size
-    → HasTakenCommon w (record v { line = v.line + 1 }) bytes size
-common_taken w v bytes size ready number fresh line pending h =
+pub common_taken : (w v : Reading) (bytes : List ℕ) (taken : ℕ) → IsReading w → w.line ≤ 1048576 → w.pending.items ≡ []
+    → v.line ≡ w.line → v.pending.items ≡ [] → TookFirst (view w.so_far) (view v.so_far) bytes taken
+    → HasTakenCommon w (record v { line = v.line + 1 }) bytes taken
+common_taken w v bytes taken ready number fresh line pending h =
+    let size = h.size in
     let says = h.says in
     let long = says.long in
     let whole : length (take size bytes) ≡ size = omega (arith, long, length-take size bytes) in
@@ -41,12 +42,13 @@ common_taken w v bytes size ready number fresh line pending h =
       pending = pending;
     } in
     let more = ended_more w v (take size bytes) ready ended in
-    record {
-      long = long;
+    rw h.with_end (record {
+      long = omega (arith, long);
       ready = ended_ready w v (w.pending.items ++ take size bytes) ready ended;
+      fresh = pending;
       read = λ rest. ended_left w v (take size bytes) (drop (size + 1) bytes ++ rest) ready says.one ended ∙ ap (left_of w) (split_at_end bytes size rest long says.end);
       more = omega (arith, more, whole);
-    }
+    })
 
 -- where no line of the common form was taken, and the front of another is kept
 pub kept_reads : (u v w : Reading) (left chunk : List ℕ) (n : List ℕ → Result Recorded ReplayFault) → v ≡ w

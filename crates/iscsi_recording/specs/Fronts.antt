@@ -29,8 +29,10 @@ pub record FirstSays (bytes : List ℕ) (size : ℕ) (e : Event) : Type 0 where
   pub said : line_of (take size bytes) ≡ Some (line.Event e)
   pub one : list_any is_end (take size bytes) ≡ false
 
--- the recording r took the event that the first line of the bytes says, and became s
-pub record TookFirst (r s : Recorded) (bytes : List ℕ) (size : ℕ) : Type 0 where
+-- the recording r took the event that the first line of the bytes says, and became s. So many bytes has that line with its end
+pub record TookFirst (r s : Recorded) (bytes : List ℕ) (taken : ℕ) : Type 0 where
+  pub size : ℕ
+  pub with_end : taken ≡ size + 1
   pub event : Event
   pub says : FirstSays bytes size event
   pub took : recorded.take r (line.Event event) ≡ Some s

@@ -1,5 +1,5 @@
 -- A recording that is being read.
-use Rattle.std.specs.Prelude.{◌≡◌, ℕ, ◌+◌, ◌-◌, ◌*◌, ◌<◌, ◌≤◌, ◌==◌, Bool, true, false, List, ◌++◌, length, drop, Option, Result, Ok, Err, ⊤}
+use Rattle.std.specs.Prelude.{[], ◌≡◌, ℕ, ◌+◌, ◌-◌, ◌*◌, ◌<◌, ◌≤◌, ◌==◌, Bool, true, false, List, ◌++◌, length, drop, Option, Result, Ok, Err, ⊤}
 use Rattle.std.specs.List.{list_any, list_all}
 use Rattle.std.specs.Io.KnownBytes.{Consumes}
 use Rattle.iscsi_rules.specs.rules.Settings.{are_distinct}
@@ -35,12 +35,13 @@ left_of w bytes = read_lines w.line (view w.so_far) (lines_of (w.pending.items +
 abbrev pub weight : Reading → ℕ
 weight w = (w.line - 1) * 257 + length w.pending.items
 
--- w took the first line of these bytes, which is an event and so many bytes long, with its end, and became v
+-- w took the first line of these bytes, which is an event and with its end so many bytes long, and became v
 pub record HasTakenCommon (w v : Reading) (bytes : List ℕ) (size : ℕ) : Type 0 where
-  pub long : size < length bytes
+  pub long : size ≤ length bytes
   pub ready : IsReading v
-  pub read : (rest : List ℕ) → left_of v (drop (size + 1) bytes ++ rest) ≡ left_of w (bytes ++ rest)
-  pub more : weight w + size + 1 ≤ weight v
+  pub fresh : v.pending.items ≡ []
+  pub read : (rest : List ℕ) → left_of v (drop size bytes ++ rest) ≡ left_of w (bytes ++ rest)
+  pub more : weight w + size ≤ weight v
 
 -- the known bytes lost a front that was seen, and with it v became w: whatever comes yet is read to the same answer
 pub record ReadsOn (old new : Option (List ℕ)) (v w : Reading) : Type 0 where

@@ -2,6 +2,7 @@
 
 ghost use Rattle.std.specs.Prelude.{◌≡◌, ◌==◌, ◌<◌, ◌^◌, [], ◌∷◌, ◌++◌, length, drop, slice_index, true, false, OnOk, OnErr};
 ghost use Rattle.byteorder.specs.Endian.{big_number};
+ghost use Rattle.iscsi_wire.specs.Fields.{connection_of, header_of, request_of};
 ghost use Rattle.iscsi_recording.specs.Dense.{bytes_of, Fits, first_size, event_in};
 ghost use Rattle.iscsi_recording.specs.Firsts.{begins_with_arrival, begins_with_completion};
 
@@ -9,6 +10,7 @@ use crate::bytes::Bytes;
 use crate::event_source::EventSource;
 use byteorder::{BigEndian, ByteOrder};
 use iscsi_rules::Event;
+use iscsi_wire::Request;
 use std::alloc::{AllocError, Global};
 use std::marker::Model;
 
@@ -162,15 +164,15 @@ fn read_event(bytes: &[u8], event: &mut Event)
     }
 }
 
-/// The CID and the header of the arrival that has these bytes.
+/// The request whose arrival has these bytes.
 #[inline(always)]
-fn arrival_in(bytes: &[u8]) -> (u16, [u8; 48])
+fn request_in(bytes: &[u8]) -> Request
     requires { length bytes.now ≡ 51 }
-    ensures { (result.0 ≡ big_number 2 (drop 1 bytes.now)) × (result.1 ≡ drop 3 bytes.now) }
+    ensures { result ≡ request_of (big_number 2 (drop 1 bytes.now)) (drop 3 bytes.now) }
 {
     let mut header = [0u8; 48];
     header.copy_from_slice(&bytes[3..]);
-    (BigEndian::read_u16(&bytes[1..]), header)
+    Request::read(BigEndian::read_u16(&bytes[1..]), &header)
 }
 
 /// The ticket and the status of the completion that has these bytes.
@@ -300,16 +302,16 @@ impl Cursor<'_> {
         self.left[0] == ARRIVAL
     }
 
-    /// The CID and the header of the arrival that comes next, which is passed.
+    /// The request whose arrival comes next, which is passed.
     #[inline(always)]
-    pub fn pass_arrival(&mut self) -> (u16, [u8; 48])
+    pub fn pass_arrival(&mut self) -> Request
         requires { begins_with_arrival self.old ≡ true }
-        ensures { self.old ≡ Event.Arrive result.0 result.1 ∷ self.new }
+        ensures { self.old ≡ Event.Arrive (connection_of result) (header_of result) ∷ self.new }
     {
         let (first, left) = self.left.split_at(ARRIVAL_SIZE);
         self.left = left;
         self.count -= 1;
-        arrival_in(first)
+        request_in(first)
     }
 
     /// The ticket and the status of the completion that comes next, which is passed.

@@ -68,12 +68,15 @@ fn two_digits_first(bytes: &[u8]) -> Option<(u16, usize)>
     ensures number { IfSome result (λ r. LeadsWith bytes.now r.0 r.1) }
     ensures most { IfSome result (λ r. (r.0 < 2 ^ 16) × (r.1 ≤ 5)) }
 {
-    let high = bytes[0];
-    let low = bytes[1];
-    if !(b'1'..=b'9').contains(&high) || !is_decimal(low) {
+    let tens = bytes[0].wrapping_sub(b'1');
+    if tens > 8 {
         return None;
     }
-    Some((u16::from(high - b'0') * 10 + u16::from(low - b'0'), 2))
+    let ones = bytes[1].wrapping_sub(b'0');
+    if ones > 9 {
+        return None;
+    }
+    Some((u16::from(tens) * 10 + u16::from(ones) + 10, 2))
 }
 
 /// The CID of up to five digits at the front of these bytes, and how many it has. `None` decides nothing.

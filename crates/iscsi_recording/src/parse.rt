@@ -203,18 +203,18 @@ const ARRIVAL_MARK: u16 = 0x2043;
 
 const COMPLETION_MARK: u16 = 0x2044;
 
-/// Whether the letter of an arrival and a blank stand first.
+/// Whether more bytes stand here than the shortest arrival has, and first its letter and a blank.
 #[inline(always)]
-fn begins_arrival(bytes: &[u8]) -> bool
-    requires { 1 < length bytes.now }
-    ensures { result ≡ true → (slice_index bytes.now 0 ≡ 67) × (slice_index bytes.now 1 ≡ 32) }
+pub fn begins_arrival(bytes: &[u8]) -> bool
+    ensures long { result ≡ true → 100 < length bytes.now }
+    ensures mark { result ≡ true → (slice_index bytes.now 0 ≡ 67) × (slice_index bytes.now 1 ≡ 32) }
 {
-    u16::from_le_bytes([bytes[0], bytes[1]]) == ARRIVAL_MARK
+    bytes.len() > SHORTEST_ARRIVAL && u16::from_le_bytes([bytes[0], bytes[1]]) == ARRIVAL_MARK
 }
 
 /// Whether more bytes stand here than the longest completion in its common form has, and first its letter and a blank.
 #[inline(always)]
-pub fn begins_completion(bytes: &[u8]) -> bool
+fn begins_completion(bytes: &[u8]) -> bool
     ensures long { result ≡ true → 23 < length bytes.now }
     ensures mark { result ≡ true → (slice_index bytes.now 0 ≡ 68) × (slice_index bytes.now 1 ≡ 32) }
 {
@@ -229,7 +229,7 @@ pub fn begins_completion(bytes: &[u8]) -> bool
 pub fn short_arrival(bytes: &[u8]) -> Option<(u16, [u8; 48], usize)>
     ensures { IfSome result (λ r. FirstSays bytes.now r.2 (Event.Arrive r.0 r.1)) }
 {
-    if bytes.len() <= SHORTEST_ARRIVAL || !begins_arrival(bytes) {
+    if !begins_arrival(bytes) {
         return None;
     }
     let conn = one_digit_first(&bytes[2..])?;
@@ -241,7 +241,7 @@ pub fn short_arrival(bytes: &[u8]) -> Option<(u16, [u8; 48], usize)>
 pub fn longer_arrival(bytes: &[u8]) -> Option<(u16, [u8; 48], usize)>
     ensures { IfSome result (λ r. FirstSays bytes.now r.2 (Event.Arrive r.0 r.1)) }
 {
-    if bytes.len() <= SHORTEST_ARRIVAL || !begins_arrival(bytes) {
+    if !begins_arrival(bytes) {
         return None;
     }
     let conn = longer_cid_first(&bytes[2..])?;
@@ -257,13 +257,12 @@ fn arrival_behind(bytes: &[u8], conn: u16, count: usize) -> Option<(u16, [u8; 48
     requires few { count ≤ 5 }
     ensures { IfSome result (λ r. FirstSays bytes.now r.2 (Event.Arrive r.0 r.1)) }
 {
-    let rest = &bytes[2..];
-    let end = count + 97;
-    if rest.len() <= end || rest[end] != b'\n' {
+    let end = count + 99;
+    if bytes.len() <= end || bytes[end] != b'\n' {
         return None;
     }
-    let header = decode_48(&rest[count + 1..end])?;
-    Some((conn, header, end + 2))
+    let header = decode_48(&bytes[count + 3..end])?;
+    Some((conn, header, end))
 }
 
 /// The byte of two hexadecimal digits.

@@ -94,6 +94,7 @@ impl Reading {
         ensures ok { OnOk result ((rest : List ℕ) → left_of self.new rest ≡ left_of self.old (last.now ++ 10 ∷ rest)) }
         ensures err { IfErr result (λ e. (rest : List ℕ) → Fails e (left_of self.old (last.now ++ 10 ∷ rest))) }
         ensures more { OnOk result (weight self.old + length last.now + 1 ≤ weight self.new) }
+        ensures fresh { OnOk result (self.new.pending.items ≡ []) }
     {
         self.complete(last)?;
         self.line += 1;
@@ -101,14 +102,16 @@ impl Reading {
     }
 
     /// Takes the first line of these bytes with its end, where it is a whole event in a common form, and tells how many
-    /// bytes it has without its end. Otherwise it answers 0: whatever is wrong with a line is left to `end_line`.
+    /// bytes it has with its end. Otherwise it answers 0: whatever is wrong with a line is left to `end_line`. Nothing of the
+    /// line came in a chunk before.
     #[inline(always)]
     fn take_common(&mut self, left: &[u8]) -> usize
-        requires { IsReading self.old }
+        requires ready { IsReading self.old }
+        requires fresh { self.old.pending.items ≡ [] }
         ensures taken { 0 < result → HasTakenCommon self.old self.new left.now result }
         ensures not { result ≡ 0 → self.new ≡ self.old }
     {
-        if self.line > MAX_LINES || !self.pending.is_empty() {
+        if self.line > MAX_LINES {
             return 0;
         }
         let size = self.so_far.take_first(left);
@@ -127,11 +130,31 @@ impl Reading {
         ensures err { IfErr result (λ e. (rest : List ℕ) → Fails e (left_of self.old (chunk.now ++ rest))) }
         ensures more { OnOk result (weight self.old + length chunk.now ≤ weight self.new) }
     {
+        if self.pending.is_empty() {
+            return self.take_lines(chunk);
+        }
+        // The rest of the line that began in a chunk before.
+        let Some(at) = memchr(b'\n', chunk) else {
+            return self.keep(chunk);
+        };
+        self.end_line(&chunk[..at])?;
+        self.take_lines(&chunk[at + 1..])
+    }
+
+    /// The same, where nothing of the first line came in a chunk before.
+    fn take_lines(&mut self, chunk: &[u8]) -> Result<(), ReplayFault>
+        requires ready { IsReading self.old }
+        requires fresh { self.old.pending.items ≡ [] }
+        ensures ready { OnOk result (IsReading self.new) }
+        ensures ok { OnOk result ((rest : List ℕ) → left_of self.new rest ≡ left_of self.old (chunk.now ++ rest)) }
+        ensures err { IfErr result (λ e. (rest : List ℕ) → Fails e (left_of self.old (chunk.now ++ rest))) }
+        ensures more { OnOk result (weight self.old + length chunk.now ≤ weight self.new) }
+    {
         let mut left = chunk;
         'lines: loop {
             let size = self.take_common(left);
             if size > 0 {
-                left = &left[size + 1..];
+                left = &left[size..];
                 continue;
             }
             let Some(at) = memchr(b'\n', left) else {

@@ -11,7 +11,7 @@ use crate::events::Events;
 use crate::fault::ReplayFault;
 use crate::line::Line;
 use crate::parse::{
-    arrival, begins_completion, completion, first_completion, longer_arrival, parse_line,
+    arrival, begins_arrival, completion, first_completion, longer_arrival, parse_line,
     short_arrival,
 };
 use iscsi_rules::Event;
@@ -131,7 +131,7 @@ impl Recording {
             if !self.take_common(found.0, &found.1) {
                 return 0;
             }
-            return found.2;
+            return found.2 + 1;
         }
         let Some(found) = longer_arrival(bytes) else {
             return 0;
@@ -139,7 +139,7 @@ impl Recording {
         if !self.take_common(found.0, &found.1) {
             return 0;
         }
-        found.2
+        found.2 + 1
     }
 
     /// Takes the completion that the first line of these bytes says: as `take_first`. It asks for no memory here, so that a
@@ -155,21 +155,22 @@ impl Recording {
         if !self.events.push_completion_in_place(found.0, found.1) {
             return 0;
         }
-        found.2
+        found.2 + 1
     }
 
     /// Takes the event that the first line of these bytes says, where the line is there with its end and in a common
-    /// form, its connection is known and memory isn't wanting, and tells how many bytes the line has without its end.
+    /// form, its connection is known and memory isn't wanting, and tells how many bytes the line has with its end.
     /// Otherwise it answers 0, and the recording stays as it was.
     #[inline(always)]
     pub(crate) fn take_first(&mut self, bytes: &[u8]) -> usize
         ensures taken { 0 < result → TookFirst (view self.old) (view self.new) bytes.now result }
         ensures not { result ≡ 0 → self.new ≡ self.old }
     {
-        if begins_completion(bytes) {
-            return self.take_first_completion(bytes);
+        // Where there are as many bytes as an arrival has, no other test of their count is needed.
+        if begins_arrival(bytes) {
+            return self.take_first_arrival(bytes);
         }
-        self.take_first_arrival(bytes)
+        self.take_first_completion(bytes)
     }
 
     /// Takes the arrival that these bytes of line `number` say.

@@ -21,7 +21,7 @@ use iscsi_session::{Session, SessionFault};
 use iscsi_settings::Settings;
 use std::alloc::Global;
 
-/// Steps the session by the arrival that comes next, with its lines.
+/// Steps the session by the arrival that comes next, with its lines. The request is copied out of the recording alone.
 #[inline(always)]
 fn step_arrival(
     events: &mut Cursor<'_>,
@@ -32,9 +32,9 @@ fn step_arrival(
     requires rest { IsAtRest report.old }
     ensures { HasStepped events.old events.new session.old session.new report.old report.new result }
 {
-    let (conn, header) = events.pass_arrival();
-    let event = Event::Arrive { conn, header };
-    step(session, &event, report)
+    let request = events.pass_arrival();
+    report.begin_arrival(request.conn(), request.header());
+    session.arrive_into(&request, report)
 }
 
 /// Steps the session by the completion that comes next, with its lines. It isn't in memory, where the event would be

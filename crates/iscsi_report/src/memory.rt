@@ -38,6 +38,15 @@ pub(crate) fn has_room_to_begin(places: &mut Vec<usize>, memory: &mut Memory, le
     has_room(memory, len)
 }
 
+/// Whether there is room for a line more as memory is.
+#[inline(always)]
+pub(crate) fn has_room_left(memory: &Memory, len: usize) -> bool
+    requires { memory.now.room ≤ vec_len memory.now.text - 255 }
+    ensures { result ≡ true → len + 256 ≤ vec_len memory.now.text }
+{
+    len < memory.room
+}
+
 /// Whether there is room for a line more. Where memory is refused there isn't, and that is noted.
 #[inline(always)]
 pub(crate) fn has_room(memory: &mut Memory, len: usize) -> bool

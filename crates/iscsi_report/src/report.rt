@@ -14,7 +14,7 @@ use crate::effect_line::{
 };
 use crate::event_line::{write_arrival, write_completion};
 use crate::line::put_text;
-use crate::memory::{Memory, has_room, has_room_to_begin};
+use crate::memory::{Memory, has_room, has_room_left, has_room_to_begin};
 use crate::send_line::write_made_send;
 use crate::tens::Tens;
 use crate::vector::digits_of_four;
@@ -149,8 +149,11 @@ impl Report {
         if !self.memory.is_whole {
             return Err(AllocError);
         }
-        fill(numbers, &self.places, &mut self.memory.text);
-        self.places.clear();
+        // Most events that are passed over have no reply.
+        if !self.places.is_empty() {
+            fill(numbers, &self.places, &mut self.memory.text);
+            self.places.clear();
+        }
         Ok(())
     }
 
@@ -174,6 +177,19 @@ impl Report {
     {
         self.len = 0;
         self.places.clear();
+    }
+}
+
+impl Report {
+    /// The event is passed over, where there isn't room for its line yet.
+    #[inline(never)]
+    fn put_ignore_grown(&mut self, why: Why)
+        ensures { (text : List ℕ) (es : List SpecEffect) → HasLines self.old text es →
+            HasLines self.new text (es ++ SpecEffect.Ignore why ∷ []) }
+    {
+        if has_room(&mut self.memory, self.len) {
+            self.len = write_ignore(why, &mut self.memory.text, self.len);
+        }
     }
 }
 
@@ -285,10 +301,13 @@ impl EffectSink for Report {
         }
     }
 
+    // Where memory has to grow is a call of its own, so that who passes an event over needs no frame.
     #[inline(always)]
     fn put_ignore(&mut self, why: Why) {
-        if has_room(&mut self.memory, self.len) {
+        if has_room_left(&self.memory, self.len) {
             self.len = write_ignore(why, &mut self.memory.text, self.len);
+        } else {
+            self.put_ignore_grown(why);
         }
     }
 }

@@ -1,5 +1,5 @@
 -- What ABORT TASK finds: a session's lookups against those of the definitions.
-use Rattle.iscsi_session.proofs.Names.{◌≡◌, ℕ, suc, ◌+◌, ◌-◌, ◌<◌, ◌≤◌, ◌==◌, ◌&&◌, ⊎_elim, cond, Bool, true, false, List, [], ◌∷◌, length, map, filter, find, take, get_or, position, Option, Some, None, option_map, nat_lt, refl, ap, ◌∙◌, arith, ◌^◌, sym, range_with_len, cases_lt, false≢true, nat_tests, HeldRequest, Request, lift, wire, itt, lun, unit_of, is_immediate, rtt, cmd_sn, Arrived, number_expected, is_unit, holds_command, find_held, at_place, turned_on, Live, Setting, Arrival, Command, Trace, first_of, held, held_among, live, Mark, Delivers, Executes, waiting, exp_of, max_of, is_to, held_command, live_with_tag, Core, held_of, place_of, kept, WindowAgrees, arrival_waiting, Agrees, Settled, tagged_in, missing_by, Fits, held-number, held_received, is_sought, none_below, admitted_of_held, held_command-below, held_command-held, held_command-none, position-cons, Deed, facts_of, arrival_of, last_number, within_window}
+use Rattle.iscsi_session.proofs.Names.{◌≡◌, ℕ, suc, ◌+◌, ◌-◌, ◌<◌, ◌≤◌, ◌==◌, ◌&&◌, ⊎_elim, cond, Bool, true, false, List, [], ◌∷◌, length, map, filter, find, take, get_or, position, Option, Some, None, option_map, nat_lt, refl, ap, ◌∙◌, arith, ◌^◌, sym, range_with_len, cases_lt, false≢true, nat_tests, HeldRequest, Request, lift, wire, itt, lun, unit_of, is_immediate, rtt, cmd_sn, Arrived, number_expected, is_unit, holds_command, find_held, at_place, turned_on, Live, Setting, Arrival, Command, Trace, first_of, held, held_among, live, Mark, Delivers, Executes, waiting, exp_of, is_to, held_command, live_with_tag, Core, held_of, place_of, kept, arrival_waiting, Agrees, Settled, tagged_in, missing_by, Fits, held-number, held_received, is_sought, none_below, admitted_of_held, held_command-below, held_command-held, held_command-none, position-cons, Deed, facts_of, arrival_of, last_number, within_window}
 use Rattle.iscsi_session.proofs.WindowLemmas.{Next, WindowAgrees-turned, expected_past_next}
 use Rattle.iscsi_session.proofs.AgreeLemmas.{settled_expected, settled_max, Agrees-waits}
 use Rattle.iscsi_session.proofs.DeedLemmas.{is_of_number, missing_parts}

@@ -67,6 +67,7 @@ pub use Rattle.iscsi_session.specs.private.Invariant.{AreCommandsSound, AreFunct
 pub use Rattle.iscsi_session.specs.private.Standing.{Agrees, AreRoomy, CommandsAgree, Core, IsRegularRequest, Lasting, Match, RepliesAgree, SetsAgree, Settled, StandsFor, WaitingAgrees, WindowAgrees, are_ascending, are_known, are_within, arrival_waiting, held_of, is_held, is_place_known, is_regular, kept, member_of, open_of, place_of, set_of, stat_sn_on, task_of, tickets_in, tickets_of}
 pub use Rattle.iscsi_session.specs.private.Steps.{Appends, AreCounted, Continues, Handles, KeepsPace, Runs, Step, Takes, after_effect, all_commands_left, all_emptied, all_given, all_told, and_then, as_given, comes_on, command_entered, commands_left, completed, count_reply, counted_on, cover_of, covered_tickets, covers_by, covers_ticket, emptied_from, emptied_place, enable_effect, enable_effects, enabled_in, enabled_of, event_by, find_ticket, finished, finished_by, has_covered, immediate_in, is_among_open, is_clear_below, is_gone, is_immediate_on, is_numbered, leave_each, left_answered, logged_out, new_live, new_task, number_by, numbers_by, owed, replied, session_closes, set_at, set_staying, started, staying, still_open, unchanged, ungiven, ungiven_in, waiting_in, with_offered, without_ticket, without_tickets}
 pub use Rattle.iscsi_session.specs.promises.Bounds.{effect_bound_of, held_count}
+pub use Rattle.iscsi_session.specs.promises.Arrivals.{arrived}
 pub use Rattle.iscsi_session.specs.promises.Refusals.{RefusesAs, RunRefusesAs, first_refusal, refusal_of, refusal_of_options}
 pub use Rattle.iscsi_session.specs.promises.Settings.{setting_of}
 pub use Rattle.iscsi_slots.proofs.SortedLemmas.{find_nowhere, remove_is}
@@ -75,7 +76,7 @@ pub use Rattle.iscsi_tasks.specs.Sets.{Members, after_moment, entered_to, given_
 pub use Rattle.iscsi_tasks.specs.declared.cover.Cover.TheVariants.{All as AllOfThem, Below}
 pub use Rattle.iscsi_tasks.specs.declared.member.Member.{Member}
 pub use Rattle.iscsi_tasks.specs.declared.task.Task.{Task}
-pub use Rattle.iscsi_window.specs.Windows.{Arrived, HasRoom, IsInside, advanced, advanced_if, at_place, emptied, emptied_if, find_held, held_at, holds_command, holds_from, is_asked, is_next, is_received_at, is_unit, number_expected, number_shown, offer_to, offered_in, place_in, received_at, room_of, turned_on, voided, with_place, with_unfinished}
+pub use Rattle.iscsi_window.specs.Windows.{Arrived, HasRoom, IsInside, advanced, advanced_if, at_place, emptied, emptied_if, find_held, held_at, holds_command, holds_from, is_asked, is_next, is_received_at, is_unit, number_expected, number_shown, offer_at, offer_to, offered_in, place_in, received_at, room_of, turned_on, voided, with_place, with_unfinished}
 pub use Rattle.iscsi_window.specs.declared.answer.Offer.{Offer}
 pub use Rattle.iscsi_window.specs.declared.answer.Offer.TheVariants.{Held, Duplicate as Known, Outside as OutsideWindow}
 pub use Rattle.iscsi_window.specs.declared.answer.Place.{Place}

@@ -1,4 +1,5 @@
--- What the session promises: which calls it refuses, and how many effects an event gives.
+-- What the session promises: which calls it refuses, how many effects an event gives, and what event an arrival is.
 pub mod Settings
+pub mod Arrivals
 pub mod Refusals
 pub mod Bounds

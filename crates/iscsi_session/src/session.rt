@@ -1,9 +1,9 @@
 //! The session, and its step.
 
-ghost use Rattle.std.specs.Prelude.{IfSome, Err, ◌⊎◌, ◌*◌, ◌≡◌, ◌≢◌, ℕ, ◌+◌, ◌≤◌, ◌<◌, true, List, [], ◌∷◌, ◌++◌, None, OnOk, OnErr, IfOk, length, nat_lt, count_by, is_some, vec_len, vec_capacity};
+ghost use Rattle.std.specs.Prelude.{IfSome, Err, ◌⊎◌, ◌*◌, ◌≡◌, ◌≢◌, ℕ, ◌+◌, ◌≤◌, ◌<◌, true, List, [], ◌∷◌, ◌++◌, None, OnOk, OnErr, IfOk, length, nat_lt, not, Some, if◌then◌else◌, count_by, is_some, vec_len, vec_capacity};
 ghost use Rattle.std.specs.List.{list_all};
 ghost use Rattle.iscsi_rules.specs.declared.effect.Effect.{Effect as SpecEffect};
-ghost use Rattle.iscsi_rules.specs.rules.Settings.{Setting, is_valid};
+ghost use Rattle.iscsi_rules.specs.rules.Settings.{Setting, is_known as known_in, is_valid};
 ghost use Rattle.iscsi_session.specs.promises.Settings.{setting_of};
 ghost use Rattle.iscsi_connections.specs.Connected.{opened};
 ghost use Rattle.iscsi_rules.specs.rules.Trace.{Trace, live};
@@ -19,6 +19,7 @@ ghost use Rattle.iscsi_rules.specs.promises.Answers.{AnswersOnceIn};
 ghost use Rattle.iscsi_rules.specs.promises.Numbering.{CountsReplies};
 ghost use Rattle.iscsi_rules.specs.promises.Order.{KeepsOrder};
 ghost use Rattle.iscsi_rules.specs.promises.Meaning.{MeansWhatItSays};
+ghost use Rattle.iscsi_session.specs.promises.Arrivals.{arrived};
 ghost use Rattle.iscsi_session.specs.promises.Refusals.{RefusesAs, refusal_of, refusal_of_options};
 ghost use Rattle.iscsi_session.specs.promises.Bounds.{effect_bound_of, most_effects};
 ghost use Rattle.iscsi_session.specs.private.Standing.{Settled, StandsFor, is_held};
@@ -298,7 +299,10 @@ impl Session {
         ensures capacity { S.capacity out.new ≡ S.capacity out.old }
     {
         match event {
-            Event::Arrive { conn, header } => self.arrive(*conn, header, out),
+            Event::Arrive { conn, header } => {
+                let is_open = self.is_open(*conn);
+                self.arrive(&Request::read(*conn, header), is_open, out)
+            }
             Event::Done { ticket, status } => self.complete(*ticket, *status, out),
         }
     }
@@ -337,15 +341,90 @@ impl Session {
         Ok(self.take(event, sink))
     }
 
+    /// Takes the arrival of a request as `step_into` takes the event: the request, which its caller keeps, isn't copied.
+    ///
+    /// Refusals, in order: `UnknownConnection`, `Exhausted`. Each leaves the session and `sink` as they were.
+    #[inline(always)]
+    #[tactic(auto, using(crate::proofs::RunLemmas::not_memory, crate::proofs::AgendaLemmas::refusal_as, std::proofs::lemmas::Bool::Decides::nat_tests))]
+    pub fn arrive_into<S: EffectSink>(
+        &mut self,
+        request: &Request,
+        sink: &mut S,
+    ) -> Result<Numbers, SessionFault>
+        requires room { S.len sink.old + 18444 ≤ S.capacity sink.old }
+        ensures stands { (o : Setting) (h : List Event) → StandsFor o self.old h →
+            OnOk result (StandsFor o self.new (h ++ arrived request.now ∷ [])) }
+        ensures effects { (o : Setting) (h : List Event) → StandsFor o self.old h →
+            OnOk result ((text : List ℕ) (es : List SpecEffect) → S.has sink.old text es →
+            S.has sink.new text (es ++ (next_entry o h (arrived request.now)).effects)) }
+        ensures numbers { (o : Setting) (h : List Event) → StandsFor o self.old h →
+            IfOk result (λ n. n ≡ (next_entry o h (arrived request.now)).numbers) }
+        ensures refused { (o : Setting) (h : List Event) → StandsFor o self.old h →
+            RefusesAs (refusal_of o h (arrived request.now)) result }
+        ensures memory { result ≢ Err SessionFault.NoMemory }
+        ensures err { OnErr result (self.new ≡ self.old) }
+        ensures err_out { OnErr result (sink.new ≡ sink.old) }
+        ensures flow { (o : Setting) (h : List Event) → StandsFor o self.old h →
+            OnOk result (Flows o (trace_of o h) (trace_of o (h ++ arrived request.now ∷ []))) }
+        ensures capacity { S.capacity sink.new ≡ S.capacity sink.old }
+    {
+        if let Some(fault) = self.refusal_on(request.conn()) {
+            return Err(fault);
+        }
+        Ok(self.take_arrival(request, sink))
+    }
+
+    /// Takes the arrival of a request that isn't refused: as `take`.
+    #[inline(always)]
+    #[tactic(auto, using(crate::proofs::SoundLemmas::owed_few, std::proofs::lemmas::Bool::Decides::nat_tests))]
+    fn take_arrival<S: EffectSink>(&mut self, request: &Request, out: &mut S) -> Numbers
+        requires taken { refusal_by self.old (arrived request.now) ≡ None }
+        requires room { S.len out.old + 18444 ≤ S.capacity out.old }
+        ensures stands { (o : Setting) (h : List Event) → StandsFor o self.old h →
+            StandsFor o self.new (h ++ arrived request.now ∷ []) }
+        ensures effects { (o : Setting) (h : List Event) → StandsFor o self.old h →
+            (text : List ℕ) (es : List SpecEffect) → S.has out.old text es →
+            S.has out.new text (es ++ (next_entry o h (arrived request.now)).effects) }
+        ensures numbers { (o : Setting) (h : List Event) → StandsFor o self.old h →
+            result ≡ (next_entry o h (arrived request.now)).numbers }
+        ensures flow { (o : Setting) (h : List Event) → StandsFor o self.old h →
+            Flows o (trace_of o h) (trace_of o (h ++ arrived request.now ∷ [])) }
+        ensures capacity { S.capacity out.new ≡ S.capacity out.old }
+    {
+        // Its connection is looked at before anything is written, so that it is found once.
+        let is_open = self.is_open(request.conn());
+        self.taken += 1;
+        self.arrive(request, is_open, out);
+        self.numbers()
+    }
+
     /// Why `step` would refuse this event, memory aside.
     pub fn refusal(&self, event: &Event) -> Option<SessionFault>
         ensures { result ≡ refusal_by self.now event.now }
     {
-        if let Event::Arrive { conn, .. } = event {
-            if !self.connections.knows(*conn) {
-                return Some(SessionFault::UnknownConnection);
-            }
+        match event {
+            Event::Arrive { conn, .. } => self.refusal_on(*conn),
+            Event::Done { .. } => self.refusal_of_more(),
         }
+    }
+
+    /// Why an arrival on this connection would be refused, memory aside.
+    #[inline(always)]
+    fn refusal_on(&self, conn: u16) -> Option<SessionFault>
+        ensures { result ≡ (if not (known_in conn self.now.conns) then Some SessionFault.UnknownConnection
+            else (if nat_lt self.now.taken self.now.events then None else Some SessionFault.Exhausted)) }
+    {
+        if !self.connections.knows(conn) {
+            return Some(SessionFault::UnknownConnection);
+        }
+        self.refusal_of_more()
+    }
+
+    /// Why a completion would be refused, memory aside.
+    #[inline(always)]
+    fn refusal_of_more(&self) -> Option<SessionFault>
+        ensures { result ≡ (if nat_lt self.now.taken self.now.events then None else Some SessionFault.Exhausted) }
+    {
         if self.taken < self.events {
             None
         } else {

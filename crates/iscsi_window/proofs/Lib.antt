@@ -5,8 +5,10 @@ pub mod LabelLemmas
 pub mod LowestLemmas
 pub mod PlaceLemmas
 pub mod ReceivedLemmas
+pub mod RingLemmas
 pub mod ShownLemmas
 pub mod SinceLemmas
 pub mod SoundLemmas
 pub mod TagLemmas
+pub mod TurnLemmas
 pub mod WindowSteps

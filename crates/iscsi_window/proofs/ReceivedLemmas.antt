@@ -42,7 +42,3 @@ pub turned_sound : (counts bounds : List ℕ) (turned received held : ℕ) (xs :
 turned_sound counts bounds turned received held xs sound some =
     let counted = turned_counted counts xs sound.tags some in
     grind (arith, nat_tests, turned_bounds bounds turned xs sound.lowest, count_turned is_some refl xs, count_turned is_held refl xs)
-
-pub passed_sound : (counts bounds : List ℕ) (turned received held : ℕ) (xs : List (Option (Option HeldRequest))) → ArePlacesSound counts bounds turned received held xs → 0 < length xs
-    → 0 ≡ count_by is_some xs → ArePlacesSound counts bounds (turned + 1) received held xs
-passed_sound counts bounds turned received held xs sound some none = grind (arith, nat_tests, turns_into_itself, turned_bounds)

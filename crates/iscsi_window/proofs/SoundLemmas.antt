@@ -26,9 +26,9 @@ sound_set s k v sound within = grind (arith, nat_tests, length-set, get_or-set_o
 
 -- what the fields keep
 abbrev pub Keeps : ℕ → ℕ → ℕ → Placed → Type 0
-Keeps first unfinished size places = (length places.items ≡ size) × (places.capacity ≡ size) × IsSound (let s : Arrived = record { first = first; turned = places.turned; unfinished = unfinished; places = places.items } in s)
+Keeps first unfinished size places = (length places.items ≡ size) × IsSound (let s : Arrived = record { first = first; turned = places.turned; unfinished = unfinished; places = places.items } in s)
 
 pub keeps_put : (first unfinished size k : ℕ) (v : Option (Option HeldRequest)) (old new : Placed) → Keeps first unfinished size old → k < length old.items - unfinished → new ≡ record old { items = set old.items k v } → Keeps first unfinished size new
 keeps_put first unfinished size k v old new keeps within put =
     let s : Arrived = record { first = first; turned = old.turned; unfinished = unfinished; places = old.items } in
-    grind (arith, length-set, sound_set s k v keeps.2 within)
+    grind (arith, length-set, sound_set s k v keeps.1 within)

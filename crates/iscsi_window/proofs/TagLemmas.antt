@@ -1,8 +1,6 @@
 -- The counters stay right where a place is written, and where the first one turns.
-use Rattle.std.proofs.Common.{◌≡◌, ◌∙◌, ℕ, ◌+◌, ◌%◌, ◌<◌, ◌≤◌, ◌++◌, true, cond, List, [], ◌∷◌, length, drop, replicate, set, get_or, count_by, Option, Some, None, arith, ap, refl, length-set, length-append, get_or-set_same, get_or-set_other}
+use Rattle.std.proofs.Common.{◌≡◌, ◌∙◌, ℕ, ◌+◌, ◌%◌, ◌<◌, ◌≤◌, ◌++◌, true, cond, List, [], ◌∷◌, length, drop, replicate, set, get_or, count_by, Option, Some, None, arith, refl, length-set, length-append, get_or-set_same, get_or-set_other}
 use Rattle.std.proofs.lemmas.Bool.Decides.{nat_tests}
-use Rattle.std.specs.List.{slice_get}
-use Rattle.std.proofs.lemmas.Option.{slice_get_within, get_or_from_slice_get}
 use Rattle.std.proofs.lemmas.List.{get_or_past, get_or-replicate, length-replicate, set-set}
 use Rattle.std.proofs.lemmas.List.Sums.{sum_by-set, sum_by-cons, sum_by_push, get_or-le-sum_by}
 use Rattle.iscsi_window.specs.declared.held_request.HeldRequest.{HeldRequest}
@@ -41,16 +39,8 @@ raised_counted counts xs k v c within free = record {
   exact = λ g. grind (arith, nat_tests, count_set g xs k v within, c.exact g, c.as_many, get_or-set_same counts, get_or-set_other counts);
 }
 
-put_within : (counts : List ℕ) (xs : List (Option (Option HeldRequest))) (k : ℕ) (v : Option (Option HeldRequest)) → IsCounted counts xs → k < length xs → IsCounted (raised (lowered counts (group_of (get_or xs k None))) (group_of v)) (set xs k v)
-put_within counts xs k v c within = grind (arith, nat_tests, set-set, raised_counted, lowered_counted, length-set, get_or-set_same)
-
--- ---- as it is read before the write
-
-pub read_held : (counts : List ℕ) (xs : List (Option (Option HeldRequest))) (k : ℕ) (x : Option (Option HeldRequest)) → IsCounted counts xs → slice_get xs k ≡ Some x → (g : ℕ) → group_of x ≡ Some g → 0 < get_or counts g 0
-read_held counts xs k x c read g is = is_held counts xs k g c (slice_get_within xs k x read) (ap group_of (get_or_from_slice_get xs k x None read) ∙ is)
-
-pub put_counted : (counts : List ℕ) (xs : List (Option (Option HeldRequest))) (k : ℕ) (x v : Option (Option HeldRequest)) → IsCounted counts xs → slice_get xs k ≡ Some x → IsCounted (raised (lowered counts (group_of x)) (group_of v)) (set xs k v)
-put_counted counts xs k x v c read = grind (arith, get_or_from_slice_get xs k x None read, put_within counts xs k v c (slice_get_within xs k x read))
+pub put_counted : (counts : List ℕ) (xs : List (Option (Option HeldRequest))) (k : ℕ) (v : Option (Option HeldRequest)) → IsCounted counts xs → k < length xs → IsCounted (raised (lowered counts (group_of (get_or xs k None))) (group_of v)) (set xs k v)
+put_counted counts xs k v c within = grind (arith, nat_tests, set-set, raised_counted, lowered_counted, length-set, get_or-set_same)
 
 -- ---- the first place turns
 

@@ -32,4 +32,3 @@ IsFirstBetween p places from end found = MatchOption found
 pub record Placed : Type 0 where
   pub turned : ℕ
   pub items : List (Option (Option HeldRequest))
-  pub capacity : ℕ

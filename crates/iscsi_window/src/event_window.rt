@@ -1,7 +1,8 @@
 //! The command window beneath `Window`, whose held requests carry the event in which they arrived.
 
-ghost use Rattle.std.specs.Prelude.{Err, ◌≡◌, ℕ, true, ◌+◌, ◌-◌, ◌^◌, ◌<◌, ◌≤◌, ◌⊎◌, ◌↔◌, length, Option, Some, None, OnSome, IfOk, not, count_by, position, option_map, if◌then◌else◌};
+ghost use Rattle.std.specs.Prelude.{Err, ◌≡◌, ℕ, true, ◌+◌, ◌-◌, ◌^◌, ◌<◌, ◌≤◌, ◌⊎◌, ◌↔◌, length, Option, Some, None, OnSome, IfOk, MatchOption, not, is_some, count_by, position, option_map, if◌then◌else◌};
 ghost use Rattle.iscsi_wire.specs.Serial.{wire, lift};
+ghost use Rattle.iscsi_window.specs.declared.answer.Place.{Place as SpecPlace};
 ghost use Rattle.iscsi_window.specs.Received.{number_expected, at_place, is_held, IsSound, HasRoom};
 ghost use Rattle.iscsi_window.specs.Windows.{opened, number_last, place_in, IsInside, held_at, offer_to, offered_in, is_received_at, voided, holds_from, find_held, number_shown, emptied, dropped_at, taken_from, turned_on, advanced, is_next, with_unfinished};
 
@@ -9,8 +10,8 @@ use crate::answer::{Offer, Place};
 use crate::fault::WindowFault;
 use crate::held_request::HeldRequest;
 use crate::places::{
-    Places, at, clear, empty_places, first_command, first_held, hold, holds_from, receive,
-    turn_first,
+    Places, at, clear, empty_places, first_command, first_held, first_request, hold, holds_from,
+    is_first_received, receive, take_first, turn_free, turn_received,
 };
 use iscsi_wire::{Request, serial_lt};
 use std::alloc::Global;
@@ -55,13 +56,12 @@ impl Model for EventWindow {
       places = w.places.items;
     } };
 
-    ghost invariant = { λ w. (length w.places.items ≡ w.size) × (w.places.capacity ≡ w.size)
-        × IsSound (let s : Arrived = record {
-          first = w.first;
-          turned = w.places.turned;
-          unfinished = w.unfinished;
-          places = w.places.items;
-        } in s) };
+    ghost invariant = { λ w. (length w.places.items ≡ w.size) × IsSound (let s : Arrived = record {
+      first = w.first;
+      turned = w.places.turned;
+      unfinished = w.unfinished;
+      places = w.places.items;
+    } in s) };
 }
 
 impl EventWindow {
@@ -146,6 +146,8 @@ impl EventWindow {
     /// before. Otherwise nothing changes.
     ///
     /// The I bit isn't looked at: an immediate request takes no number, so it isn't offered.
+    // It is inlined, so that its caller finds the place of a number once.
+    #[inline(always)]
     pub fn offer(&mut self, request: &Request, event: u64) -> Offer
         ensures answer { result ≡ offer_to self.old request.now }
         ensures state { self.new ≡ offered_in self.old request.now event }
@@ -227,6 +229,36 @@ impl EventWindow {
         Some(self.exp().wrapping_add(ahead))
     }
 
+    /// Whether the expected number is received: `advance` would turn it.
+    #[inline(always)]
+    pub fn is_due(&self) -> bool
+        ensures { result ≡ is_some (at_place self.now 0) }
+    {
+        is_first_received(&self.places)
+    }
+
+    /// What is held for the expected number, where it stands: what `turn` drops.
+    #[inline(always)]
+    pub fn first_held(&self) -> Option<&HeldRequest>
+        ensures { MatchOption result (held_at self.now (SpecPlace.Inside 0) ≡ None)
+            (λ held. held_at self.now (SpecPlace.Inside 0) ≡ Some held.now) }
+    {
+        first_request(&self.places)
+    }
+
+    /// Turns the expected number, which is received: the window is as after `advance`.
+    ///
+    /// A command that it turned may be counted by `start_one`.
+    #[inline(always)]
+    pub fn turn(&mut self)
+        requires due { is_some (at_place self.old 0) ≡ true }
+        requires turned { self.old.turned < 2 ^ 64 - 1 }
+        ensures state { self.new ≡ advanced self.old }
+        ensures room { HasRoom self.new }
+    {
+        turn_received(&mut self.places);
+    }
+
     /// Turns the expected number, if it is received, and answers what was held for it. Otherwise nothing changes.
     ///
     /// A command that it turned may be counted by `start_one`.
@@ -236,9 +268,7 @@ impl EventWindow {
         ensures state { self.new ≡ advanced self.old }
         ensures room { OnSome result (HasRoom self.new) }
     {
-        let held = at(&self.places, 0)?;
-        self.turn();
-        Some(held)
+        take_first(&mut self.places)
     }
 
     /// Whether the number of this request is the expected one, is admitted and wasn't received: `offer` would hold it,
@@ -248,7 +278,10 @@ impl EventWindow {
         ensures held { result ≡ true → offer_to self.now request.now ≡ Offer.Held }
         ensures sound { IsSound self.now }
     {
-        self.place(request.cmd_sn()) == Place::Inside(0) && at(&self.places, 0).is_none()
+        match self.place(request.cmd_sn()) {
+            Place::Inside(0) => !is_first_received(&self.places),
+            _ => false,
+        }
     }
 
     /// Turns the number of this request as it comes: the window is as after `offer` and `advance`, and holds nothing of
@@ -261,17 +294,7 @@ impl EventWindow {
         ensures state { (event : ℕ) → self.new ≡ advanced (offered_in self.old request.now event) }
         ensures room { HasRoom self.new }
     {
-        self.turn();
-    }
-
-    /// The expected number turns, whatever its place has.
-    #[inline(always)]
-    fn turn(&mut self)
-        requires { self.old.turned < 2 ^ 64 - 1 }
-        ensures state { self.new ≡ turned_on self.old }
-        ensures room { self.old.unfinished < length self.old.places → HasRoom self.new }
-    {
-        turn_first(&mut self.places);
+        turn_free(&mut self.places);
     }
 
     /// Counts a command as being executed: the last admitted number isn't admitted any more.

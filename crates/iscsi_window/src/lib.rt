@@ -9,6 +9,7 @@ mod event_window;
 mod fault;
 mod filled_slots;
 mod held_request;
+mod place_ring;
 mod place_tags;
 mod places;
 mod tags;

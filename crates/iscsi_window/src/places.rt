@@ -1,35 +1,29 @@
 //! The places of a window, with how many requests they hold of each group of tags, and from where on.
 
-ghost use Rattle.std.specs.Prelude.{◌≡◌, [], ◌∷◌, ◌++◌, ◌≤◌, ◌<◌, length, drop, replicate, slice_set, slice_index_or, Option, Some, None, IfOk, position, take, not, is_some, count_by, ◌+◌, ◌-◌, ◌^◌, if◌then◌else◌};
-ghost use Rattle.circular_buffer.specs.Buffer.{buffer};
+ghost use Rattle.std.specs.Prelude.{◌≡◌, [], ◌∷◌, ◌++◌, ◌≤◌, ◌<◌, length, drop, replicate, slice_set, slice_index_or, Option, Some, None, true, IfOk, MatchOption, position, take, not, is_some, count_by, ◌+◌, ◌-◌, ◌^◌, if◌then◌else◌};
+ghost use Rattle.std.specs.Option.{option_flatten};
 ghost use Rattle.iscsi_window.specs.Windows.{is_held, holds_command, holds_from};
 ghost use Rattle.iscsi_window.specs.PlaceTags.{IsFirstBetween};
 
 use crate::filled_slots::FilledSlots;
 use crate::held_request::HeldRequest;
+use crate::place_ring::{PlaceRing, Received};
 use crate::place_tags::{PlaceTags, of_one_word};
 use crate::tags::{TagBounds, TagCounts};
-use circular_buffer::HeapCircularBuffer;
 use iscsi_wire::opcode::SCSI_COMMAND;
 use iscsi_wire::{Request, unit_of};
 use std::alloc::{AllocError, Global};
 use std::marker::Model;
 
-/// None for a number that wasn't received, and Some of what is held for one that was.
-pub(crate) type Received = Option<Option<HeldRequest>>;
-
-/// As many of them as the window has places, at every time.
-type Ring = HeapCircularBuffer<Received>;
-
 /// Where no more numbers than this are received, a search looks at the tags of their places first. To look at the tags
 /// of all places is quicker than at those of twice as many.
 const FEW: u32 = 64;
 
-/// The places, of which contracts see the ring and the count of turns alone. The counters, bounds, tags and bits say where a search need not
-/// look.
+/// The places, of which contracts see the ring and the count of turns alone. The counters, bounds, tags and bits say where a
+/// search need not look.
 #[derive(Drop)]
 pub(crate) struct Places {
-    ring: Ring,
+    ring: PlaceRing,
     /// For how many places a number was received. Where that is none, all are alike, and the ring stays as it is.
     received: u32,
     /// How many places hold a request.
@@ -47,17 +41,18 @@ impl Model for Places {
 
     ghost Value = { Placed };
 
-    ghost view = { λ p. record { turned = p.turned; items = p.ring.items; capacity = p.ring.capacity } };
+    ghost view = { λ p. record { turned = p.turned; items = p.ring } };
 
-    ghost invariant = { λ p. ArePlacesFound p.tags p.bounds p.labels p.filled p.turned p.received p.held p.ring.items };
+    ghost invariant = { λ p. ArePlacesFound p.tags p.bounds p.labels p.filled p.turned p.received p.held p.ring };
 }
 
 /// So many places, and nothing received.
 pub(crate) fn empty_places(alloc: Global, size: u32) -> Result<Places, AllocError>
-    requires { size ≤ 1024 }
-    ensures { IfOk result (λ places. places ≡ record { turned = 0; items = replicate size None; capacity = size }) }
+    requires some { 0 < size }
+    requires most { size ≤ 1024 }
+    ensures { IfOk result (λ places. places ≡ record { turned = 0; items = replicate size None }) }
 {
-    let ring = empty_ring(alloc, size)?;
+    let ring = PlaceRing::open(alloc, size)?;
     let tags = TagCounts::open(alloc)?;
     let bounds = TagBounds::open(alloc)?;
     let labels = PlaceTags::open(alloc)?;
@@ -71,17 +66,6 @@ pub(crate) fn empty_places(alloc: Global, size: u32) -> Result<Places, AllocErro
         filled: FilledSlots::new(),
         turned: 0,
     })
-}
-
-/// A full ring of places where nothing was received.
-fn empty_ring(alloc: Global, size: u32) -> Result<Ring, AllocError>
-    ensures { IfOk result (λ ring. ring ≡ buffer (replicate size None) size) }
-{
-    let mut ring = HeapCircularBuffer::with_capacity(alloc, size as usize)?;
-    for _ in 0..size {
-        ring.push_back(None);
-    }
-    Ok(ring)
 }
 
 impl Places {
@@ -104,15 +88,35 @@ impl Places {
 pub(crate) fn at(places: &Places, k: u32) -> Received
     ensures { result ≡ slice_index_or places.now.items k None }
 {
-    if places.received == 0 {
+    let k = k as usize;
+    if places.received == 0 || k >= places.ring.len() {
         return None;
     }
-    places.ring.get(k as usize).copied().flatten()
+    *places.ring.get(k)
+}
+
+/// Whether the number of the first place was received. Mostly none was.
+#[inline(always)]
+pub(crate) fn is_first_received(places: &Places) -> bool
+    ensures { result ≡ is_some (slice_index_or places.now.items 0 None) }
+{
+    places.received > 0 && places.ring.first().is_some()
+}
+
+/// The request that the first place holds, if any.
+#[inline(always)]
+pub(crate) fn first_request(places: &Places) -> Option<&HeldRequest>
+    ensures { MatchOption result (option_flatten (slice_index_or places.now.items 0 None) ≡ None)
+        (λ held. option_flatten (slice_index_or places.now.items 0 None) ≡ Some held.now) }
+{
+    match places.ring.first() {
+        Some(Some(held)) => Some(held),
+        _ => None,
+    }
 }
 
 /// Holds a request at place `k` with the event in which it arrived, and answers true. Where the place's number was
 /// received before, the answer is false and nothing changes.
-// It is inlined, and the request is looked at where it stands, before its place is written.
 #[inline(always)]
 pub(crate) fn hold(places: &mut Places, k: u32, request: &Request, event: u64) -> bool
     requires { k < length places.old.items }
@@ -122,10 +126,7 @@ pub(crate) fn hold(places: &mut Places, k: u32, request: &Request, event: u64) -
           else slice_set places.old.items k (Some (Some (record { request = request.now; event = event })));
     } }
 {
-    let Some(place) = places.ring.get_mut(k as usize) else {
-        unreachable!();
-    };
-    if place.is_some() {
+    if !places.ring.hold(k as usize, request, event) {
         return false;
     }
     let itt = request.itt();
@@ -137,10 +138,6 @@ pub(crate) fn hold(places: &mut Places, k: u32, request: &Request, event: u64) -
     places.filled.set(number);
     places.received += 1;
     places.held += 1;
-    *place = Some(Some(HeldRequest {
-        request: *request,
-        event,
-    }));
     true
 }
 
@@ -154,15 +151,12 @@ pub(crate) fn receive(places: &mut Places, k: u32) -> bool
           else slice_set places.old.items k (Some None);
     } }
 {
-    let Some(received) = places.ring.get_mut(k as usize) else {
-        unreachable!();
-    };
-    let is_new = received.is_none();
+    let is_new = places.ring.get(k as usize).is_none();
     if is_new {
         let number = places.turned.saturating_add(k as u64);
         places.filled.set(number);
         places.received += 1;
-        *received = Some(None);
+        places.ring.empty(k as usize);
     }
     is_new
 }
@@ -171,65 +165,72 @@ pub(crate) fn receive(places: &mut Places, k: u32) -> bool
 pub(crate) fn clear(places: &mut Places, k: u32)
     ensures { places.new ≡ record places.old { items = slice_set places.old.items k (Some None) } }
 {
-    if let Some(place) = places.ring.get_mut(k as usize) {
-        let number = places.turned.saturating_add(k as u64);
-        places.bounds.vacate(place, number);
-        places.tags.lower(place);
-        places.received += 1 - count(place);
-        places.held -= count_held(place);
-        *place = Some(None);
-    }
-}
-
-/// Takes the first place off, and adds one at the end, where nothing was received.
-// Mostly no number waits for its turn, and all places are alike.
-#[inline(always)]
-pub(crate) fn turn_first(places: &mut Places)
-    requires some { 0 < length places.old.items }
-    requires full { length places.old.items ≡ places.old.capacity }
-    requires turned { places.old.turned < 2 ^ 64 - 1 }
-    ensures { places.new ≡ record places.old {
-      turned = places.old.turned + 1;
-      items = drop 1 places.old.items ++ None ∷ [];
-    } }
-{
-    if places.received > 0 {
-        turn_with_received(places);
+    let k = k as usize;
+    if k >= places.ring.len() {
         return;
     }
-    places.turned += 1;
+    let place = places.ring.get(k);
+    let number = places.turned.saturating_add(k as u64);
+    places.bounds.vacate(place, number);
+    places.tags.lower(place);
+    places.received += 1 - count(place);
+    places.held -= count_held(place);
+    places.ring.empty(k);
 }
 
-/// The same, where a number was received.
-#[inline(never)]
-fn turn_with_received(places: &mut Places)
+/// Takes the first place off, whose number wasn't received, and adds one at the end, where nothing was received.
+// Mostly no number waits for its turn, and all places are alike.
+#[inline(always)]
+pub(crate) fn turn_free(places: &mut Places)
     requires some { 0 < length places.old.items }
-    requires full { length places.old.items ≡ places.old.capacity }
+    requires free { slice_index_or places.old.items 0 None ≡ None }
     requires turned { places.old.turned < 2 ^ 64 - 1 }
     ensures { places.new ≡ record places.old {
       turned = places.old.turned + 1;
       items = drop 1 places.old.items ++ None ∷ [];
     } }
 {
-    let first = turn_ring(&mut places.ring);
-    places.tags.lower(&first);
-    places.received -= count(&first);
-    places.held -= count_held(&first);
+    places.turned += 1;
+    if places.received == 0 {
+        return;
+    }
+    places.ring.turn_free();
+}
+
+/// Takes the first place off, whose number was received, and adds one at the end, where nothing was received.
+#[inline(always)]
+pub(crate) fn turn_received(places: &mut Places)
+    requires some { is_some (slice_index_or places.old.items 0 None) ≡ true }
+    requires turned { places.old.turned < 2 ^ 64 - 1 }
+    ensures { places.new ≡ record places.old {
+      turned = places.old.turned + 1;
+      items = drop 1 places.old.items ++ None ∷ [];
+    } }
+{
+    let first = places.ring.first();
+    let held = count_held(first);
+    places.tags.lower(first);
+    places.received -= 1;
+    places.held -= held;
     places.filled.clear(places.turned);
+    places.ring.turn();
     places.turned += 1;
 }
 
-/// Takes the first place off the ring, which is full, and adds one at the end, where nothing was received. It answers
-/// what the first one had.
-fn turn_ring(ring: &mut Ring) -> Received
-    requires some { 0 < length ring.old.items }
-    requires full { length ring.old.items ≡ ring.old.capacity }
-    ensures answer { result ≡ slice_index_or ring.old.items 0 None }
-    ensures state { ring.new ≡ buffer (drop 1 ring.old.items ++ None ∷ []) ring.old.capacity }
+/// Takes the first place off, if its number was received, adds one at the end, where nothing was received, and answers
+/// what the first one had. Otherwise nothing changes.
+pub(crate) fn take_first(places: &mut Places) -> Received
+    requires { places.old.turned < 2 ^ 64 - 1 }
+    ensures answer { result ≡ slice_index_or places.old.items 0 None }
+    ensures state { places.new ≡ (if is_some (slice_index_or places.old.items 0 None) then record {
+      turned = places.old.turned + 1;
+      items = drop 1 places.old.items ++ None ∷ [];
+    } else places.old) }
 {
-    let first = ring.get(0).copied().flatten();
-    // The ring is full, so its first place makes way.
-    ring.push_back(None);
+    let first = at(places, 0);
+    if first.is_some() {
+        turn_received(places);
+    }
     first
 }
 
@@ -329,10 +330,8 @@ fn first_between(places: &Places, from: u32, end: u32, itt: u32, unit: u16) -> O
 fn holds_command_at(places: &Places, k: u32, itt: u32, unit: u16) -> bool
     ensures { result ≡ holds_command itt unit (slice_index_or places.now.items k None) }
 {
-    match places.ring.get(k as usize) {
-        Some(received) => holds_command(received, itt, unit),
-        None => false,
-    }
+    let k = k as usize;
+    k < places.ring.len() && holds_command(places.ring.get(k), itt, unit)
 }
 
 /// The first place where a request is held that came on connection `conn`, or on any for None.
@@ -340,9 +339,10 @@ pub(crate) fn first_held(places: &Places, conn: Option<u16>) -> Option<u32>
     requires { length places.now.items ≤ 1024 }
     ensures { result ≡ position (holds_from conn) places.now.items }
 {
-    let k = places
-        .ring
-        .iter()
-        .position(|received| holds_from(received, conn))?;
-    Some(k as u32)
+    for k in 0..places.ring.len() {
+        if holds_from(places.ring.get(k), conn) {
+            return Some(k as u32);
+        }
+    }
+    None
 }

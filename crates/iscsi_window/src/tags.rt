@@ -3,7 +3,7 @@
 ghost use Rattle.std.specs.Prelude.{◌≡◌, ℕ, ◌%◌, ◌<◌, ◌==◌, replicate, slice_index, Some, IfOk};
 ghost use Rattle.iscsi_window.specs.Tags.{group_of, raised, lowered, occupied, vacated};
 
-use crate::places::Received;
+use crate::place_ring::Received;
 use std::alloc::{AllocError, Global};
 use std::marker::Model;
 

@@ -39,6 +39,14 @@ impl Request {
         self.bytes
     }
 
+    /// The header, as it came, where it stands.
+    #[inline(always)]
+    pub fn header(&self) -> &[u8; 48]
+        ensures { result.now ≡ header_of self.now }
+    {
+        &self.bytes
+    }
+
     /// The I bit: the request is for immediate delivery (section 11.2.1.1).
     pub fn immediate(&self) -> bool
         ensures { result ≡ is_immediate self.now }

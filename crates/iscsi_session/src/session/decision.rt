@@ -1,6 +1,6 @@
 //! What a request does that executes: the first case of its table that fits (RFC 7143, RFC 7144, SAM-5).
 
-ghost use Rattle.std.specs.Prelude.{true, Some, None, ◌≡◌, ◌<◌, length};
+ghost use Rattle.std.specs.Prelude.{true, false, Some, None, ◌≡◌, ◌<◌, length};
 ghost use Rattle.iscsi_wire.specs.Fields.{connection_of, is_immediate, function as function_of};
 ghost use Rattle.iscsi_wire.specs.Codes.{reason_code, response_code, logout_response_code};
 ghost use Rattle.iscsi_rules.specs.rules.Settings.{is_known as known_in};
@@ -49,11 +49,31 @@ impl Session {
     }
 
     /// What a SCSI Command does (SAM-5 section 8).
+    #[inline(always)]
+    fn decide_command(&self, request: &Request) -> Deed
+        requires { known_in (connection_of request.now) self.now.conns ≡ true }
+        ensures { result ≡ command_deed (facts_by self.now request.now) request.now }
+    {
+        self.decide_for(request, self.is_crowded(request))
+    }
+
+    /// What a numbered SCSI Command does, of which none is too many on its connection.
+    #[inline(always)]
+    pub(crate) fn decide_numbered(&self, request: &Request) -> Deed
+        requires known { known_in (connection_of request.now) self.now.conns ≡ true }
+        requires numbered { is_immediate request.now ≡ false }
+        ensures { result ≡ command_deed (facts_by self.now request.now) request.now }
+    {
+        self.decide_for(request, false)
+    }
+
+    /// What a SCSI Command does. `is_crowded`: it is immediate, and its connection has as many live immediate commands as it
+    /// may.
     ///
     /// Rules: `command/no-tag`, `command/attribute`, `command/tag-in-use`, `command/no-unit`, `command/crowded`, `command/full`, `command/enters`.
     #[inline(always)]
-    pub(crate) fn decide_command(&self, request: &Request) -> Deed
-        requires { known_in (connection_of request.now) self.now.conns ≡ true }
+    fn decide_for(&self, request: &Request, is_crowded: bool) -> Deed
+        requires { is_crowded ≡ is_crowded_by self.now request.now }
         ensures { result ≡ command_deed (facts_by self.now request.now) request.now }
     {
         let itt = request.itt();
@@ -66,7 +86,7 @@ impl Session {
         let Some(unit) = unit_named(request, self.sets.len()) else {
             return Deed::Reply(Answer::NoUnit);
         };
-        if self.is_crowded(request) {
+        if is_crowded {
             rejected(RejectReason::TooManyImmediate)
         } else if is_full(&self.sets[usize::from(unit)], self.depth) {
             Deed::Reply(Answer::Full)

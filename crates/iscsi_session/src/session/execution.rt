@@ -64,14 +64,13 @@ impl Session {
         self.answer(request, answer, out);
     }
 
-    /// Executes a request that arrived in this event.
+    /// Executes a numbered request that arrived in this event.
     // A SCSI Command, which most are, has a way of its own: what it does stays in registers there.
     #[tactic(auto, using(std::proofs::lemmas::Bool::Decides::nat_tests))]
     #[inline(always)]
     fn execute<S: EffectSink>(&mut self, request: &Request, event: u64, out: &mut S)
-        requires space { is_immediate request.now ≡ false → HasRoom self.old.window }
-        requires turned { is_immediate request.now ≡ true →
-            self.old.window.turned + count_by is_some self.old.window.places < self.old.taken }
+        requires space { HasRoom self.old.window }
+        requires numbered { is_immediate request.now ≡ false }
         requires counted { self.old.entered + count_by is_some self.old.window.places < self.old.taken }
         requires known { known_in (connection_of request.now) self.old.conns ≡ true }
         requires room { S.len out.old + owed self.old.live self.old.sets + 6 * count_by is_held self.old.window.places
@@ -83,8 +82,9 @@ impl Session {
     {
         match Opcode::of(request) {
             Opcode::ScsiCommand => {
-                let deed = self.decide_command(request);
-                self.execute_by(request, event, deed, out);
+                let deed = self.decide_numbered(request);
+                let number = self.last_turned(request);
+                self.execute_by(request, number, event, deed, out);
             }
             _ => self.execute_otherwise(request, event, out),
         }
@@ -106,14 +106,23 @@ impl Session {
         ensures waiting { length self.new.waiting ≤ length self.old.waiting }
     {
         let deed = self.decide(request);
-        self.execute_by(request, event, deed, out);
+        let number = self.position(request);
+        self.execute_by(request, number, event, deed, out);
     }
 
-    /// Executes a request that arrived in this event, which does this.
+    /// Executes a request that arrived in this event, which does this. Its number less the first CmdSN is this one.
     #[inline(always)]
     #[tactic(auto, using(crate::proofs::DeedLemmas::fits_deed, crate::proofs::DeedLemmas::numbers_read))]
-    fn execute_by<S: EffectSink>(&mut self, request: &Request, event: u64, deed: Deed, out: &mut S)
+    fn execute_by<S: EffectSink>(
+        &mut self,
+        request: &Request,
+        number: i64,
+        event: u64,
+        deed: Deed,
+        out: &mut S,
+    )
         requires deed { deed ≡ deed_by self.old request.now }
+        requires number { number ≡ position_by self.old request.now }
         requires space { is_immediate request.now ≡ false → HasRoom self.old.window }
         requires turned { is_immediate request.now ≡ true →
             self.old.window.turned + count_by is_some self.old.window.places < self.old.taken }
@@ -126,7 +135,6 @@ impl Session {
             ≤ S.len out.old + owed self.old.live self.old.sets + 6 * count_by is_held self.old.window.places + 5 }
         ensures waiting { length self.new.waiting ≤ length self.old.waiting }
     {
-        let number = self.position(request);
         self.carry_out(request, number, event, deed, out);
     }
 
@@ -276,6 +284,15 @@ impl Session {
         } else {
             turned - 1
         }
+    }
+
+    /// The number that has turned last, less the first CmdSN: that of a numbered request that executes.
+    #[inline(always)]
+    fn last_turned(&self, _request: &Request) -> i64
+        requires { is_immediate _request.now ≡ false }
+        ensures { result ≡ pos (number_by self.now _request.now) -ℤ pos (number_of_first self.now.window.first) }
+    {
+        self.window.turned() as i64 - 1
     }
 
     /// The event in which an immediate request arrived, from 0. It doesn't count for a numbered one.

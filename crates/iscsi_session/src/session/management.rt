@@ -23,8 +23,8 @@ pub(crate) const COMPLETE: Answer = Answer::Respond(FunctionResponse::Complete a
 
 impl Session {
     /// An immediate request executes, or is a function that waits.
-    // What it does stays in registers here, and those that come in order have a frame without it.
-    #[inline(never)]
+    // What it does stays in registers here.
+    #[inline(always)]
     #[tactic(auto, using(crate::proofs::DeedLemmas::arrival_steps))]
     pub(crate) fn receive_immediate<S: EffectSink>(&mut self, request: &Request, out: &mut S)
         requires immediate { is_immediate request.now ≡ true }

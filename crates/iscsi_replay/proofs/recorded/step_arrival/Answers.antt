@@ -1,13 +1,18 @@
-use Rattle.iscsi_rules.specs.declared.event.Event.TheVariants.{Arrive}
+use Rattle.std.proofs.Common.{◌++◌, []}
+use Rattle.std.proofs.lemmas.Result.{IfOk-weaker}
+use Rattle.iscsi_report.specs.Lines.{event_line}
+use Rattle.iscsi_session.specs.promises.Arrivals.{arrived}
 use Rattle.iscsi_replay.proofs.recorded.step_arrival.Goals as goal
 
 pub returns : goal.returns
 returns c = record {
-  event = Arrive c.pass_arrival-conn.result.0 c.pass_arrival-conn.result.1;
-  came = c.pass_arrival-conn.ensures;
-  stands = c.step.ensures.stands;
-  lines = c.step.ensures.lines;
-  refused = c.step.ensures.refused;
-  memory = c.step.ensures.memory;
-  flow = c.step.ensures.flow;
+  event = arrived c.pass_arrival-request.result;
+  came = c.pass_arrival-request.ensures;
+  stands = c.arrive_into.ensures.stands;
+  lines = λ o h stands.
+      IfOk-weaker c.arrive_into.result _ _ (λ x taken. taken (c.args.report.now.bytes ++ event_line (arrived c.pass_arrival-request.result)) [] (rw (← c.conn.ensures, ← c.header.ensures) c.begin_arrival.ensures))
+      (c.arrive_into.ensures.effects o h stands);
+  refused = c.arrive_into.ensures.refused;
+  memory = c.arrive_into.ensures.memory;
+  flow = c.arrive_into.ensures.flow;
 }

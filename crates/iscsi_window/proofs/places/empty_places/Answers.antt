@@ -10,7 +10,7 @@ use Rattle.iscsi_window.proofs.places.empty_places.Goals as goal
 pub invariant_of-result : goal.invariant_of-result
 invariant_of-result c = record {
   sound = record {
-    tags = rw (c.in_ok-tags.ensures, c.in_ok-ring.ensures) (opened_counted c.args.size c.requires);
+    tags = rw (c.in_ok-tags.ensures, c.in_ok-ring.ensures) (opened_counted c.args.size c.requires.most);
     lowest = rw (c.in_ok-bounds.ensures, c.in_ok-ring.ensures) (opened_bounds c.args.size);
     as_many = rw c.in_ok-ring.ensures (none_pass is_some refl c.args.size);
     held_are = rw c.in_ok-ring.ensures (none_pass is_held refl c.args.size);

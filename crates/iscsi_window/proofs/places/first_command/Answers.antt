@@ -32,7 +32,7 @@ loop-k-preserved c = λ j below. ⊎_elim
           none_between (holds_command c.args.itt c.args.unit) c.args.places.now.items c.loop-k.k (c.loop-k.k + c.of_one_word-count.result) w.first_between-found.result w.first_between-found.ensures (sym w.is_some.ensures ∙ w.if-is_some.false) j inside (omega (arith, below))
       | else-may_have w ↦
           ap (λ b. holds_command c.args.itt c.args.unit (get_or b.items j None)) (sym c.places.view_is)
-          ∙ untagged c.places.inside.labels c.places.inside.turned c.places.inside.ring.items c.args.itt c.args.unit c.loop-k.k c.of_one_word-count.result c.saturating_add-number.result j c.places.invariant.labels c.saturating_add-number.ensures
+          ∙ untagged c.places.inside.labels c.places.inside.turned c.places.inside.ring c.args.itt c.args.unit c.loop-k.k c.of_one_word-count.result c.saturating_add-number.result j c.places.invariant.labels c.saturating_add-number.ensures
           (c.may_have.ensures.fits w.if-may_have.false) c.of_one_word-count.ensures.together (c.may_have.ensures.none w.if-may_have.false) inside (omega (arith, below))
     ])
     (cases_lt j c.loop-k.k)
@@ -50,5 +50,5 @@ pub returns-then-not-may_be_filled : goal.returns-then-not-may_be_filled
 returns-then-not-may_be_filled c =
     none_below (holds_command c.args.itt c.args.unit) c.args.places.now.items c.args.end None (λ j short within.
     ap (λ b. holds_command c.args.itt c.args.unit (get_or b.items j None)) (sym c.places.view_is)
-    ∙ none_filled_with c.places.inside.labels c.places.inside.filled c.places.inside.turned c.places.inside.ring.items c.args.itt c.args.unit j c.places.invariant.labels c.places.invariant.filled
+    ∙ none_filled_with c.places.inside.labels c.places.inside.filled c.places.inside.turned c.places.inside.ring c.args.itt c.args.unit j c.places.invariant.labels c.places.invariant.filled
     (c.may_be_filled.ensures.fits c.if-not-may_be_filled.true) (c.may_be_filled.ensures.none c.if-not-may_be_filled.true) (omega (arith, c.requires, short, within)))

@@ -1,17 +1,11 @@
-use Rattle.std.proofs.Common.{rules, tests, ◌∙◌, ap, sym, position}
-use Rattle.std.proofs.lemmas.Iterator.Consumers.{YieldsList-from_rest}
-use Rattle.std.proofs.lemmas.Iterator.Search.{position_from_yields_List}
+use Rattle.std.proofs.Common.{arith, length, None}
+use Rattle.std.proofs.lemmas.Bool.Decides.{nat_tests}
+use Rattle.std.proofs.lemmas.List.Sums.{position_or_len_is}
 use Rattle.iscsi_window.specs.Windows.{holds_from}
 use Rattle.iscsi_window.proofs.places.first_held.Goals as goal
 
-pub returns-in_err-k : goal.returns-in_err-k
-returns-in_err-k c =
-    c.from_residual.ensures ∙ sym c.in_err-k.was
-    ∙ position_from_yields_List (holds_from c.args.conn) _ _ c.position.result c.position.ensures.ran (YieldsList-from_rest c.places.inside.ring.items c.iter.ensures.rest) (λ x b q k. search (rules, tests))
-    ∙ ap (λ b. position (holds_from c.args.conn) b.items) c.places.view_is
+pub returns-then-holds_from : goal.returns-then-holds_from
+returns-then-holds_from c = grind (arith, nat_tests, position_or_len_is)
 
 pub returns : goal.returns
-returns c =
-    sym c.in_ok-k.was
-    ∙ position_from_yields_List (holds_from c.args.conn) _ _ c.position.result c.position.ensures.ran (YieldsList-from_rest c.places.inside.ring.items c.iter.ensures.rest) (λ x b q k. search (rules, tests))
-    ∙ ap (λ b. position (holds_from c.args.conn) b.items) c.places.view_is
+returns c = grind (arith, nat_tests, position_or_len_is (holds_from c.args.conn) c.args.places.now.items (length c.args.places.now.items) None)

@@ -9,7 +9,7 @@ carry_out-requires-clause-ready over c =
 
 pub returns : goal.returns
 returns over c =
-    let number = to_z-of_z w64 c.position-number.result (search rules) in
-    let done = rw (number, c.requires.deed, c.position-number.ensures) at c.carry_out.ensures.done in
+    let number = to_z-of_z w64 c.args.number (search rules) in
+    let done = rw (number, c.requires.deed, c.requires.number) at c.carry_out.ensures.done in
     let stays : Stays 1 c.args.self.now c.carry_out.new.self = rw done.core (executed_stays c.args.self.now c.args.request.now c.args.event) in
     record { done = done; spent = omega (arith, c.carry_out.ensures.spent, stays.held); waiting = stays.waiting }
