@@ -364,6 +364,14 @@ impl Arrivals {
         self.acknowledged < self.next
     }
 
+    /// Whether something that took a StatSN isn't written.
+    #[inline(always)]
+    pub fn has_unwritten(&self) -> bool
+        ensures { result ≡ nat_lt self.now.written self.now.taken }
+    {
+        self.written < self.taken
+    }
+
     /// Whether a ping isn't known to have arrived.
     #[inline(always)]
     pub fn is_asking(&self) -> bool

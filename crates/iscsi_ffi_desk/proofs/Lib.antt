@@ -1,6 +1,7 @@
 pub mod AskLemmas
 pub mod AwakeLemmas
 pub mod DropLemmas
+pub mod EnterLemmas
 pub mod OutboxLemmas
 pub mod PlaceLemmas
 pub mod ReplyLemmas

@@ -1,5 +1,6 @@
 -- Replies that wait: none has a log place above the last one.
-use Rattle.std.proofs.Common.{◌≡◌, ℕ, ◌<◌, ◌≤◌, not, cond, false, List, [], ◌∷◌, ◌++◌, map, find, Option, Some, None, refl, sym, ap, ◌∙◌, All, arith}
+use Rattle.std.proofs.Common.{◌≡◌, ℕ, ◌+◌, ◌-◌, ◌^◌, ◌<◌, ◌≤◌, not, cond, false, List, [], ◌∷◌, ◌++◌, map, find, Option, Some, None, refl, sym, ap, ◌∙◌, All, arith}
+use Rattle.std.specs.Prelude.{IfSome}
 use Rattle.std.specs.Option.{option_or}
 use Rattle.std.proofs.lemmas.Bool.{ne_eqb}
 use Rattle.std.proofs.lemmas.List.Elements.{All-from_get_or, All-head, All-tail}
@@ -44,10 +45,10 @@ all_stay n last (rs ∷ lists) late low =
 all_low : (v : WaitingReplies) (last : ℕ) → AreKnown v → v.last ≡ Some last → All (AllLow last) v.waiting
 all_low v last k is = All-from_get_or (AllLow last) v.waiting [] (λ i l. k.newest i last is)
 
-pub none_late : (n last : ℕ) (v : WaitingReplies) → AreKnown v → v.last ≡ Some last → last < n → find_log_place n v ≡ None
+none_late : (n last : ℕ) (v : WaitingReplies) → AreKnown v → v.last ≡ Some last → last < n → find_log_place n v ≡ None
 none_late n last v k is late = ap request_of (none_anywhere n last v.waiting late (all_low v last k is))
 
-pub stays_late : (n last : ℕ) (v : WaitingReplies) → AreKnown v → v.last ≡ Some last → last < n → v ≡ taken n v
+stays_late : (n last : ℕ) (v : WaitingReplies) → AreKnown v → v.last ≡ Some last → last < n → v ≡ taken n v
 stays_late n last v k is late = ap (λ (lists : List (List WaitingReply)). record v { waiting = lists }) (sym (all_stay n last v.waiting late (all_low v last k is)))
 
 -- none ever entered
@@ -67,8 +68,18 @@ same_of_none n (rs ∷ lists) e =
     ap (λ xs. without_log_place n rs ∷ xs) (same_of_none n lists (All-tail (λ (xs : List WaitingReply). xs ≡ []) rs lists e))
     ∙ ap (λ xs. xs ∷ lists) (ap (without_log_place n) (All-head (λ (xs : List WaitingReply). xs ≡ []) rs lists e) ∙ sym (All-head (λ (xs : List WaitingReply). xs ≡ []) rs lists e))
 
-pub none_first : (n : ℕ) (v : WaitingReplies) → AreKnown v → v.last ≡ None → find_log_place n v ≡ None
+none_first : (n : ℕ) (v : WaitingReplies) → AreKnown v → v.last ≡ None → find_log_place n v ≡ None
 none_first n v k is = ap request_of (none_of_none n v.waiting (empty_everywhere v k is))
 
-pub stays_first : (n : ℕ) (v : WaitingReplies) → AreKnown v → v.last ≡ None → v ≡ taken n v
+stays_first : (n : ℕ) (v : WaitingReplies) → AreKnown v → v.last ≡ None → v ≡ taken n v
 stays_first n v k is = ap (λ (lists : List (List WaitingReply)). record v { waiting = lists }) (sym (same_of_none n v.waiting (empty_everywhere v k is)))
+
+-- none has the last log place that there is: the one behind each is a number, too
+
+pub none_at_end : (n : ℕ) (v : WaitingReplies) (o : Option ℕ) → AreKnown v → o ≡ v.last → IfSome o (λ last. last + 1 < 2 ^ 64) → 2 ^ 64 - 1 ≤ n → find_log_place n v ≡ None
+none_at_end n v (Some last) k is short far = none_late n last v k (sym is) (omega (arith, short, far))
+none_at_end n v None k is short far = none_first n v k (sym is)
+
+pub stays_at_end : (n : ℕ) (v : WaitingReplies) (o : Option ℕ) → AreKnown v → o ≡ v.last → IfSome o (λ last. last + 1 < 2 ^ 64) → 2 ^ 64 - 1 ≤ n → v ≡ taken n v
+stays_at_end n v (Some last) k is short far = stays_late n last v k (sym is) (omega (arith, short, far))
+stays_at_end n v None k is short far = stays_first n v k (sym is)

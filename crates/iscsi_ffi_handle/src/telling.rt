@@ -11,48 +11,49 @@ const MOST: usize = 4_294_967_295;
 
 /// As many of the actions that wait as have room are written into the first places, and wait no more.
 #[inline(always)]
-pub(crate) fn hand_over(side: &mut Side, actions: &mut [PlainAction]) -> PlainTold
+pub(crate) fn hand_over(side: &mut Side, actions: &mut [PlainAction], told: &mut PlainTold)
     ensures side { side.new ≡ side_after actions.old side.old }
     ensures actions { actions.new ≡ places_after actions.old side.old }
-    ensures told { result ≡ told_after actions.old side.old }
+    ensures told { told.new ≡ told_after actions.old side.old }
 {
     if !side.waits() {
-        return PlainTold {
+        *told = PlainTold {
             count: 0,
             waiting: 0,
         };
+        return;
     }
-    hand_over_some(side, actions)
+    hand_over_some(side, actions, told);
 }
 
 /// Where some wait: mostly that is one, and it has room.
 #[inline(never)]
-fn hand_over_some(side: &mut Side, actions: &mut [PlainAction]) -> PlainTold
+fn hand_over_some(side: &mut Side, actions: &mut [PlainAction], told: &mut PlainTold)
     ensures side { side.new ≡ side_after actions.old side.old }
     ensures actions { actions.new ≡ places_after actions.old side.old }
-    ensures told { result ≡ told_after actions.old side.old }
+    ensures told { told.new ≡ told_after actions.old side.old }
 {
     if actions.is_empty() {
-        return hand_over_each(side, actions);
+        return hand_over_each(side, actions, told);
     }
     match side.take_only() {
         Some(action) => {
             write_action(&mut actions[0], action);
-            PlainTold {
+            *told = PlainTold {
                 count: 1,
                 waiting: 0,
-            }
+            };
         }
-        None => hand_over_each(side, actions),
+        None => hand_over_each(side, actions, told),
     }
 }
 
 /// One after the other is.
 #[inline(never)]
-fn hand_over_each(side: &mut Side, actions: &mut [PlainAction]) -> PlainTold
+fn hand_over_each(side: &mut Side, actions: &mut [PlainAction], told: &mut PlainTold)
     ensures side { side.new ≡ side_after actions.old side.old }
     ensures actions { actions.new ≡ places_after actions.old side.old }
-    ensures told { result ≡ told_after actions.old side.old }
+    ensures told { told.new ≡ told_after actions.old side.old }
 {
     let room = actions.len().min(MOST);
     let count = side.waiting().min(room as u32);
@@ -62,8 +63,8 @@ fn hand_over_each(side: &mut Side, actions: &mut [PlainAction]) -> PlainTold
         };
         actions[index] = plain_action(action);
     }
-    PlainTold {
+    *told = PlainTold {
         count,
         waiting: side.waiting(),
-    }
+    };
 }

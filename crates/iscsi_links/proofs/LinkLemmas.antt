@@ -1,5 +1,5 @@
 -- How many connections are busy, and which is the first that takes requests.
-use Rattle.std.proofs.Common.{◌≡◌, ◌≢◌, ℕ, zero, suc, ◌+◌, ◌<◌, ◌≤◌, cond, not, nat_lt, Bool, true, false, List, [], ◌∷◌, length, get_or, set, replicate, refl, ap, sym, ◌∙◌, arith, if◌then◌else◌}
+use Rattle.std.proofs.Common.{◌≡◌, ◌≢◌, ℕ, zero, suc, ◌+◌, ◌<◌, ◌≤◌, cond, not, nat_lt, Bool, true, false, List, [], ◌∷◌, length, get_or, set, replicate, refl, ap, sym, subst, ◌∙◌, arith, if◌then◌else◌}
 use Rattle.std.specs.List.{position_or_len}
 use Rattle.std.proofs.lemmas.List.{get_or-replicate, get_or-set_other, length-replicate, length-set}
 use Rattle.std.proofs.lemmas.List.Sums.{fails_before_first, passes_at_first, position_or_len_is, sum_by-set}
@@ -67,6 +67,24 @@ counted_alike links place new looks busy usable shut now are within same closed 
   few = (let a = length-set links place new in let b = are.few in omega (arith, a, b));
 }
 
+-- ---- what is under way
+
+-- as long as a PDU is so until it is written, nothing that is heard ends it
+pub heard_quietly : (exp_stat_sn tag : ℕ) (l : Counts) → is_busy_by false (heard_by exp_stat_sn tag l) ≡ is_busy_by false l
+heard_quietly exp_stat_sn tag l = by (is_open_by l) (acknowledged_with exp_stat_sn (is_answer_by tag l) l) (answered_with (acknowledged_with exp_stat_sn (is_answer_by tag l) l) (is_answer_by tag l) l)
+  where
+    by : (b : Bool) (known answered : ℕ) → is_busy_by false (if b then record l { acknowledged = known; answered = answered } else l) ≡ is_busy_by false l
+    by true known answered = refl
+    by false known answered = refl
+
+-- as long as it is so until it arrives, no writing ends it
+pub written_quietly : (l : Counts) → is_busy_by true (written_by l) ≡ is_busy_by true l
+written_quietly l = by (nat_lt l.written l.handed)
+  where
+    by : (b : Bool) → is_busy_by true (if b then record l { written = l.written + 1 } else l) ≡ is_busy_by true l
+    by true = refl
+    by false = refl
+
 -- what a PDU that goes out, is written or is heard of changes, leaves that as it was
 pub written_alike : (l : Counts) → (is_usable_by (written_by l) ≡ is_usable_by l) × ((written_by l).closed ≡ l.closed)
 written_alike l = by (nat_lt l.written l.handed)
@@ -82,3 +100,12 @@ heard_alike exp_stat_sn tag l = by (is_open_by l) (acknowledged_with exp_stat_sn
         → (is_usable_by (if b then record l { acknowledged = known; answered = answered } else l) ≡ is_usable_by l) × ((if b then record l { acknowledged = known; answered = answered } else l).closed ≡ l.closed)
     by true known answered = (refl, refl)
     by false known answered = (refl, refl)
+
+pub heard_counted : (links : List Counts) (place exp_stat_sn tag : ℕ) (looks : Bool) (busy usable shut : ℕ) → looks ≡ false → AreCounted links looks busy usable shut → place < length links
+    → AreCounted (set links place (heard_by exp_stat_sn tag (get_or links place new_counts))) looks busy usable shut
+heard_counted links place exp_stat_sn tag looks busy usable shut quiet are within =
+    let old = get_or links place new_counts in
+    let alike = heard_alike exp_stat_sn tag old in
+    counted_alike links place (heard_by exp_stat_sn tag old) looks busy usable shut busy are within alike.0 alike.1
+    (subst (λ b. busy + cond (is_busy_by b old) 1 0 ≡ busy + cond (is_busy_by b (heard_by exp_stat_sn tag old)) 1 0) (sym quiet)
+    (ap (λ b. busy + cond b 1 0) (sym (heard_quietly exp_stat_sn tag old))))

@@ -2,7 +2,7 @@
 
 ghost use Rattle.std.specs.Prelude.{◌≡◌, ◌≢◌, ℕ, ◌+◌, ◌<◌, ◌≤◌, ◌^◌, true, false, nat_lt, length, replicate, slice_index_or, slice_set, if◌then◌else◌, IfOk};
 ghost use Rattle.std.specs.List.{position_or_len};
-ghost use Rattle.iscsi_arrivals.specs.Counts.{handed_by, heard_by, is_open_by, is_usable_by, joined_by, may_join_by, new_counts, pinged_by, stamp_by, written_by};
+ghost use Rattle.iscsi_arrivals.specs.Counts.{handed_by, heard_by, is_busy_by, is_open_by, is_usable_by, joined_by, may_join_by, new_counts, pinged_by, stamp_by, written_by};
 ghost use Rattle.iscsi_links.specs.Links.{changed, closed, closed_in, cut, first_usable, is_busy_elsewhere, link_at, lost, opened};
 
 use iscsi_arrivals::{Arrivals, Stamp};
@@ -170,17 +170,36 @@ impl Links {
         requires { place < length self.old.links }
         ensures { self.new ≡ changed place written_by self.old }
     {
-        let looks = self.looks;
+        // Where it is looked whether what was written arrived, to write ends nothing that is under way.
+        if self.looks || !self.list[place].is_busy(false) {
+            let idle = &mut self.list[place];
+            idle.write();
+            return;
+        }
         let link = &mut self.list[place];
-        let was = link.is_busy(looks);
         link.write();
-        let is = link.is_busy(looks);
-        self.busy = count_with(self.busy, was, is);
+        if !link.is_busy(false) {
+            self.busy -= 1;
+        }
     }
 
     /// A header arrived on a connection, with this ExpStatSN and, where it is that of a NOP-Out, this transfer tag.
+    // Where nobody looks whether what was written arrived, a header ends nothing that is under way.
     #[inline(always)]
     pub fn hear(&mut self, place: usize, exp_stat_sn: u32, transfer_tag: u32)
+        requires { place < length self.old.links }
+        ensures { self.new ≡ changed place (heard_by exp_stat_sn transfer_tag) self.old }
+    {
+        if self.looks {
+            return self.hear_and_count(place, exp_stat_sn, transfer_tag);
+        }
+        let conn = &mut self.list[place];
+        conn.hear(exp_stat_sn, transfer_tag);
+    }
+
+    /// The same where it is looked whether what was written arrived: that may end what is under way.
+    #[inline(never)]
+    fn hear_and_count(&mut self, place: usize, exp_stat_sn: u32, transfer_tag: u32)
         requires { place < length self.old.links }
         ensures { self.new ≡ changed place (heard_by exp_stat_sn transfer_tag) self.old }
     {
@@ -204,9 +223,9 @@ impl Links {
     {
         let looks = self.looks;
         let link = &mut self.list[place];
-        let was = link.is_busy(looks);
+        let was = is_busy_open(link, looks);
         let stamp = link.hand_out(takes, ends);
-        let is = link.is_busy(looks);
+        let is = is_busy_open(link, looks);
         self.busy = count_with(self.busy, was, is);
         stamp
     }
@@ -237,6 +256,19 @@ impl Links {
         self.busy = count_with(self.busy, old.is_busy(self.looks), new.is_busy(self.looks));
         self.shut = count_with(self.shut, old.is_closed(), new.is_closed());
         self.usable = usable_with(&self.list, self.usable, which);
+    }
+}
+
+/// Whether something is under way that took a StatSN on a connection that is open.
+#[inline(always)]
+fn is_busy_open(link: &Arrivals, looks: bool) -> bool
+    requires { is_open_by link.now ≡ true }
+    ensures { result ≡ is_busy_by looks link.now }
+{
+    if looks {
+        link.has_unarrived()
+    } else {
+        link.has_unwritten()
     }
 }
 

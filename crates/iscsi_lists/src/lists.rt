@@ -161,6 +161,15 @@ impl<T: Copy> Lists<T> {
         self.values[slot as usize] = value;
     }
 
+    /// The slot that was freed last, which the next value gets.
+    #[inline(always)]
+    pub fn free_slot(&self) -> u32
+        requires { 1 ≤ length self.now.free }
+        ensures { last_of self.now.free ≡ Some result }
+    {
+        self.links.free_slot()
+    }
+
     /// Puts a value behind all others of a list, into the slot that was freed last: the slot.
     #[inline(always)]
     pub fn push_back(&mut self, list: usize, value: T) -> u32

@@ -1,5 +1,5 @@
 -- Values by ticket, as callers see them, and the log of those that entered, of which some are there still.
-use Rattle.std.specs.Prelude.{◌≡◌, ◌≢◌, ℕ, ◌+◌, ◌-◌, ◌*◌, ◌≤◌, ◌<◌, ◌==◌, not, false, true, List, [], ◌∷◌, length, map, filter, find, All, slice_index_or, Option, MatchOption, option_map}
+use Rattle.std.specs.Prelude.{◌≡◌, ◌≢◌, ℕ, ◌+◌, ◌-◌, ◌*◌, ◌%◌, ◌^◌, ◌≤◌, ◌<◌, ◌==◌, not, false, true, List, [], ◌∷◌, length, map, filter, find, All, slice_index_or, Option, MatchOption, option_map}
 use Rattle.std.specs.List.{AllPairs}
 use Rattle.iscsi_slots.specs.Places.{AreAscending as AreKeysAscending}
 use Rattle.iscsi_tickets.specs.declared.kept.Kept.{Kept}
@@ -64,10 +64,10 @@ IsLivePlace log ticket r =
     ((k : ℕ) → IsLiveAt log k → ticket_of (kept_at log k) ≢ ticket)
     (λ k. IsLiveAt log k × (ticket_of (kept_at log k) ≡ ticket))
 
--- as far behind the first one as the ticket is above that
+-- as far behind the first one as the ticket is above that, in numbers of 64 bits
 abbrev pub guessed : List Kept → ℕ → ℕ
 guessed [] ticket = 0
-guessed (e ∷ log) ticket = ticket - e.ticket
+guessed (e ∷ log) ticket = (ticket + (2 ^ 64 - e.ticket)) % 2 ^ 64
 
 pub record AreLogged (log : List Kept) (capacity count last room : ℕ) : Type 0 where
   pub ascending : AreKeysAscending ticket_of log

@@ -103,7 +103,7 @@ impl Tickets {
         requires newest { self.old.last < ticket }
         ensures { self.new ≡ known (self.old.entries ++ (ticket, value) ∷ []) ticket self.old.room }
     {
-        self.ended = make_way(&mut self.log, self.ended, self.room);
+        make_way(&mut self.log, &mut self.ended, self.room);
         self.log.push_reserved(Kept {
             ticket,
             value,
@@ -133,26 +133,25 @@ impl Tickets {
     }
 }
 
-/// Where the log is full, what was taken out goes from it. How many that were taken out it has then.
+/// Where the log is full, what was taken out goes from it, and isn't counted any more.
 #[inline(always)]
-fn make_way(log: &mut Vec<Kept>, ended: usize, room: usize) -> usize
+fn make_way(log: &mut Vec<Kept>, ended: &mut usize, room: usize)
     requires ascending { AreKeysAscending ticket_of log.old.items }
-    requires counted { length (live_in log.old.items) + ended ≡ length log.old.items }
+    requires counted { length (live_in log.old.items) + ended.old ≡ length log.old.items }
     requires few { length (live_in log.old.items) < room }
     requires long { length log.old.items ≤ 2 * room }
     requires short { 2 * room ≤ 4294967295 }
     ensures same { live_in log.new.items ≡ live_in log.old.items }
     ensures ascending { AreKeysAscending ticket_of log.new.items }
     ensures newest { (last : ℕ) → All (λ e. ticket_of e ≤ last) log.old.items → All (λ e. ticket_of e ≤ last) log.new.items }
-    ensures counted { length (live_in log.new.items) + result ≡ length log.new.items }
+    ensures counted { length (live_in log.new.items) + ended.new ≡ length log.new.items }
     ensures long { length log.new.items < 2 * room }
     ensures capacity { vec_capacity log.new ≡ vec_capacity log.old }
 {
     if log.len() == 2 * room {
         keep_live(log);
-        return 0;
+        *ended = 0;
     }
-    ended
 }
 
 /// What was taken out goes from the log.
@@ -182,7 +181,8 @@ fn end(log: &mut Vec<Kept>, k: usize) -> u32
     value
 }
 
-/// The place of the value with this ticket.
+/// The place of the value with this ticket: the guess, or else by a binary search. Each way ends in a test here, so that callers know
+/// which it was.
 #[inline(always)]
 fn place_of(log: &[Kept], ticket: u64) -> Option<usize>
     requires { AreKeysAscending ticket_of log.now }
@@ -192,31 +192,23 @@ fn place_of(log: &[Kept], ticket: u64) -> Option<usize>
     if is_at(log, place, ticket) && kept_at(log, place).is_live {
         return Some(place);
     }
-    searched_place(log, ticket)
-}
-
-/// Where a ticket stands if those from the first one of the log up to it came one by one, as the tickets of a session do.
-#[inline(always)]
-fn guess(log: &[Kept], ticket: u64) -> usize
-    ensures { result ≡ guessed log.now ticket }
-{
-    match log.first() {
-        Some(first) if first.ticket <= ticket => (ticket - first.ticket) as usize,
-        _ => 0,
-    }
-}
-
-/// The place of the value with this ticket, by a binary search.
-#[inline(never)]
-fn searched_place(log: &[Kept], ticket: u64) -> Option<usize>
-    requires { AreKeysAscending ticket_of log.now }
-    ensures { IsLivePlace log.now ticket result }
-{
     let k = count_below(log, ticket);
     if is_at(log, k, ticket) && kept_at(log, k).is_live {
         Some(k)
     } else {
         None
+    }
+}
+
+/// Where a ticket stands if those from the first one of the log up to it came one by one, as the tickets of a session do. One below the
+/// first one is led far behind the log.
+#[inline(always)]
+fn guess(log: &[Kept], ticket: u64) -> usize
+    ensures { result ≡ guessed log.now ticket }
+{
+    match log.first() {
+        Some(first) => ticket.wrapping_sub(first.ticket) as usize,
+        None => 0,
     }
 }
 

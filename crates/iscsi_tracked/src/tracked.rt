@@ -94,8 +94,8 @@ impl Tracked {
     {
         self.tickets.known();
         self.kept.known();
-        let place = self.kept.push_back(IDLE, BLANK);
-        self.kept.set(place, command.at(place));
+        let free = self.kept.free_slot();
+        let place = self.kept.push_back(IDLE, command.at(free));
         self.tickets.push(command.ticket, place);
         place
     }

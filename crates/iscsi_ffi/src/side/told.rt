@@ -1,6 +1,6 @@
 //! What is told, and handed over.
 
-ghost use Rattle.std.specs.Prelude.{◌≡◌, [], ◌∷◌, None, length, min, IfSome};
+ghost use Rattle.std.specs.Prelude.{◌≡◌, [], ◌∷◌, None, length, min, is_some, true, IfSome};
 ghost use Rattle.iscsi_ffi_rules.specs.rules.Calls.{Interface};
 ghost use Rattle.iscsi_ffi_steps.specs.Steps.{Going, after, ended, going};
 ghost use Rattle.iscsi_ffi.specs.Standing.{Begun, Stands, is_waiting, taken_one, waiting};
@@ -43,11 +43,11 @@ impl Side {
         Some(forget)
     }
 
-    /// Hands over the next of them where no other one waits, as `take_action` does. Where it gives none, nothing changes, and any number
-    /// may wait.
+    /// Hands over the only one that waits, as `take_action` does. Where none or several wait, it gives none, and nothing changes.
     #[inline(always)]
     pub fn take_only(&mut self) -> Option<Action>
         ensures only { IfSome result (λ action. waiting self.old ≡ action ∷ []) }
+        ensures one { length (waiting self.old) ≡ 1 → is_some result ≡ true }
         ensures taken { IfSome result (λ action. self.new ≡ taken_one self.old) }
         ensures none { result ≡ None → self.new ≡ self.old }
     {

@@ -1,10 +1,11 @@
 //! What the effects of the two commonest events make of the requests.
 
-ghost use Rattle.std.specs.Prelude.{◌≡◌, ℕ, [], ◌∷◌, true};
+ghost use Rattle.std.specs.Prelude.{◌≡◌, ◌≢◌, ℕ, [], ◌∷◌, true};
 ghost use Rattle.iscsi_wire.specs.declared.reply.Reply.{Reply};
 ghost use Rattle.iscsi_rules.specs.declared.effect.Effect.TheVariants.{Deliver, Enable, Enter, Leave, Send};
 ghost use Rattle.iscsi_ffi_steps.specs.Walk.{on_effects};
 ghost use Rattle.iscsi_ffi_steps.specs.Steps.{walk_from};
+ghost use Rattle.iscsi_ffi_desk.specs.Courses.{HasEntered};
 
 use crate::course::Course;
 use crate::desk::Desk;
@@ -23,7 +24,8 @@ impl Desk {
         self.end_item(&mut course);
     }
 
-    /// A request that was held executes, and enters a task set as a command; one is enabled by that.
+    /// A request that was held executes, and enters a task set as a command; one is enabled by that. The place of the request; 0: it
+    /// didn't enter.
     #[inline(always)]
     pub(super) fn walk_command(
         &mut self,
@@ -32,12 +34,14 @@ impl Desk {
         ticket: u64,
         unit: u16,
         attr: Attr,
-    )
-        ensures { (enabled of : ℕ) → self.new ≡ (on_effects true (Deliver request.now ∷ Enter ticket unit attr ∷ Enable enabled of ∷ []) (walk_from own self.old)).doing }
+    ) -> u32
+        ensures walk { (enabled of : ℕ) → self.new ≡ (on_effects true (Deliver request.now ∷ Enter ticket unit attr ∷ Enable enabled of ∷ []) (walk_from own self.old)).doing }
+        ensures entered { result ≢ 0 → HasEntered ticket result unit attr self.new }
     {
         let mut course = Course::begin(own, self.outbox.sent());
         self.deliver(request, &mut course);
-        self.enter(ticket, unit, attr, &mut course);
+        let place = self.enter(ticket, unit, attr, &mut course);
         self.end_item(&mut course);
+        place
     }
 }

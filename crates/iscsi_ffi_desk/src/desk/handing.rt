@@ -124,16 +124,13 @@ impl Desk {
         ensures request { result ≡ find_log_place log_place self.old.state.replies }
         ensures state { self.new ≡ reply_left log_place self.old }
     {
-        self.replies.known();
-        let is_there = match self.replies.last() {
-            Some(last) => log_place <= last,
-            None => false,
-        };
-        if is_there {
-            self.replies.take(log_place)
-        } else {
-            None
+        if log_place < u64::MAX {
+            return self.replies.take(log_place);
         }
+        // Every reply's place is below the last one of 64 bits: the log is shorter.
+        self.replies.known();
+        let _last = self.replies.last();
+        None
     }
 
     /// A PDU of a command is handed out: its request has a use more.

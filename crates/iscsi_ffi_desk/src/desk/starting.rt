@@ -1,12 +1,13 @@
 //! What starts, and which resets other sessions' commands wait for.
 
-ghost use Rattle.std.specs.Prelude.{◌≡◌, ◌≤◌, [], ◌∷◌, ◌++◌, drop, filter_map, length, take, Some};
+ghost use Rattle.std.specs.Prelude.{◌≡◌, ◌≢◌, ◌≤◌, [], ◌∷◌, ◌++◌, drop, filter_map, length, take, Some};
 ghost use Rattle.iscsi_rules.specs.rules.Execution.{unit_named};
 ghost use Rattle.iscsi_outbox_rules.specs.rules.Items.{ticket_enabled};
 ghost use Rattle.iscsi_ffi_commands.specs.Commands.{find_ticket, is_clearing};
 ghost use Rattle.iscsi_ffi_steps.specs.State.{inserted, is_withheld, withhold};
 ghost use Rattle.iscsi_ffi_steps.specs.Steps.{reset_in, resets_in, start, start_each};
 ghost use Rattle.iscsi_ffi_steps.specs.Walk.{tell_all};
+ghost use Rattle.iscsi_ffi_desk.specs.Courses.{HasEntered};
 
 use crate::desk::Desk;
 use crate::desk::walking::is_marked;
@@ -77,9 +78,43 @@ impl Desk {
         }
     }
 
+    /// One does behind a command that entered: mostly it is that one, which is known by the place of its request. 0: none entered.
+    #[inline(always)]
+    pub(super) fn start_behind(
+        &mut self,
+        request: u32,
+        ticket: u64,
+        unit: u16,
+        attr: Attr,
+        enabled: u64,
+    )
+        requires { request ≢ 0 → HasEntered ticket request unit attr self.old }
+        ensures { self.new ≡ start_each (enabled ∷ []) self.old }
+    {
+        if request == 0 || enabled != ticket {
+            return self.start_another(enabled);
+        }
+        let command = Command {
+            ticket,
+            request,
+            unit,
+            attr,
+            stage: Stage::Entered,
+        };
+        self.start(ticket, &command);
+    }
+
+    /// Another one does.
+    #[inline(never)]
+    fn start_another(&mut self, ticket: u64)
+        ensures { self.new ≡ start_each (ticket ∷ []) self.old }
+    {
+        self.start_ticket(ticket);
+    }
+
     /// One of them does.
     #[inline(always)]
-    pub(super) fn start_ticket(&mut self, ticket: u64)
+    fn start_ticket(&mut self, ticket: u64)
         ensures { self.new ≡ start_each (ticket ∷ []) self.old }
     {
         match self.commands.find(ticket) {

@@ -35,9 +35,9 @@ impl Desk {
                 ..
             } = third
         {
-            self.walk_command(own, request, *ticket, *unit, *attr);
+            let place = self.walk_command(own, request, *ticket, *unit, *attr);
             self.tell_entered(request, *ticket, *unit, *enabled, numbers);
-            self.start_ticket(*enabled);
+            self.start_behind(place, *ticket, *unit, *attr, *enabled);
             return;
         }
         self.take_any(own, effects, numbers);

@@ -1,6 +1,6 @@
 //! What the effects of an event make of the requests, one effect after the other.
 
-ghost use Rattle.std.specs.Prelude.{◌≡◌, Some, true};
+ghost use Rattle.std.specs.Prelude.{◌≡◌, ◌≢◌, Some, None, true};
 ghost use Rattle.iscsi_rules.specs.declared.effect.Why.{Why};
 ghost use Rattle.iscsi_rules.specs.declared.effect.Effect.TheVariants.{Ignore};
 ghost use Rattle.iscsi_outbox_steps.specs.State.{place_of};
@@ -8,7 +8,7 @@ ghost use Rattle.iscsi_ffi_commands.specs.Commands.{is_going, is_marked};
 ghost use Rattle.iscsi_ffi_steps.specs.Walk.{answering, conn_of, deliver, empty, end_item, enter, function_on, immediate, leave, may_wait, on_effect, on_effects, release, send, send_as, take_out, told_to_stop, wait};
 ghost use Rattle.iscsi_ffi_steps.specs.Steps.{walk_from};
 ghost use Rattle.iscsi_ffi_desk.specs.declared.course.Course.{Course};
-ghost use Rattle.iscsi_ffi_desk.specs.Courses.{executing, walk_of};
+ghost use Rattle.iscsi_ffi_desk.specs.Courses.{HasEntered, executing, walk_of};
 
 use crate::course::Course;
 use crate::desk::Desk;
@@ -39,7 +39,9 @@ impl Desk {
             Effect::Immediate { request } => self.take_immediate(first, request, course),
             Effect::Wait { request } => self.wait(request, course),
             Effect::Empty { sn } => self.empty(*sn),
-            Effect::Enter { ticket, unit, attr } => self.enter(*ticket, *unit, *attr, course),
+            Effect::Enter { ticket, unit, attr } => {
+                self.enter(*ticket, *unit, *attr, course);
+            }
             Effect::Leave { ticket, .. } => self.leave(*ticket, course),
             Effect::Send { conn, .. } => self.send(*conn, course),
             Effect::CloseConn { conn } => self.drop_functions_of(*conn),
@@ -128,13 +130,15 @@ impl Desk {
         self.release_if(held);
     }
 
-    /// The request that executes is a command, and enters a task set.
+    /// The request that executes is a command, and enters a task set: the place of the request; 0: none entered.
     #[inline(always)]
-    pub(super) fn enter(&mut self, ticket: u64, unit: u16, attr: Attr, course: &mut Course)
-        ensures { walk_of self.new course.new ≡ enter ticket unit attr course.old.current (walk_of self.old course.old) }
+    pub(super) fn enter(&mut self, ticket: u64, unit: u16, attr: Attr, course: &mut Course) -> u32
+        ensures walk { walk_of self.new course.new ≡ enter ticket unit attr course.old.current (walk_of self.old course.old) }
+        ensures entered { result ≢ 0 → HasEntered ticket result unit attr self.new }
+        ensures done { result ≢ 0 → course.new.current ≡ None }
     {
         let Some(request) = course.current else {
-            return;
+            return 0;
         };
         let command = Command {
             ticket,
@@ -143,10 +147,13 @@ impl Desk {
             attr,
             stage: Stage::Entered,
         };
-        if self.commands.may_enter(&command) {
-            self.commands.enter(command);
-            course.current = None;
+        self.commands.known();
+        if !self.commands.may_enter(&command) {
+            return 0;
         }
+        self.commands.enter(command);
+        course.current = None;
+        request
     }
 
     /// A command leaves its task set: a request takes it out, or it completes, and its request is the one to be answered.

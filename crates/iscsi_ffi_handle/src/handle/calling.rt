@@ -37,7 +37,7 @@ impl Handle {
             Err(answer) => return answer,
         };
         let answer = side.arrive(cid, header, cookie);
-        *told = hand_over(&mut side, actions);
+        hand_over(&mut side, actions, told);
         self.put_back(side);
         answer
     }
@@ -61,7 +61,7 @@ impl Handle {
             Err(answer) => return answer,
         };
         let answer = side.complete(ticket, status);
-        *told = hand_over(&mut side, actions);
+        hand_over(&mut side, actions, told);
         self.put_back(side);
         answer
     }
@@ -83,7 +83,7 @@ impl Handle {
             Err(answer) => return answer,
         };
         let answer = side.stopped(ticket);
-        *told = hand_over(&mut side, actions);
+        hand_over(&mut side, actions, told);
         self.put_back(side);
         answer
     }
@@ -105,7 +105,7 @@ impl Handle {
             Err(answer) => return answer,
         };
         let answer = side.clear(unit);
-        *told = hand_over(&mut side, actions);
+        hand_over(&mut side, actions, told);
         self.put_back(side);
         answer
     }
@@ -127,7 +127,7 @@ impl Handle {
             Err(answer) => return answer,
         };
         let answer = side.cleared(unit);
-        *told = hand_over(&mut side, actions);
+        hand_over(&mut side, actions, told);
         self.put_back(side);
         answer
     }
@@ -154,7 +154,7 @@ impl Handle {
             Err(answer) => return answer,
         };
         let answer = side.heard(cid, header);
-        *told = hand_over(&mut side, actions);
+        hand_over(&mut side, actions, told);
         self.put_back(side);
         answer
     }
@@ -177,7 +177,7 @@ impl Handle {
             Err(answer) => return answer,
         };
         let answer = side.join(cid, stat_sn);
-        *told = hand_over(&mut side, actions);
+        hand_over(&mut side, actions, told);
         self.put_back(side);
         answer
     }
@@ -199,7 +199,7 @@ impl Handle {
             Err(answer) => return answer,
         };
         let answer = side.lose(cid);
-        *told = hand_over(&mut side, actions);
+        hand_over(&mut side, actions, told);
         self.put_back(side);
         answer
     }
@@ -222,7 +222,7 @@ impl Handle {
             Err(answer) => return answer,
         };
         let answer = side.written(cid);
-        *told = hand_over(&mut side, actions);
+        hand_over(&mut side, actions, told);
         self.put_back(side);
         answer
     }
@@ -239,7 +239,7 @@ impl Handle {
         let Some(mut side) = self.take(alloc) else {
             return Answer::NotOpen;
         };
-        *told = hand_over(&mut side, actions);
+        hand_over(&mut side, actions, told);
         self.put_back(side);
         Answer::Done
     }

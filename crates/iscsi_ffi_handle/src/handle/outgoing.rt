@@ -46,7 +46,7 @@ impl Handle {
             }
             None => next_any(&mut side, cid, buffer, pdu),
         };
-        *told = hand_over(&mut side, actions);
+        hand_over(&mut side, actions, told);
         self.put_back(side);
         answer
     }
@@ -78,7 +78,7 @@ impl Handle {
             Err(answer) => return answer,
         };
         let answer = side.put(&own, cookie);
-        *told = hand_over(&mut side, actions);
+        hand_over(&mut side, actions, told);
         self.put_back(side);
         answer
     }

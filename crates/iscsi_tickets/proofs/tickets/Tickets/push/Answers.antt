@@ -6,7 +6,7 @@ use Rattle.iscsi_tickets.proofs.tickets.Tickets.push.Goals as goal
 
 pub invariant_of-self : goal.invariant_of-self
 invariant_of-self c =
-    let way = c.make_way-self-inside in
+    let way = c.make_way in
     let kept = c.self.invariant in
     let log = way.new.log.items in
     let capacity = vec_capacity c.push_reserved.new.self in
@@ -17,6 +17,6 @@ invariant_of-self c =
     let roomy : 2 * c.self.inside.room ≤ capacity =
     let a = kept.has_room in let b = way.ensures.capacity in let d = c.push_reserved.ensures.capacity in omega (arith, a, b, d) in
     let newer : c.self.inside.last < c.args.ticket = let a = c.requires.newest in omega (arith, a, last) in
-    subst (λ (l : List Kept). AreLogged l capacity way.result c.args.ticket c.self.inside.room) (sym c.push_reserved.ensures.items)
+    subst (λ (l : List Kept). AreLogged l capacity way.new.ended c.args.ticket c.self.inside.room) (sym c.push_reserved.ensures.items)
     (logged_with log c.args.ticket c.args.value way.ensures.ascending (way.ensures.newest c.self.inside.last kept.newest) way.ensures.counted few
     way.ensures.long roomy kept.short newer)
