@@ -299,10 +299,7 @@ impl Session {
         ensures capacity { S.capacity out.new ≡ S.capacity out.old }
     {
         match event {
-            Event::Arrive { conn, header } => {
-                let is_open = self.is_open(*conn);
-                self.arrive(&Request::read(*conn, header), is_open, out)
-            }
+            Event::Arrive { conn, header } => self.arrive_apart(*conn, header, out),
             Event::Done { ticket, status } => self.complete(*ticket, *status, out),
         }
     }

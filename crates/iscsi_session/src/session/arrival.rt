@@ -2,7 +2,7 @@
 
 ghost use Rattle.std.specs.Prelude.{false, ◌-◌, ◌*◌, ◌≡◌, ℕ, ◌+◌, ◌≤◌, ◌<◌, true, length, Some, nat_lt, count_by, is_some, vec_len, vec_capacity};
 ghost use Rattle.std.specs.List.{list_all};
-ghost use Rattle.iscsi_wire.specs.Fields.{connection_of, is_immediate, opcode};
+ghost use Rattle.iscsi_wire.specs.Fields.{connection_of, is_immediate, opcode, request_of};
 ghost use Rattle.iscsi_connections.specs.Connected.{is_among_open};
 ghost use Rattle.iscsi_window.specs.Windows.{HasRoom, at_place, offer_to, number_expected};
 ghost use Rattle.iscsi_rules.specs.declared.effect.Effect.{Effect};
@@ -24,6 +24,29 @@ use iscsi_window::{HeldRequest, Offer, Place};
 use iscsi_wire::Request;
 
 impl Session {
+    /// Takes the request with this header, which arrived on a connection: as `arrive`.
+    // A caller that takes any event has no room for a request in its own frame.
+    #[inline(never)]
+    pub(crate) fn arrive_apart<S: EffectSink>(&mut self, conn: u16, header: &[u8; 48], out: &mut S)
+        requires known { known_in conn self.old.conns ≡ true }
+        requires counted { self.old.window.turned + count_by is_some self.old.window.places < self.old.taken }
+        requires entered { self.old.entered + count_by is_some self.old.window.places < self.old.taken }
+        requires waited { list_all (λ w. nat_lt (w.event + 1) self.old.taken) self.old.waiting ≡ true }
+        requires room { S.len out.old + owed self.old.live self.old.sets
+            + 6 * (count_by is_held self.old.window.places + length self.old.waiting + 1) + 1 ≤ S.capacity out.old }
+        ensures items { (o : Setting) (index : ℕ) (t : Trace) → self.old.taken ≡ index + 1 → Settled o self.old t →
+            Handles S.has o t (arrival o t (arrival_of o index t (request_of conn header.now))) HasOneMore self.new
+            out.old out.new }
+        ensures taken { self.new.taken ≡ self.old.taken }
+        ensures pace { KeepsPace self.old.window self.new.window }
+        ensures spent { S.len out.new ≤ S.len out.old + owed self.old.live self.old.sets
+            + 6 * (count_by is_held self.old.window.places + length self.old.waiting + 1) + 1 }
+        ensures capacity { S.capacity out.new ≡ S.capacity out.old }
+    {
+        let is_open = self.is_open(conn);
+        self.arrive(&Request::read(conn, header), is_open, out);
+    }
+
     /// Takes a request that arrived on a connection, which is open or not. Nothing is taken on one that is closed.
     ///
     /// Rule: `arrival/closed`.

@@ -4,7 +4,7 @@ use Rattle.iscsi_session.proofs.AgendaLemmas.{Stepped-completion}
 use Rattle.iscsi_session.proofs.session.Session.apply.Goals as goal
 
 pub returns-in-Arrive-clause-items : goal.returns-in-Arrive-clause-items
-returns-in-Arrive-clause-items over c = λ o index t taken h. rw c.in-Arrive.is (rw c.read.ensures at (c.arrive.ensures.items o index t taken h))
+returns-in-Arrive-clause-items over c = λ o index t taken h. rw c.in-Arrive.is (c.arrive_apart.ensures.items o index t taken h)
 
 pub returns-in-Done-clause-items : goal.returns-in-Done-clause-items
 returns-in-Done-clause-items over c = λ o index t taken h.
