@@ -17,8 +17,9 @@ use Rattle.iscsi_outbox_rules.specs.declared.own_pdu.OwnPdu.{OwnPdu}
 use Rattle.iscsi_outbox_rules.specs.declared.own_pdu.OwnPdu.TheVariants.{OfCommand, OfConnection}
 use Rattle.iscsi_outbox_rules.specs.declared.own_pdu.PutRefusal.{PutRefusal}
 use Rattle.iscsi_outbox_rules.specs.declared.own_pdu.PutRefusal.TheVariants.{Unfit, Gone as GoneRefusal, Closed, Full}
+use Rattle.iscsi_outbox_rules.specs.rules.Boxes.{Replies}
 use Rattle.iscsi_outbox_rules.specs.rules.Own.{is_fit, own_takes}
-use Rattle.iscsi_outbox_rules.specs.rules.Items.{executing, reply_sent, ticket_enabled, tickets_left}
+use Rattle.iscsi_outbox_rules.specs.rules.Items.{executing, finds_none, reply_sent, ticket_enabled, tickets_left}
 use Rattle.iscsi_arrivals.specs.declared.stamp.Stamp.{Stamp}
 use Rattle.iscsi_arrivals.specs.Counts.{Counts, handed_by, heard_by, is_open_by, is_under_way_by, is_usable_by, joined_by, may_join_by, pinged_by, stamp_by, tag_of_ping, takes_more_by, written_by}
 use Rattle.iscsi_outbox_state.specs.declared.lane.Aim.{Aim}
@@ -63,11 +64,15 @@ enter conn item s = record s { waits = if takes_more_by (link_at s conn) && has_
 abbrev pub is_of_unit : Aim → Bool
 is_of_unit aim = elim aim [ Unit unit ↦ true | Tag tag ↦ false | Conn conn ↦ false | Session ↦ false | ClosesNothing ↦ false ]
 
+-- nothing overtakes it, nor does it overtake anything: the answer to a function of several tasks, or to an ABORT TASK that found none
+abbrev pub is_fence : Aim → Reply → Bool
+is_fence aim reply = elim aim [ Unit unit ↦ true | Tag tag ↦ finds_none (Replies reply) | Conn conn ↦ false | Session ↦ false | ClosesNothing ↦ false ]
+
 abbrev pub answer_item : Undue → Waiting
 answer_item a = record {
   content = IsReply a.reply;
   takes = true;
-  fenced = is_of_unit a.aim;
+  fenced = is_fence a.aim a.reply.reply;
   numbered = a.numbered;
   ends = a.ends;
   command = None;

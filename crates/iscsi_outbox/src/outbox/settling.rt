@@ -4,14 +4,17 @@ ghost use Rattle.std.specs.Prelude.{◌≡◌, ◌<◌, ◌≤◌, length, true,
 ghost use Rattle.iscsi_outbox_state.specs.Lane.{first_due, without_due};
 ghost use Rattle.iscsi_arrivals.specs.Counts.{heard_by};
 ghost use Rattle.iscsi_outbox_law.specs.promises.Called.{KeepsAllPromises, KeepsToRules};
+ghost use Rattle.iscsi_outbox_rules.specs.rules.Boxes.{Replies};
 ghost use Rattle.iscsi_outbox_rules.specs.rules.Calls.{Clears, Hears, Loses, Stops, Writes};
+ghost use Rattle.iscsi_outbox_rules.specs.rules.Items.{finds_none};
 ghost use Rattle.iscsi_outbox_steps.specs.State.{with_link};
-ghost use Rattle.iscsi_outbox_steps.specs.Steps.{answer_item, arrived_command, cleared_of, heard, is_of_unit, is_running, is_running_ticket, lost, lost_on, next_arrived, settle, stopped, stopped_command, trail, written};
+ghost use Rattle.iscsi_outbox_steps.specs.Steps.{answer_item, arrived_command, cleared_of, heard, is_fence, is_of_unit, is_running, is_running_ticket, lost, lost_on, next_arrived, settle, stopped, stopped_command, trail, written};
 ghost use Rattle.iscsi_tracked.specs.Tracked.{has_place};
 
 use crate::outbox::Outbox;
 use iscsi_outbox_state::{Aim, Content, Undue, Waiting};
 use iscsi_tracked::{Command, Phase};
+use iscsi_wire::{FunctionResponse, Reply};
 
 impl Outbox {
     /// The unit of a command that left doesn't touch the medium for it any more. False, and nothing changes, where no command
@@ -211,10 +214,34 @@ fn answer_item(answer: Undue) -> Waiting
     Waiting {
         content: Content::Reply(answer.reply),
         takes: true,
-        fenced: is_of_unit(answer.aim),
+        fenced: is_fence(answer.aim, &answer.reply.reply),
         numbered: answer.numbered,
         ends: answer.ends,
         command: None,
+    }
+}
+
+/// Whether nothing overtakes it, nor it anything, on another connection: the answer to a function of several tasks, or to an
+/// ABORT TASK that found none, as the task may have completed just before, and be under way elsewhere (RFC 7143 section 11.6.1).
+fn is_fence(aim: Aim, reply: &Reply) -> bool
+    ensures { result ≡ is_fence aim reply.now }
+{
+    match aim {
+        Aim::Unit(_) => true,
+        Aim::Tag(_) => finds_none(reply),
+        Aim::Conn(_) | Aim::Session | Aim::Nothing => false,
+    }
+}
+
+/// Whether an ABORT TASK is answered so that found no task (RFC 7143 section 11.6.1).
+fn finds_none(reply: &Reply) -> bool
+    ensures { result ≡ finds_none (Replies reply.now) }
+{
+    match reply {
+        Reply::Task { response, .. } => *response == FunctionResponse::NoTask.code(),
+        Reply::Scsi { .. } | Reply::Logout { .. } | Reply::Nop { .. } | Reply::Reject { .. } => {
+            false
+        }
     }
 }
 

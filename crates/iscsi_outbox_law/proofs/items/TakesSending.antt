@@ -12,16 +12,16 @@ use Rattle.iscsi_rules.specs.rules.Trace.{first_of}
 use Rattle.iscsi_rules.specs.rules.Execution.{unit_named}
 use Rattle.iscsi_rules.specs.promises.Closes.{is_session_close}
 use Rattle.iscsi_outbox_rules.specs.rules.Calls.{Opening}
-use Rattle.iscsi_outbox_rules.specs.rules.Boxes.{Aim as RulesAim, AtTag, AtUnit, AtConns, Task, Box}
+use Rattle.iscsi_outbox_rules.specs.rules.Boxes.{Aim as RulesAim, AtTag, AtUnit, AtConns, Replies, Task, Box}
 use Rattle.iscsi_outbox_rules.specs.rules.Words.{contains}
 use Rattle.iscsi_outbox_rules.specs.rules.Queues.{takes_more}
-use Rattle.iscsi_outbox_rules.specs.rules.Items.{aim as aim_box, aim_of as aim_of_box, answer, closed_in as closed_in_box, is_aimed_at as is_aimed_at_task, is_numbered as is_numbered_box, is_set, outgoing, send_as}
+use Rattle.iscsi_outbox_rules.specs.rules.Items.{aim as aim_box, aim_of as aim_of_box, answer, closed_in as closed_in_box, is_aimed_at as is_aimed_at_task, is_fence as is_fence_box, is_numbered as is_numbered_box, outgoing, send_as}
 use Rattle.iscsi_outbox_rules.specs.promises.Room.{places as places_of}
 use Rattle.iscsi_outbox_state.specs.declared.lane.Aim.{Aim}
 use Rattle.iscsi_outbox_state.specs.declared.lane.Aim.TheVariants.{Tag, Unit as OfUnit, Conn, Session, Nothing}
 use Rattle.iscsi_outbox_state.specs.Lane.{aims_at, is_of_logout}
 use Rattle.iscsi_outbox_steps.specs.State.{State, Limits, place_of}
-use Rattle.iscsi_outbox_steps.specs.Steps.{aim_of, aim_of_logout, await, enter, has_room, has_time, is_of_unit, is_reset, placed, reply_item, send_on}
+use Rattle.iscsi_outbox_steps.specs.Steps.{aim_of, aim_of_logout, await, enter, has_room, has_time, is_fence, is_of_unit, is_reset, placed, reply_item, send_on}
 use Rattle.iscsi_tracked.specs.declared.command.Command.{Command}
 use Rattle.iscsi_outbox_law.specs.private.Pairs.{InOrder}
 use Rattle.iscsi_outbox_law.specs.private.Links.{place_of_command}
@@ -57,13 +57,21 @@ logout_aim s (CloseConn cid ∷ item) = by_whole (list_any is_session_close item
 logout_aim s (CloseSession ∷ item) = tt
 logout_aim s (Ignore why ∷ item) = logout_aim s item
 
-unit_as : (x : Aim) (y : RulesAim) → IsAim x y → is_of_unit x ≡ is_set y
-unit_as (Tag tag) (AtTag t u) k = refl
-unit_as (OfUnit v) (AtUnit u) k = refl
-unit_as (Conn conn) AtConns k = refl
-unit_as Session AtConns k = refl
-unit_as Nothing AtConns k = refl
-unit_as x y k = absurd k
+no_unit : (x : Aim) → IsAim x AtConns → is_of_unit x ≡ false
+no_unit (Tag tag) k = absurd k
+no_unit (OfUnit v) k = absurd k
+no_unit (Conn conn) k = refl
+no_unit Session k = refl
+no_unit Nothing k = refl
+
+-- what is fenced for the outbox is so for the rules
+fence_as : (x : Aim) (y : RulesAim) (reply : Reply) → IsAim x y → is_fence x reply ≡ is_fence_box y (Replies reply)
+fence_as (Tag tag) (AtTag t u) reply k = refl
+fence_as (OfUnit v) (AtUnit u) reply k = refl
+fence_as (Conn conn) AtConns reply k = refl
+fence_as Session AtConns reply k = refl
+fence_as Nothing AtConns reply k = refl
+fence_as x y reply k = absurd k
 
 logout_as : (x : Aim) (y : RulesAim) → IsAim x y → y ≡ AtConns → is_of_logout x ≡ true
 logout_as (Tag tag) (AtTag t u) k is = absurd cc
@@ -119,7 +127,7 @@ module _ (o : Opening) (s : State) (b : Box) (h : Stands o s b) (apart : AreApar
   of_logout : (r : Request) → (opcode r == 0x02) ≡ false → SameAim r (aim_of_logout item s) AtConns
   of_logout r isnt = record {
     is = logout_aim s item;
-    uncleared = ap (λ (w : Bool). (s.limits.shared && is_reset r) && w) (unit_as (aim_of_logout item s) AtConns (logout_aim s item)) ∙ and_no (s.limits.shared && is_reset r)
+    uncleared = ap (λ (w : Bool). (s.limits.shared && is_reset r) && w) (no_unit (aim_of_logout item s) (logout_aim s item)) ∙ and_no (s.limits.shared && is_reset r)
         ∙ sym (ap (λ (w : Bool). (o.shared && w) && (function r == 4 || function r == 5)) isnt ∙ ap (λ (w : Bool). w && (function r == 4 || function r == 5)) (and_no o.shared));
     aimed = λ d t k. logout_aims o s b h apart before same t d k.conn item one_close;
   }
@@ -173,7 +181,7 @@ module _ (o : Opening) (s : State) (b : Box) (h : Stands o s b) (apart : AreApar
       conn = found;
       aim = k.is;
       takes = refl;
-      fenced = sym (unit_as x y k.is);
+      fenced = sym (fence_as x y reply k.is);
       numbered = number;
       ends = ap (λ (w : Bool). w && is_of_logout x) (closes_this o s b h apart cid p at closes) ∙ by_closes (contains closes cid) refl;
       ticket = refl;

@@ -12,7 +12,7 @@ use Rattle.iscsi_outbox_state.specs.declared.lane.Standing.TheVariants.{Left as 
 use Rattle.iscsi_outbox_state.specs.Lane.{aims_at, is_command, is_left}
 use Rattle.iscsi_tracked.specs.declared.command.Command.{Command}
 use Rattle.iscsi_tracked.specs.Tracked.{Tracked, find_place, is_out}
-use Rattle.iscsi_outbox_steps.specs.Steps.{is_live, is_of_unit, is_running}
+use Rattle.iscsi_outbox_steps.specs.Steps.{is_fence, is_live, is_running}
 use Rattle.iscsi_outbox_law.specs.private.Pairs.{EachOf, place_in}
 use Rattle.iscsi_outbox_law.specs.private.Links.{word_of}
 
@@ -60,7 +60,7 @@ pub record IsAnswer (cids : List ℕ) (v : Tracked) (before : List Standing) (a 
   pub conn : place_in cids answer.conn ≡ Some a.conn
   pub aim : IsAim a.aim answer.aim
   pub takes : answer.out.takes ≡ true
-  pub fenced : answer.out.fenced ≡ is_of_unit a.aim
+  pub fenced : answer.out.fenced ≡ is_fence a.aim a.reply.reply
   pub numbered : a.numbered ≡ answer.out.numbered
   pub ends : a.ends ≡ contains answer.out.closes answer.conn
   pub ticket : answer.out.ticket ≡ None

@@ -1,31 +1,31 @@
--- The answer to a function of several tasks is fenced, and takes a StatSN, wherever it waits.
+-- The answer to a function of several tasks, or to an ABORT TASK that found none, is fenced, and takes a StatSN, wherever it waits.
 use Rattle.std.proofs.Common.{◌≡◌, ℕ, ◌==◌, ◌+◌, ◌&&◌, not, Bool, true, false, List, [], ◌∷◌, ◌++◌, map, drop, length, filter_map, Option, Some, None, refl, ap, sym, subst, ◌∙◌}
 use Rattle.std.specs.List.{list_any}
 use Rattle.std.proofs.lemmas.Bool.{cond_both, false≢true}
 use Rattle.std.proofs.lemmas.List.{append_assoc}
 use Rattle.iscsi_wire.specs.declared.reply.Reply.{Reply}
+use Rattle.iscsi_wire.specs.declared.reply.Reply.TheVariants.{Task as TaskReply}
 use Rattle.iscsi_wire.specs.declared.request.Request.{Request}
 use Rattle.iscsi_rules.specs.declared.effect.Effect.{Effect}
 use Rattle.iscsi_rules.specs.rules.Trace.{first_of}
 use Rattle.iscsi_outbox_rules.specs.rules.Calls.{Opening, Call}
-use Rattle.iscsi_outbox_rules.specs.rules.Boxes.{Outgoing, Handed, Aim, AtTag, AtUnit, AtConns, Answer, Link, Box}
+use Rattle.iscsi_outbox_rules.specs.rules.Boxes.{Replies, Outgoing, Handed, Aim, AtTag, AtUnit, AtConns, Answer, Link, Box}
 use Rattle.iscsi_outbox_rules.specs.rules.Queues.{at_link, takes_more, append, enter, without, emptied}
-use Rattle.iscsi_outbox_rules.specs.rules.Items.{executing, tickets_left, reply_sent, outgoing, is_set, answer, send_as, aim, send}
+use Rattle.iscsi_outbox_rules.specs.rules.Items.{executing, tickets_left, reply_sent, outgoing, finds_none, is_fence, answer, send_as, aim, send}
 use Rattle.iscsi_outbox_rules.specs.rules.Own.{own_outgoing}
 use Rattle.iscsi_outbox_rules.specs.rules.Handing.{is_from_queue, taken_from, handed_as}
 use Rattle.iscsi_outbox_rules.specs.rules.Run.{new_link, opened, after_call, answered, waits_for_clear, cleared}
 use Rattle.iscsi_outbox_rules.specs.promises.Deeds.{Deed, items_in}
-use Rattle.iscsi_outbox_rules.specs.promises.Scope.{Sent, nth, aim_of_sent}
-use Rattle.iscsi_outbox_rules.specs.promises.Fence.{is_of_set}
+use Rattle.iscsi_outbox_rules.specs.promises.Scope.{Sent, nth, aim_of_sent, says_no_task, covers_completed}
 use Rattle.iscsi_outbox_rules.proofs.general.EachLemmas.{EachOf, each-append, each-first, each-second, each-map, each-filter, each-at_link, each-drop_one}
 use Rattle.iscsi_outbox_rules.proofs.general.FirstLemmas.{firsts, firsts-none, firsts-some, length-push}
 use Rattle.iscsi_outbox_rules.proofs.general.Walks.{Walk}
 use Rattle.iscsi_outbox_rules.proofs.order.LineRuns.{sent_now}
 use Rattle.iscsi_outbox_rules.proofs.general.Boxwise.{Boxwise, box_keeps}
 
--- the reply answers a function of several tasks
+-- the reply answers a function of several tasks, or an ABORT TASK that found none
 abbrev pub is_for_set : Opening → Sent → Bool
-is_for_set o s = elim (aim_of_sent o s) [ Some about ↦ is_of_set about | None ↦ false ]
+is_for_set o s = elim (aim_of_sent o s) [ Some about ↦ covers_completed about s.reply | None ↦ false ]
 
 some_same : (x y : Sent) → Some x ≡ Some y → x ≡ y
 some_same x y h = cc
@@ -33,10 +33,14 @@ some_same x y h = cc
 some_number : (m n : ℕ) → Some m ≡ Some n → m ≡ n
 some_number m n h = cc
 
-set_is : (about : Aim) → is_of_set about ≡ true → is_set about ≡ true
-set_is (AtTag tag unit) is = absurd (false≢true is)
-set_is (AtUnit unit) is = refl
-set_is AtConns is = absurd (false≢true is)
+none_is : (reply : Reply) → says_no_task reply ≡ true → finds_none (Replies reply) ≡ true
+none_is (TaskReply tag response) is = is
+none_is _ is = absurd (false≢true is)
+
+set_is : (about : Aim) (reply : Reply) → covers_completed about reply ≡ true → is_fence about (Replies reply) ≡ true
+set_is (AtTag tag unit) reply is = none_is reply is
+set_is (AtUnit unit) reply is = refl
+set_is AtConns reply is = absurd (false≢true is)
 
 module _ (o : Opening) (all : List (List Effect)) where
   abbrev pub Fenced : Outgoing → Type 0
@@ -88,7 +92,7 @@ module _ (o : Opening) (all : List (List Effect)) where
       -- one that doesn't have to wait answers no such function
       at_once : (r : Option Request) → executing item ≡ r → aim o r s.1 ≡ None → Fenced (outgoing b r (tickets_left item) s.1)
       at_once r is none p t place nth_is for =
-          absurd (false≢true (sym (ap (λ (x : Sent). is_for_set o x) (sym (is_sent p t place nth_is)) ∙ ap (λ x. elim x [ Some about ↦ is_of_set about | None ↦ false ]) (ap (λ q. aim o q s.1) is ∙ none)) ∙ for))
+          absurd (false≢true (sym (ap (λ (x : Sent). is_for_set o x) (sym (is_sent p t place nth_is)) ∙ ap (λ x. elim x [ Some about ↦ covers_completed about s.1 | None ↦ false ]) (ap (λ q. aim o q s.1) is ∙ none)) ∙ for))
 
       enters_now : (r : Option Request) → executing item ≡ r → aim o r s.1 ≡ None → FencesStand its (let b' = enter s.0 (outgoing b r (tickets_left item) s.1) b in record b' { sent = b'.sent + 1 })
       enters_now r is none = record { counted = counted; links = entered s.0 (record (outgoing b r (tickets_left item) s.1) { time = b.time }) b.links (at_once r is none) h.links; undue = h.undue }
@@ -98,8 +102,8 @@ module _ (o : Opening) (all : List (List Effect)) where
       by_aim r is (Some about) some =
           let a : Answer = answer o b r conns closes s.0 (outgoing b (Some r) (tickets_left item) s.1) about in
           let fenced : Fenced a.out = λ p t place nth_is for. (
-            set_is about
-                (sym (ap (λ x. elim x [ Some why ↦ is_of_set why | None ↦ false ]) (ap (λ q. aim o q s.1) is ∙ some)) ∙ ap (λ (x : Sent). is_for_set o x) (is_sent p t place nth_is) ∙ for),
+            set_is about s.1
+                (sym (ap (λ x. elim x [ Some why ↦ covers_completed why s.1 | None ↦ false ]) (ap (λ q. aim o q s.1) is ∙ some)) ∙ ap (λ (x : Sent). is_for_set o x) (is_sent p t place nth_is) ∙ for),
             refl,
           ) in
           cond_both (list_any (λ (l : Link). (l.conn == a.conn) && takes_more l) b.links) (record b { undue = b.undue ++ a ∷ [] }) b (λ (b' : Box). FencesStand its (record b' { sent = b'.sent + 1 }))

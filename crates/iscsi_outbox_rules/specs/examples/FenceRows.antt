@@ -1,10 +1,10 @@
--- Worked lists: the response fence, and pings.
-use Rattle.std.specs.Prelude.{List, [], ◌∷◌, refl, false}
-use Rattle.iscsi_wire.specs.declared.reply.Reply.TheVariants.{Task, Nop}
+-- Worked lists: the response fence, of functions of several tasks and of ABORT TASKs that found none; and pings.
+use Rattle.std.specs.Prelude.{List, [], ◌∷◌, refl, false, None}
+use Rattle.iscsi_wire.specs.declared.reply.Reply.TheVariants.{Scsi, Task, Nop}
 use Rattle.iscsi_tasks.specs.Rules as Rules
-use Rattle.iscsi_rules.specs.examples.Rows.{nop_now, function_now, of_two}
+use Rattle.iscsi_rules.specs.examples.Rows.{command, nop_now, function_now, of_two}
 use Rattle.iscsi_outbox_rules.specs.rules.Boxes.{Owns, Pings}
-use Rattle.iscsi_outbox_rules.specs.examples.Rows.{outbox, Worked, arrives, joins, is_lost, is_written, acknowledges, answers_ping, goes, replies, none_goes, message, puts, Row}
+use Rattle.iscsi_outbox_rules.specs.examples.Rows.{outbox, Worked, arrives, completes, joins, is_lost, is_written, acknowledges, answers_ping, goes, replies, none_goes, data_of, message, puts, Row}
 
 -- what entered before on another connection goes first, and is known to have arrived; what entered behind goes behind
 abbrev pub fence_rows : List Row
@@ -170,3 +170,75 @@ written_is_enough_rows =
 pub written_is_enough : Worked (record (outbox (of_two 4)) { acknowledged = false }) written_is_enough_rows
 unfolding Rules.bars_as
 written_is_enough = refl
+
+-- a command completed on connection 2, whose data and status wait: an ABORT TASK of it on connection 1 finds none. Its answer goes
+-- out when both are known to have arrived, and not while they wait or are under way; what is sent behind it on connection 2 goes
+-- behind it. Then the tag may be used again
+abbrev pub no_task_rows : List Row
+no_task_rows =
+    joins 1 1
+    ∷ joins 2 1
+    ∷ arrives 2 (command 0xa1 1)
+    ∷ puts (data_of 1)
+    ∷ completes 1 0
+    ∷ arrives 1 (function_now 1 2 0xb1 0xa1 1)
+    ∷ arrives 2 (nop_now 0xc1 2)
+    ∷ none_goes 1
+    ∷ goes 2 (Owns (data_of 1)) 1 2 5
+    ∷ none_goes 1
+    ∷ replies 2 (Scsi 0xa1 0 None) 1 2 5
+    ∷ none_goes 1
+    ∷ goes 2 (Pings 0x8000_0000) 2 2 5
+    ∷ none_goes 2
+    ∷ acknowledges 2 2
+    ∷ replies 1 (Task 0xb1 1) 1 2 5
+    ∷ none_goes 2
+    ∷ arrives 1 (command 0xa1 2)
+    ∷ acknowledges 1 2
+    ∷ replies 2 (Nop 0xc1) 2 3 5
+    ∷ []
+
+pub no_task : Worked (outbox (of_two 4)) no_task_rows
+unfolding Rules.bars_as
+no_task = refl
+
+-- where written is enough, it goes out when both are written
+abbrev pub no_task_written_rows : List Row
+no_task_written_rows =
+    joins 1 1
+    ∷ joins 2 1
+    ∷ arrives 2 (command 0xa1 1)
+    ∷ puts (data_of 1)
+    ∷ completes 1 0
+    ∷ arrives 1 (function_now 1 2 0xb1 0xa1 1)
+    ∷ goes 2 (Owns (data_of 1)) 1 2 5
+    ∷ replies 2 (Scsi 0xa1 0 None) 1 2 5
+    ∷ none_goes 1
+    ∷ is_written 2
+    ∷ none_goes 1
+    ∷ is_written 2
+    ∷ replies 1 (Task 0xb1 1) 1 2 5
+    ∷ []
+
+pub no_task_written : Worked (record (outbox (of_two 4)) { acknowledged = false }) no_task_written_rows
+unfolding Rules.bars_as
+no_task_written = refl
+
+-- a connection that is lost holds it back no more
+abbrev pub no_task_lost_rows : List Row
+no_task_lost_rows =
+    joins 1 1
+    ∷ joins 2 1
+    ∷ arrives 2 (command 0xa1 1)
+    ∷ puts (data_of 1)
+    ∷ completes 1 0
+    ∷ goes 2 (Owns (data_of 1)) 1 2 5
+    ∷ arrives 1 (function_now 1 2 0xb1 0xa1 1)
+    ∷ none_goes 1
+    ∷ is_lost 2
+    ∷ replies 1 (Task 0xb1 1) 1 2 5
+    ∷ []
+
+pub no_task_lost : Worked (outbox (of_two 4)) no_task_lost_rows
+unfolding Rules.bars_as
+no_task_lost = refl

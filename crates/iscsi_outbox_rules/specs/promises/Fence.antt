@@ -1,21 +1,18 @@
--- The response fence of functions of several tasks (RFC 7143 section 4.2.2.3.4): with several connections.
+-- The response fence of functions of several tasks (RFC 7143 section 4.2.2.3.4), and of ABORT TASKs that found none: with several
+-- connections.
 use Rattle.std.specs.Prelude.{◌≡◌, ◌≢◌, ◌<◌, ℕ, ◌==◌, ◌||◌, Bool, true, false, List, ◌∷◌, ◌++◌, Some, None, not}
 use Rattle.std.specs.List.{list_any}
 use Rattle.iscsi_rules.specs.declared.effect.Effect.{Effect}
 use Rattle.iscsi_outbox_rules.specs.rules.Calls.{Opening}
-use Rattle.iscsi_outbox_rules.specs.rules.Boxes.{Handed, Aim, AtUnit}
+use Rattle.iscsi_outbox_rules.specs.rules.Boxes.{Handed}
 use Rattle.iscsi_outbox_rules.specs.promises.Deeds.{Deed, handed_in_deed, handed_in, items_in, has_joined, was_lost}
 use Rattle.iscsi_outbox_rules.specs.promises.Arrived.{is_through}
-use Rattle.iscsi_outbox_rules.specs.promises.Scope.{Sent, nth, sent_by, sent_as, aim_of_sent, closes_in}
+use Rattle.iscsi_outbox_rules.specs.promises.Scope.{Sent, nth, sent_by, sent_as, aim_of_sent, closes_in, covers_completed}
 
-abbrev pub is_of_set : Aim → Bool
-is_of_set (AtUnit unit) = true
-is_of_set _ = false
-
--- the answer to a function of several tasks
+-- the answer to a function of several tasks, or to an ABORT TASK that found none
 abbrev pub is_fenced : Opening → List (List Effect) → Handed → Bool
 is_fenced o items h = elim (sent_as items h.out) [
-  | Some s ↦ elim (aim_of_sent o s) [ Some about ↦ is_of_set about | None ↦ false ]
+  | Some s ↦ elim (aim_of_sent o s) [ Some about ↦ covers_completed about s.reply | None ↦ false ]
   | None ↦ false
 ]
 

@@ -2,6 +2,7 @@
 use Rattle.std.specs.Prelude.{ℕ, zero, suc, ◌==◌, ◌&&◌, not, Bool, true, false, List, [], ◌∷◌, ◌++◌, filter_map, map, Option, Some, None}
 use Rattle.std.specs.List.{list_any, flat_map}
 use Rattle.iscsi_wire.specs.declared.reply.Reply.{Reply}
+use Rattle.iscsi_wire.specs.declared.reply.Reply.TheVariants.{Task as TaskReply}
 use Rattle.iscsi_wire.specs.declared.request.Request.{Request}
 use Rattle.iscsi_wire.specs.Fields.{connection_of, itt}
 use Rattle.iscsi_rules.specs.declared.effect.Effect.{Effect}
@@ -65,6 +66,17 @@ abbrev pub is_about : Aim → List Effect → Entered → Bool
 is_about (AtTag tag unit) item e = itt e.request == tag && e.unit == unit
 is_about (AtUnit unit) item e = e.unit == unit
 is_about AtConns item e = closes_in (connection_of e.request) item
+
+-- the answer says that there is no such task (RFC 7143 section 11.6.1)
+abbrev pub says_no_task : Reply → Bool
+says_no_task (TaskReply tag response) = response == 1
+says_no_task _ = false
+
+-- it answers a function of several tasks, or an ABORT TASK that found none: what completed before is over by it, too
+abbrev pub covers_completed : Aim → Reply → Bool
+covers_completed (AtUnit unit) reply = true
+covers_completed (AtTag tag unit) reply = says_no_task reply
+covers_completed AtConns reply = false
 
 -- what the reply is about, where it answers an abort or a Logout that was carried out
 abbrev pub aim_of_sent : Opening → Sent → Option Aim

@@ -34,7 +34,7 @@ pub record Outgoing : Type 0 where
   pub sent : Option ℕ  -- of a reply: so many replies were before it in the session's log
   pub ticket : Option ℕ  -- the command that it is of, or that it completes
   pub takes : Bool  -- it takes a StatSN
-  pub fenced : Bool  -- it answers a function of several tasks (RFC 7143 section 4.2.2.3)
+  pub fenced : Bool  -- it answers a function of several tasks (RFC 7143 section 4.2.2.3), or an ABORT TASK that found none
   pub numbered : Bool  -- it answers a numbered request
   pub scope : List ℕ  -- the tickets that the initiator holds for over by it
   pub closes : List ℕ  -- the connections that it closes

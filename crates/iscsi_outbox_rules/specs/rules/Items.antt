@@ -13,7 +13,7 @@ use Rattle.iscsi_rules.specs.rules.Trace.{first_of}
 use Rattle.iscsi_rules.specs.rules.Execution.{unit_named}
 use Rattle.iscsi_rules.specs.promises.Order.{in_parts}
 use Rattle.iscsi_outbox_rules.specs.rules.Calls.{Opening}
-use Rattle.iscsi_outbox_rules.specs.rules.Boxes.{Phase, Dormant, Fresh, Started, Completed, Running, Gone, Task, Replies, Outgoing, Aim, AtTag, AtUnit, AtConns, Answer, Link, Box}
+use Rattle.iscsi_outbox_rules.specs.rules.Boxes.{Phase, Dormant, Fresh, Started, Completed, Running, Gone, Task, Pdu, Replies, Outgoing, Aim, AtTag, AtUnit, AtConns, Answer, Link, Box}
 use Rattle.iscsi_outbox_rules.specs.rules.Words.{contains, is_live_phase, is_left_phase}
 use Rattle.iscsi_outbox_rules.specs.rules.Queues.{takes_more, at_link, enter, drop_of, drop_on}
 use Rattle.iscsi_outbox_rules.specs.rules.Due.{settle}
@@ -151,9 +151,18 @@ outgoing b r tickets reply = record {
   closes = [];
 }
 
-abbrev pub is_set : Aim → Bool
-is_set (AtUnit unit) = true
-is_set _ = false
+-- an ABORT TASK that found no task is answered so (RFC 7143 section 11.6.1)
+abbrev pub finds_none : Pdu → Bool
+finds_none (Replies (TaskReply tag response)) = response == 1
+finds_none _ = false
+
+-- nothing overtakes such an answer on another connection, nor does it overtake what went before: one to a function of several
+-- tasks, or to an ABORT TASK that found none, as the task may have completed just before, and be under way elsewhere
+-- outbox: fence/set, fence/no-task
+abbrev pub is_fence : Aim → Pdu → Bool
+is_fence (AtUnit unit) pdu = true
+is_fence (AtTag tag unit) pdu = finds_none pdu
+is_fence AtConns pdu = false
 
 -- `conns`: those that its item closes; `closes`: those of them that weren't closed before
 abbrev pub answer : Opening → Box → Request → List ℕ → List ℕ → ℕ → Outgoing → Aim → Answer
@@ -161,7 +170,7 @@ answer o b r conns closes conn out aim = record {
   conn = conn;
   aim = aim;
   uncleared = o.shared && opcode r == 0x02 && (function r == 4 || function r == 5);
-  out = record out { fenced = is_set aim; scope = scope_of b aim conns; closes = closes };
+  out = record out { fenced = is_fence aim out.pdu; scope = scope_of b aim conns; closes = closes };
 }
 
 -- an answer waits until it is due, if its connection takes it
