@@ -12,7 +12,7 @@ use Rattle.iscsi_outbox_rules.proofs.commands.CommandTheorem.{keeps_command_orde
 use Rattle.iscsi_outbox_rules.proofs.order.OwnTheorem.{keeps_connection_order}
 use Rattle.iscsi_outbox_rules.proofs.commands.ResponseTheorem.{sends_all_before}
 use Rattle.iscsi_outbox_rules.proofs.closes.ClosedTheorem.{none_behind}
-use Rattle.iscsi_outbox_rules.proofs.aborts.SilentTheorem.{is_silent_after}
+use Rattle.iscsi_outbox_rules.proofs.aborts.PastTheorem.{completes_before, is_silent_after}
 use Rattle.iscsi_outbox_rules.proofs.aborts.ScopeTheorem.{stops_before}
 use Rattle.iscsi_outbox_rules.proofs.aborts.DueTheorem.{arrives_before}
 use Rattle.iscsi_outbox_rules.proofs.fences.FenceTheorem.{fence_before, fence_behind}
@@ -24,7 +24,7 @@ keeps_promises o calls flow known =
     let follows : FollowsSession o calls = (known.events, known.follows) in
     record {
       silent = is_silent_after o calls follows;
-      still = record { stopped = stops_before o calls known; through = arrives_before o calls known };
+      still = record { stopped = stops_before o calls known; through = arrives_before o calls known; completed = completes_before o calls follows };
       fence = record { before = fence_before o calls follows; behind = fence_behind o calls follows; in_order = fence_in_order o calls follows; first = fence_first o calls follows };
       closed = record { behind = none_behind o calls known; joined = none_unjoined o calls; lost = none_lost o calls };
       once = record { sent = sends_what_was_sent o calls follows; once = goes_once o calls; order = goes_in_order o calls follows; moments = enters_in_order o calls follows };

@@ -15,3 +15,7 @@ pub mod ScopeRunning
 pub mod ScopeLeaves
 pub mod ScopeTheorem
 pub mod DueTheorem
+pub mod PastItems
+pub mod PastReplies
+pub mod PastTakes
+pub mod PastTheorem

@@ -11,7 +11,7 @@ ghost use Rattle.iscsi_outbox_rules.specs.promises.Order.{KeepsCommandOrder, Kee
 ghost use Rattle.iscsi_outbox_rules.specs.promises.Promises.{KeepsPromises};
 ghost use Rattle.iscsi_outbox_rules.specs.promises.Room.{RepliesFit, RoomOnTheWay, ShownFits, Step, TasksFit};
 ghost use Rattle.iscsi_outbox_rules.specs.promises.Silent.{SilentAfter};
-ghost use Rattle.iscsi_outbox_rules.specs.promises.Still.{ArrivesBefore, StopsBefore};
+ghost use Rattle.iscsi_outbox_rules.specs.promises.Still.{ArrivesBefore, CompletesBefore, StopsBefore};
 ghost use Rattle.iscsi_outbox_rules.specs.promises.Word.{WordHolds, tells};
 ghost use Rattle.iscsi_outbox_rules.specs.rules.Calls.{Call, Opening};
 
@@ -50,7 +50,8 @@ pub fn order_law()
 {}
 
 /// If what is taken is what a session gives, nothing of a command goes out after the answer to an abort or a Logout by which it is
-/// over (SAM-5 section 7): no Data-In or R2T, and no SCSI Response.
+/// over (SAM-5 section 7): no Data-In or R2T, and no SCSI Response. It is over as it was taken out; and by the answer to a function of
+/// several tasks, or to an ABORT TASK that found none, also where it had completed.
 pub fn silent_law()
     ensures silent { (o : Opening) (calls : List Call) → FollowsSession o calls → SilentAfter o (deeds_of o calls) }
 {}
@@ -58,17 +59,19 @@ pub fn silent_law()
 /// If what is taken is what a session gives, whose requests came on its own connections: as the answer to an abort or a Logout goes
 /// out, no command that is over by it touches the medium any more (SAM-5 section 7). One that was told to its unit before it left was
 /// reported stopped since. And as the answer to an abort goes out, nothing of one is under way on another connection (RFC 7143 section
-/// 4.2.3.3): it is known to have arrived, or was written where that is enough, or its connection was lost.
+/// 4.2.3.3): it is known to have arrived, or was written where that is enough, or its connection was lost. So it is of one that had
+/// completed, where that is over by the answer, but for a connection that another one's Logout closed: what lies there isn't read.
 pub fn still_law()
     ensures stopped { (o : Opening) (calls : List Call) → FollowsKnown o calls → StopsBefore o (deeds_of o calls) }
     ensures through { (o : Opening) (calls : List Call) → FollowsKnown o calls → ArrivesBefore o (deeds_of o calls) }
+    ensures completed { (o : Opening) (calls : List Call) → FollowsSession o calls → CompletesBefore o (deeds_of o calls) }
 {}
 
-/// If what is taken is what a session gives: as the answer to a function of several tasks goes out, what took a StatSN before it on
+/// If what is taken is what a session gives: as the answer to a function of several tasks goes out, or to an ABORT TASK that found none, what took a StatSN before it on
 /// another connection isn't under way any more; and what takes one goes out behind it elsewhere only when it is known to have
 /// arrived, where that is looked for, or its own connection was lost (RFC 7143 section 4.2.2.3.4). Of the two the one that entered its
 /// queue first goes first. And a reply that was sent before it, and didn't have to wait, goes out before it, unless its connection
-/// hadn't joined as it was sent, was closed or lost.
+/// hadn't joined as it was sent, was lost, or closed by another one's Logout.
 pub fn fence_law()
     ensures before { (o : Opening) (calls : List Call) → FollowsSession o calls → FenceBefore o (deeds_of o calls) }
     ensures behind { (o : Opening) (calls : List Call) → FollowsSession o calls → FenceBehind o (deeds_of o calls) }

@@ -6,7 +6,7 @@ use Rattle.iscsi_outbox_rules.specs.rules.Calls.{Opening, Call}
 use Rattle.iscsi_outbox_rules.specs.rules.Boxes.{Outgoing, Handed, Link, Box}
 use Rattle.iscsi_outbox_rules.specs.rules.Words.{contains}
 use Rattle.iscsi_outbox_rules.specs.promises.Deeds.{Deed, deeds_of, items_in, handed_in_deed, FollowsSession, FollowsKnown}
-use Rattle.iscsi_outbox_rules.specs.promises.Scope.{Sent, nth, sent_by, sent_as, aim_of_sent, is_over_by}
+use Rattle.iscsi_outbox_rules.specs.promises.Scope.{Sent, nth, sent_by, sent_as, aim_of_sent, is_taken_out_by}
 use Rattle.iscsi_outbox_rules.specs.promises.Still.{is_abort, ArrivesBefore}
 use Rattle.iscsi_outbox_rules.proofs.general.EachLemmas.{EachOf, each-first_of}
 use Rattle.iscsi_outbox_rules.proofs.general.Chosen.{FromQueue, IsPing, IsNotice, chosen_from}
@@ -20,7 +20,7 @@ use Rattle.iscsi_outbox_rules.proofs.aborts.DueWays.{is_for_abort, IsClear, Clea
 use Rattle.iscsi_outbox_rules.proofs.aborts.DueCalls.{WaysStand, ways_kept, ways_start}
 
 module _ (o : Opening) (calls : List Call) (of : FollowsKnown o calls) (before after : List Deed) (answer : Deed) (c : ℕ) (h : Handed) (t : ℕ) (whole : before ++ answer ∷ after ≡ deeds_of o calls)
-    (shown : handed_in_deed answer ≡ Some (c, h)) (s : Sent) (is_sent : sent_as (items_in before) h.out ≡ Some s) (over : is_over_by o s t ≡ true) (abort : is_for_abort o s ≡ true) (inside : contains h.out.scope t ≡ true) where
+    (shown : handed_in_deed answer ≡ Some (c, h)) (s : Sent) (is_sent : sent_as (items_in before) h.out ≡ Some s) (over : is_taken_out_by o s t ≡ true) (abort : is_for_abort o s ≡ true) (inside : contains h.out.scope t ≡ true) where
   abbrev follows : FollowsSession o calls
   follows = (of.events, of.follows)
 
@@ -61,7 +61,7 @@ module _ (o : Opening) (calls : List Call) (of : FollowsKnown o calls) (before a
       let same : y.reply ≡ s =
       some_sent y.reply s
       (sym y.nth_is ∙ ap (λ p. nth p (firsts items)) place ∙ ap (nth placed.0) (sym (sent_by-firsts items (one_reply_before o calls before (answer ∷ after) whole follows))) ∙ placed.1.1) in
-      subst (IsClear o t before) (found-conn c box.links n.link n.found) (y.clear (subst (λ r. is_over_by o r t ≡ true) (sym same) over) (subst (λ r. is_for_abort o r ≡ true) (sym same) abort))
+      subst (IsClear o t before) (found-conn c box.links n.link n.found) (y.clear (subst (λ r. is_taken_out_by o r t ≡ true) (sym same) over) (subst (λ r. is_for_abort o r ≡ true) (sym same) abort))
 
   queued : FromQueue o box n.link n.out → IsClear o t before c
   queued q =
@@ -79,6 +79,6 @@ pub arrives_before : (o : Opening) (calls : List Call) → FollowsKnown o calls 
 arrives_before o calls of before after answer c h ticket whole shown abort over = by_sent (sent_as (items_in before) h.out) refl abort over
   where
     by_sent : (x : Option Sent) → sent_as (items_in before) h.out ≡ x
-        → elim x [ Some s ↦ elim (aim_of_sent o s) [ Some about ↦ is_abort about | None ↦ false ] | None ↦ false ] ≡ true → elim x [ Some s ↦ is_over_by o s ticket | None ↦ false ] ≡ true → IsClear o ticket before c
+        → elim x [ Some s ↦ elim (aim_of_sent o s) [ Some about ↦ is_abort about | None ↦ false ] | None ↦ false ] ≡ true → elim x [ Some s ↦ is_taken_out_by o s ticket | None ↦ false ] ≡ true → IsClear o ticket before c
     by_sent None is aborts e = absurd (false≢true e)
     by_sent (Some s) is aborts e = is_clear o calls of before after answer c h ticket whole shown s is e aborts (over_in_scope o calls of before after answer c h ticket whole shown over)

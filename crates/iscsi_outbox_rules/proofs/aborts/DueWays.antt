@@ -18,7 +18,7 @@ use Rattle.iscsi_outbox_rules.specs.rules.Items.{executing, tickets_left, reply_
 use Rattle.iscsi_outbox_rules.specs.rules.Run.{opened}
 use Rattle.iscsi_outbox_rules.specs.promises.Deeds.{Deed, FollowsSession, deeds_of, handed_in_deed, items_in}
 use Rattle.iscsi_outbox_rules.specs.promises.Arrived.{is_through}
-use Rattle.iscsi_outbox_rules.specs.promises.Scope.{Sent, nth, aim_of_sent, is_over_by}
+use Rattle.iscsi_outbox_rules.specs.promises.Scope.{Sent, nth, aim_of_sent, is_taken_out_by}
 use Rattle.iscsi_outbox_rules.specs.promises.Silent.{ticket_of}
 use Rattle.iscsi_outbox_rules.specs.promises.Still.{is_abort}
 use Rattle.iscsi_outbox_rules.proofs.general.EachLemmas.{EachOf, each-append, each-first, each-second, each-weaken, each-map, each-filter, each-first_of, each-at_link}
@@ -82,7 +82,7 @@ module _ (o : Opening) where
       pub reply : Sent
       pub place_is : out.sent ≡ Some place
       pub nth_is : nth place (firsts items) ≡ Some reply
-      pub clear : is_over_by o reply t ≡ true → is_for_abort reply ≡ true → IsClear ds conn
+      pub clear : is_taken_out_by o reply t ≡ true → is_for_abort reply ≡ true → IsClear ds conn
 
     -- what waits, and has the command in its scope
     abbrev pub Way : List (List Effect) → List Deed → ℕ → Outgoing → Type 0

@@ -19,7 +19,7 @@ use Rattle.iscsi_outbox_rules.specs.rules.Words.{contains, is_live_phase, is_lef
 use Rattle.iscsi_outbox_rules.specs.rules.Queues.{takes_more, enter}
 use Rattle.iscsi_outbox_rules.specs.rules.Due.{settle}
 use Rattle.iscsi_outbox_rules.specs.rules.Items.{executing, tickets_left, ticket_enabled, reply_sent, closed_in, newly_closed, phase_taken_out, phase_completed, phase_enabled, phase_told, task_entered, in_phase, leave, enter_tasks, close, outgoing, answer, send_as, aim, send, after_item, after_items, after_event}
-use Rattle.iscsi_outbox_rules.specs.promises.Scope.{Sent, Entered, nth, entered_in, is_taken_out_in, is_about, is_over_by}
+use Rattle.iscsi_outbox_rules.specs.promises.Scope.{Sent, Entered, nth, entered_in, is_taken_out_in, is_about, is_taken_out_by}
 use Rattle.iscsi_outbox_rules.proofs.general.EachLemmas.{EachOf, each-append, each-map, each-weaken}
 use Rattle.iscsi_outbox_rules.proofs.general.ConnLemmas.{HaveConns}
 use Rattle.iscsi_outbox_rules.proofs.general.FirstLemmas.{firsts, first_sent, firsts-more, firsts-none, firsts-some, nth-first, nth-push, length-push}
@@ -171,7 +171,7 @@ module _ (t c : ℕ) where
         at_place = ap (nth (length (firsts items))) firsts_are ∙ nth-push (firsts items) as_sent
 
         -- one that is about nothing
-        plain : aim o (executing item) s.1 ≡ None → is_over_by o as_sent t ≡ true → ⊥
+        plain : aim o (executing item) s.1 ≡ None → is_taken_out_by o as_sent t ≡ true → ⊥
         plain none over =
             let no : elim (aim o (executing item) s.1) [ Some about ↦ list_any (λ (e : Entered). (e.ticket == t) && is_about about item e) (flat_map entered_in its) | None ↦ false ] ≡ true =
             and_second (list_any (is_taken_out_in t) its) _ over in

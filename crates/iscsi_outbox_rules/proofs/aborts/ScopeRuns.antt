@@ -16,7 +16,7 @@ use Rattle.iscsi_outbox_rules.specs.rules.Words.{contains, is_left_phase, is_run
 use Rattle.iscsi_outbox_rules.specs.rules.Queues.{enter}
 use Rattle.iscsi_outbox_rules.specs.rules.Due.{holds, goes_behind, is_due, settle_from, settle}
 use Rattle.iscsi_outbox_rules.specs.rules.Items.{conns_closed, is_aimed_at, scope_of}
-use Rattle.iscsi_outbox_rules.specs.promises.Scope.{Sent, Entered, nth, entered_in, is_taken_out_in, is_closed_by, closes_in, is_about, aim_of_sent, is_over_by}
+use Rattle.iscsi_outbox_rules.specs.promises.Scope.{Sent, Entered, nth, entered_in, is_taken_out_in, is_closed_by, closes_in, is_about, aim_of_sent, is_taken_out_by}
 use Rattle.iscsi_outbox_rules.proofs.general.EachLemmas.{EachOf, each-append, each-first, each-second, each-any}
 use Rattle.iscsi_outbox_rules.proofs.general.ConnLemmas.{conns_of}
 use Rattle.iscsi_outbox_rules.proofs.general.FirstLemmas.{firsts}
@@ -109,7 +109,7 @@ module _ (o : Opening) (t : ℕ) where
     pub reply : Sent
     pub place_is : out.sent ≡ Some place
     pub nth_is : nth place (firsts items) ≡ Some reply
-    pub over : is_over_by o reply t ≡ true → P
+    pub over : is_taken_out_by o reply t ≡ true → P
 
   -- a PDU that waits has the command in its scope, and the fact holds
   abbrev pub Told : List (List Effect) → Type 0 → Outgoing → Type 0
@@ -120,7 +120,7 @@ module _ (o : Opening) (t : ℕ) where
   Scoped items a = Says items (contains a.out.scope t ≡ true) a.out
 
   -- by it the command was taken out
-  pub said_taken : (items : List (List Effect)) (place : ℕ) (reply : Sent) → nth place (firsts items) ≡ Some reply → is_over_by o reply t ≡ true → list_any (is_taken_out_in t) items ≡ true
+  pub said_taken : (items : List (List Effect)) (place : ℕ) (reply : Sent) → nth place (firsts items) ≡ Some reply → is_taken_out_by o reply t ≡ true → list_any (is_taken_out_in t) items ≡ true
   said_taken items place reply is over =
       let a : Among [] items reply = firsts_among [] items place reply is in
       let first : List (List Effect) = reply.before ++ reply.item ∷ [] in
@@ -169,7 +169,7 @@ module _ (o : Opening) (t : ℕ) where
     pub scoped : (items : List (List Effect)) (item : List Effect) (conn : ℕ) (reply : Reply) (about : Aim) (b : Box) (links : List Link) → contains (conns_of links) c ≡ true
         → aim_of_sent o (record { before = items; item = item; conn = conn; reply = reply }) ≡ Some about → (list_any (is_taken_out_in t) (items ++ item ∷ []) ≡ true → AreIn is_left_phase t b.tasks)
         → EachOf (λ (x : Task). x.ticket ≡ t → x.conn ≡ c) b.tasks → HaveTasks (items ++ item ∷ []) b.tasks
-        → is_over_by o (record { before = items; item = item; conn = conn; reply = reply }) t ≡ true → contains (scope_of b about (flat_map (conns_closed links) item)) t ≡ true
+        → is_taken_out_by o (record { before = items; item = item; conn = conn; reply = reply }) t ≡ true → contains (scope_of b about (flat_map (conns_closed links) item)) t ≡ true
     scoped items item conn reply about b links known aim left homes have over =
         in_scope t (λ (x : Task). is_left_phase x.phase && is_aimed_at about conns x) b.tasks
         (any_with (λ (x : Task). (x.ticket ≡ t → is_left_phase x.phase ≡ true) × (x.ticket ≡ t → x.conn ≡ c)) (is_task_of found.0) (λ (x : Task). (x.ticket == t) && (is_left_phase x.phase && is_aimed_at about conns x)) b.tasks
@@ -219,7 +219,7 @@ module _ (o : Opening) (t : ℕ) where
         later : Scoped items a × EachOf (Scoped items) rest
         later = each-second (Scoped items) before (a ∷ rest) h.undue
 
-        ends : is_due o b before a ≡ true → is_over_by o later.0.reply t ≡ true → AreIn is_over_phase t ts
+        ends : is_due o b before a ≡ true → is_taken_out_by o later.0.reply t ≡ true → AreIn is_over_phase t ts
         ends due over =
             not_running t ts
             (sym (ap (λ us. list_any (λ (x : Task). (x.ticket == t) && is_running_phase x.phase) us) same) ∙ none_among (is_running b) a.out.scope t (runs_none b before a due) (later.0.over over))

@@ -15,7 +15,7 @@ use Rattle.iscsi_outbox_rules.specs.rules.Boxes.{Task, Aim, Outgoing, Handed, Li
 use Rattle.iscsi_outbox_rules.specs.rules.Words.{contains, is_running_phase}
 use Rattle.iscsi_outbox_rules.specs.rules.Run.{Stopped, opened, after_call, after_calls}
 use Rattle.iscsi_outbox_rules.specs.promises.Deeds.{Deed, deeds_from, deeds_of, items_of_call, items_in, handed_in_deed, FollowsSession, FollowsKnown}
-use Rattle.iscsi_outbox_rules.specs.promises.Scope.{Sent, Entered, nth, sent_by, sent_as, entered_in, is_taken_out_in, is_about, aim_of_sent, is_over_by, says_over}
+use Rattle.iscsi_outbox_rules.specs.promises.Scope.{Sent, Entered, nth, sent_by, sent_as, entered_in, is_taken_out_in, is_about, aim_of_sent, is_taken_out_by, says_taken_out}
 use Rattle.iscsi_outbox_rules.specs.promises.Still.{enabled_in, left_in, StopsBefore}
 use Rattle.iscsi_outbox_rules.proofs.general.EachLemmas.{EachOf, each-first, each-weaken, each-first_of, each-any}
 use Rattle.iscsi_outbox_rules.proofs.general.Chosen.{FromQueue, IsPing, IsNotice, chosen_from}
@@ -41,7 +41,7 @@ use Rattle.iscsi_outbox_rules.proofs.aborts.ScopeLeaves.{each-in, calls_append, 
 -- ---- the answer
 
 module _ (o : Opening) (cs : List Call) (of : FollowsKnown o cs) (before after : List Deed) (answer : Deed) (conn : ℕ) (h : Handed) (t : ℕ) (whole : before ++ answer ∷ after ≡ deeds_of o cs)
-    (shown : handed_in_deed answer ≡ Some (conn, h)) (s : Sent) (is_sent : sent_as (items_in before) h.out ≡ Some s) (over : is_over_by o s t ≡ true) where
+    (shown : handed_in_deed answer ≡ Some (conn, h)) (s : Sent) (is_sent : sent_as (items_in before) h.out ≡ Some s) (over : is_taken_out_by o s t ≡ true) where
   follows : FollowsSession o cs
   follows = (of.events, of.follows)
 
@@ -153,7 +153,7 @@ module _ (o : Opening) (cs : List Call) (of : FollowsKnown o cs) (before after :
           some_sent y.reply s
           (sym y.nth_is ∙ ap (λ ds. nth y.place (firsts (items_in ds))) (sym moment.before_is) ∙ ap (λ p. nth p (firsts (items_in before))) place
           ∙ ap (nth placed.0) (sym (sent_by-firsts (items_in before) (one_reply_before o cs before (answer ∷ after) whole follows))) ∙ placed.1.1) in
-          let both = y.over (subst (λ r. is_over_by o r t ≡ true) (sym same) over) in
+          let both = y.over (subst (λ r. is_taken_out_by o r t ≡ true) (sym same) over) in
           (both.0, ap (λ (x : Handed). contains x.out.scope t) n.is ∙ both.1)
 
       queued : FromQueue o box link out → Ends
@@ -204,20 +204,20 @@ module _ (o : Opening) (cs : List Call) (of : FollowsKnown o cs) (before after :
           subst (λ its. leavings t its ≤ 1) (sym items) (omega (arith, all_once, same, counted))
 
       taken : list_any (is_taken_out_in t) (items_in before) ≡ true
-      taken = said_over t o (items_in before) h.out (ap (λ x. elim x [ Some r ↦ is_over_by o r t | None ↦ false ]) is_sent ∙ over)
+      taken = said_over t o (items_in before) h.out (ap (λ x. elim x [ Some r ↦ is_taken_out_by o r t | None ↦ false ]) is_sent ∙ over)
 
 -- the scope that the box has of an answer has each command that is over by it
 pub over_in_scope : (o : Opening) (cs : List Call) → FollowsKnown o cs → (before after : List Deed) (answer : Deed) (conn : ℕ) (h : Handed) (ticket : ℕ) → before ++ answer ∷ after ≡ deeds_of o cs
-    → handed_in_deed answer ≡ Some (conn, h) → says_over o (items_in before) h.out ticket ≡ true → contains h.out.scope ticket ≡ true
+    → handed_in_deed answer ≡ Some (conn, h) → says_taken_out o (items_in before) h.out ticket ≡ true → contains h.out.scope ticket ≡ true
 over_in_scope o cs of before after answer conn h ticket whole shown over = by_sent (sent_as (items_in before) h.out) refl over
   where
-    by_sent : (x : Option Sent) → sent_as (items_in before) h.out ≡ x → elim x [ Some s ↦ is_over_by o s ticket | None ↦ false ] ≡ true → contains h.out.scope ticket ≡ true
+    by_sent : (x : Option Sent) → sent_as (items_in before) h.out ≡ x → elim x [ Some s ↦ is_taken_out_by o s ticket | None ↦ false ] ≡ true → contains h.out.scope ticket ≡ true
     by_sent None is e = absurd (false≢true e)
     by_sent (Some s) is e = (ends o cs of before after answer conn h ticket whole shown s is e).1
 
 pub stops_before : (o : Opening) (cs : List Call) → FollowsKnown o cs → StopsBefore o (deeds_of o cs)
 stops_before o cs of before after answer conn h ticket whole shown over earlier since leaving split left told = by_sent (sent_as (items_in before) h.out) refl over
   where
-    by_sent : (x : Option Sent) → sent_as (items_in before) h.out ≡ x → elim x [ Some s ↦ is_over_by o s ticket | None ↦ false ] ≡ true → Contains since (Stops ticket, Stopped true)
+    by_sent : (x : Option Sent) → sent_as (items_in before) h.out ≡ x → elim x [ Some s ↦ is_taken_out_by o s ticket | None ↦ false ] ≡ true → Contains since (Stops ticket, Stopped true)
     by_sent None is e = absurd (false≢true e)
     by_sent (Some s) is e = was_stopped o cs of before after answer conn h ticket whole shown s is e earlier since leaving split left told

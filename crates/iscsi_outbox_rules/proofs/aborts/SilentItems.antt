@@ -14,8 +14,7 @@ use Rattle.iscsi_outbox_rules.specs.rules.Calls.{Opening}
 use Rattle.iscsi_outbox_rules.specs.rules.Boxes.{Outgoing}
 use Rattle.iscsi_outbox_rules.specs.rules.Words.{contains}
 use Rattle.iscsi_outbox_rules.specs.rules.Items.{executing, tickets_left, reply_sent}
-use Rattle.iscsi_outbox_rules.specs.promises.Scope.{Sent, sent_in, sent_from, sent_by, sent_as, nth, is_taken_out_in, is_over_by, says_over}
-use Rattle.iscsi_outbox_rules.specs.promises.Silent.{completed_in}
+use Rattle.iscsi_outbox_rules.specs.promises.Scope.{Sent, sent_in, sent_from, sent_by, sent_as, nth, is_taken_out_in, is_taken_out_by, says_taken_out, completed_in}
 use Rattle.iscsi_outbox_rules.proofs.general.EachLemmas.{EachOf}
 use Rattle.iscsi_outbox_rules.proofs.general.FirstLemmas.{sent_as_first, firsts_from}
 use Rattle.iscsi_outbox_rules.proofs.commands.LeaveLemmas.{leaving, leavings}
@@ -83,13 +82,13 @@ firsts_among before (item ∷ items) n s h = by_first (first_of (filter_map repl
 module _ (t : ℕ) where
   -- ---- what is over was taken out
 
-  pub over_taken : (o : Opening) (s : Sent) → is_over_by o s t ≡ true → list_any (is_taken_out_in t) (s.before ++ s.item ∷ []) ≡ true
+  pub over_taken : (o : Opening) (s : Sent) → is_taken_out_by o s t ≡ true → list_any (is_taken_out_in t) (s.before ++ s.item ∷ []) ≡ true
   over_taken o s h = and_first (list_any (is_taken_out_in t) (s.before ++ s.item ∷ [])) _ h
 
-  pub said_over : (o : Opening) (items : List (List Effect)) (out : Outgoing) → says_over o items out t ≡ true → list_any (is_taken_out_in t) items ≡ true
+  pub said_over : (o : Opening) (items : List (List Effect)) (out : Outgoing) → says_taken_out o items out t ≡ true → list_any (is_taken_out_in t) items ≡ true
   said_over o items out h = by_sent (sent_as items out) refl h
     where
-      by_sent : (x : Option Sent) → sent_as items out ≡ x → elim x [ Some s ↦ is_over_by o s t | None ↦ false ] ≡ true → list_any (is_taken_out_in t) items ≡ true
+      by_sent : (x : Option Sent) → sent_as items out ≡ x → elim x [ Some s ↦ is_taken_out_by o s t | None ↦ false ] ≡ true → list_any (is_taken_out_in t) items ≡ true
       by_sent None is over = absurd (false≢true over)
       by_sent (Some s) is over =
           let k = sent_split items out s is in

@@ -10,8 +10,8 @@ use Rattle.iscsi_outbox_rules.specs.rules.Boxes.{Pdu, Replies, Owns, Pings, Noti
 use Rattle.iscsi_outbox_rules.specs.rules.Words.{is_left_phase}
 use Rattle.iscsi_outbox_rules.specs.rules.Run.{opened, after_calls}
 use Rattle.iscsi_outbox_rules.specs.promises.Deeds.{Deed, deeds_of, items_in, handed_in_deed, FollowsSession}
-use Rattle.iscsi_outbox_rules.specs.promises.Scope.{Sent, sent_as, is_taken_out_in}
-use Rattle.iscsi_outbox_rules.specs.promises.Silent.{ticket_of, completed_in, ticket_of_own, SilentAfter}
+use Rattle.iscsi_outbox_rules.specs.promises.Scope.{Sent, sent_as, is_taken_out_in, completed_in, says_taken_out}
+use Rattle.iscsi_outbox_rules.specs.promises.Silent.{ticket_of, ticket_of_own}
 use Rattle.iscsi_outbox_rules.proofs.general.EachLemmas.{EachOf, each-second, each-first_of}
 use Rattle.iscsi_outbox_rules.proofs.general.DeedLemmas.{items_in-append}
 use Rattle.iscsi_outbox_rules.proofs.general.Chosen.{FromQueue, IsPing, IsNotice, chosen_from}
@@ -120,8 +120,10 @@ none_goes o cs follows t since after later d g whole shown taken of = by_own (ti
     by_own (Some ticket) is e = no_own o cs follows t since after later d g whole shown taken (is ∙ e)
     by_own None is e = by_sent (sent_as (items_in since) g.out) refl e
 
-pub is_silent_after : (o : Opening) (cs : List Call) → FollowsSession o cs → SilentAfter o (deeds_of o cs)
-is_silent_after o cs follows before between after answer later c d h g t whole shown shown_later over of = none_goes o cs follows t since after later d g whole' shown_later taken of
+-- nor after the answer by which it is over, as that
+pub taken_out_silent : (o : Opening) (cs : List Call) → FollowsSession o cs → (before between after : List Deed) (answer later : Deed) (c d : ℕ) (h g : Handed) (t : ℕ) → before ++ answer ∷ (between ++ later ∷ after) ≡ deeds_of o cs
+    → handed_in_deed answer ≡ Some (c, h) → handed_in_deed later ≡ Some (d, g) → says_taken_out o (items_in before) h.out t ≡ true → ticket_of (items_in (before ++ answer ∷ between)) g.out ≡ Some t → ⊥
+taken_out_silent o cs follows before between after answer later c d h g t whole shown shown_later over of = none_goes o cs follows t since after later d g whole' shown_later taken of
   where
     since : List Deed
     since = before ++ answer ∷ between

@@ -46,7 +46,7 @@ sent_at before (item ∷ items) n s h = by_sent (λ m k. sent_at (before ++ item
     by_sent later (Some p) is zero k = subst (At (before ++ item ∷ items)) (some_sent (record { before = before; item = item; conn = p.0; reply = p.1 }) s k) (record { rest = items; whole = refl; found = is })
     by_sent later (Some p) is (suc m) k = subst (λ its. At its s) (append_assoc before (item ∷ []) items) (later m k)
 
-cut_first : (items more : List (List Effect)) (c : ℕ) → cut_by items c ≡ true → cut_by (items ++ more) c ≡ true
+pub cut_first : (items more : List (List Effect)) (c : ℕ) → cut_by items c ≡ true → cut_by (items ++ more) c ≡ true
 cut_first [] more c cut = absurd (false≢true cut)
 cut_first (item ∷ items) more c cut = by_test (is_closing c item) (cut_first items more c) cut
   where

@@ -3,7 +3,6 @@ use Rattle.std.proofs.Common.{◌≡◌, ℕ, ◌==◌, ◌||◌, ◌&&◌, ◌+
 use Rattle.std.specs.List.{list_any}
 use Rattle.std.proofs.lemmas.Bool.{cond_both, false≢true, eqb-true, eqb-false}
 use Rattle.std.proofs.lemmas.List.Folds.{list_any-append}
-use Rattle.iscsi_wire.specs.Fields.{connection_of}
 use Rattle.iscsi_wire.specs.declared.reply.Reply.{Reply}
 use Rattle.iscsi_wire.specs.declared.request.Request.{Request}
 use Rattle.iscsi_rules.specs.declared.effect.Effect.{Effect}
@@ -13,30 +12,13 @@ use Rattle.iscsi_outbox_rules.specs.rules.Words.{contains}
 use Rattle.iscsi_outbox_rules.specs.rules.Queues.{at_link, takes_more, append, enter, without, emptied}
 use Rattle.iscsi_outbox_rules.specs.rules.Due.{is_due, settle_from}
 use Rattle.iscsi_outbox_rules.specs.rules.Items.{executing, leave, enter_tasks, close_one, close_all, outgoing, answer, send_as, aim, send}
-use Rattle.iscsi_outbox_rules.specs.promises.Scope.{closes_in}
+pub use Rattle.iscsi_outbox_rules.specs.promises.Scope.{closes_as, is_closing, by_another, cut_by}
 use Rattle.iscsi_outbox_rules.proofs.general.EachLemmas.{EachOf, each-map, each-weaken}
 
 -- ---- what the items say
 
-abbrev pub closes_as : ℕ → Option Request → List Effect → Bool
-closes_as c (Some r) item = closes_in c item
-closes_as c None item = false
-
-abbrev pub by_another : ℕ → Option Request → Bool
-by_another c (Some r) = not (c == connection_of r)
-by_another c None = false
-
--- a request that executes in this item closes the connection
-abbrev pub is_closing : ℕ → List Effect → Bool
-is_closing c item = closes_as c (executing item) item
-
 abbrev pub closed_by : List (List Effect) → ℕ → Bool
 closed_by items c = list_any (is_closing c) items
-
--- the first item that closed it is a Logout on another connection
-abbrev pub cut_by : List (List Effect) → ℕ → Bool
-cut_by [] c = false
-cut_by (item ∷ items) c = cond (is_closing c item) (by_another c (executing item)) (cut_by items c)
 
 or_false : (v : Bool) → (v || false) ≡ v
 or_false true = refl

@@ -26,7 +26,7 @@ use Rattle.iscsi_outbox_rules.specs.rules.Calls.{Opening, Call}
 use Rattle.iscsi_outbox_rules.specs.rules.Items.{executing, tickets_left, reply_sent}
 use Rattle.iscsi_outbox_rules.specs.rules.Run.{opened}
 use Rattle.iscsi_outbox_rules.specs.promises.Deeds.{deeds_of, items_in, entry_taken, FollowsSession}
-use Rattle.iscsi_outbox_rules.specs.promises.Silent.{completed_in}
+use Rattle.iscsi_outbox_rules.specs.promises.Scope.{completed_in}
 use Rattle.iscsi_outbox_rules.proofs.general.EachLemmas.{EachOf}
 use Rattle.iscsi_outbox_rules.proofs.order.SentLemmas.{items_logged}
 use Rattle.iscsi_outbox_rules.proofs.commands.TicketLemmas.{entered, in_range_once}
@@ -53,11 +53,11 @@ none_enters : (cs : List Command) → tickets_entered (map enable_effect cs) ≡
 none_enters [] = refl
 none_enters (c ∷ cs) = none_enters cs
 
-none_leaves : (cs : List Command) → tickets_left (map enable_effect cs) ≡ []
+pub none_leaves : (cs : List Command) → tickets_left (map enable_effect cs) ≡ []
 none_leaves [] = refl
 none_leaves (c ∷ cs) = none_leaves cs
 
-none_executes : (cs : List Command) → executing (map enable_effect cs) ≡ None
+pub none_executes : (cs : List Command) → executing (map enable_effect cs) ≡ None
 none_executes [] = refl
 none_executes (c ∷ cs) = refl
 
@@ -203,7 +203,7 @@ module _ (k : ℕ) where
           let rest = go (omega (arith, once, parts)) in
           (rest.0, (λ d there same. ⊎_elim (λ here. absurd (false≢true (sym apart ∙ eq-eqb x.ticket k (ap (λ (e : Command). e.ticket) here ∙ same)))) (λ later. rest.1 d later same) there))
 
-each_at : (P : List Effect → Type 0) (before parts : List (List Effect)) → EachAt (λ ps part. P part) before parts → EachOf P parts
+pub each_at : (P : List Effect → Type 0) (before parts : List (List Effect)) → EachAt (λ ps part. P part) before parts → EachOf P parts
 each_at P before [] h = tt
 each_at P before (part ∷ parts) h = (h.0, each_at P (before ++ part ∷ []) parts h.1)
 

@@ -14,8 +14,8 @@ use Rattle.iscsi_outbox_rules.specs.rules.Own.{live_task}
 use Rattle.iscsi_outbox_rules.specs.rules.Run.{new_link, opened, after_call, after_calls, answered}
 use Rattle.iscsi_outbox_rules.specs.promises.Deeds.{Deed, deeds_of, items_in, items_of_call, handed_in_deed, FollowsSession}
 use Rattle.iscsi_outbox_rules.specs.promises.Order.{is_of_command, own_handed, own_taken, completes}
-use Rattle.iscsi_outbox_rules.specs.promises.Scope.{Sent, nth, sent_by, sent_as, is_taken_out_in}
-use Rattle.iscsi_outbox_rules.specs.promises.Silent.{completed_in, ticket_of_own}
+use Rattle.iscsi_outbox_rules.specs.promises.Scope.{Sent, nth, sent_by, sent_as, is_taken_out_in, completed_in}
+use Rattle.iscsi_outbox_rules.specs.promises.Silent.{ticket_of_own}
 use Rattle.iscsi_outbox_rules.proofs.general.EachLemmas.{EachOf, each-first, each-second, each-weaken, each-first_of}
 use Rattle.iscsi_outbox_rules.proofs.general.Cuts.{Cut, cut, keeps, Handing, handed-next}
 use Rattle.iscsi_outbox_rules.proofs.general.FoundLemmas.{found-conn}
@@ -132,7 +132,7 @@ module _ (t c : ℕ) where
 -- ---- the response
 
 -- a command that completes in one of these items isn't taken out in any
-untaken : (t : ℕ) (items : List (List Effect)) → list_any (is_taken_out_in t) items ≡ false → EachOf (λ item. is_taken_out_in t item ≡ false) items
+pub untaken : (t : ℕ) (items : List (List Effect)) → list_any (is_taken_out_in t) items ≡ false → EachOf (λ item. is_taken_out_in t item ≡ false) items
 untaken t [] none = tt
 untaken t (item ∷ items) none = let parts = or_none (is_taken_out_in t item) (list_any (is_taken_out_in t) items) none in (parts.0, untaken t items parts.1)
 

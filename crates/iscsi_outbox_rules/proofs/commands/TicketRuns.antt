@@ -13,8 +13,8 @@ use Rattle.iscsi_outbox_rules.specs.rules.Own.{own_outgoing}
 use Rattle.iscsi_outbox_rules.specs.rules.Handing.{is_from_queue}
 use Rattle.iscsi_outbox_rules.specs.rules.Run.{new_link, opened}
 use Rattle.iscsi_outbox_rules.specs.promises.Deeds.{Deed, deeds_of, items_in, handed_in_deed, FollowsSession}
-use Rattle.iscsi_outbox_rules.specs.promises.Scope.{Sent, nth, sent_by, sent_as}
-use Rattle.iscsi_outbox_rules.specs.promises.Silent.{completed_in, ticket_of_own, ticket_of}
+use Rattle.iscsi_outbox_rules.specs.promises.Scope.{Sent, nth, sent_by, sent_as, completed_in}
+use Rattle.iscsi_outbox_rules.specs.promises.Silent.{ticket_of_own, ticket_of}
 use Rattle.iscsi_outbox_rules.proofs.general.EachLemmas.{EachOf, each-append, each-filter, each-weaken, each-drop_one, each-first_of}
 use Rattle.iscsi_outbox_rules.proofs.general.FirstLemmas.{firsts, firsts-more, firsts-some, first_sent, nth-first, nth-push}
 use Rattle.iscsi_outbox_rules.proofs.general.Linkwise.{Linkwise, Stands}

@@ -21,8 +21,7 @@ use Rattle.iscsi_outbox_rules.specs.rules.Own.{own_conn, own_outgoing, put_refus
 use Rattle.iscsi_outbox_rules.specs.rules.Handing.{is_from_queue, taken_from, handed_as, after_given}
 use Rattle.iscsi_outbox_rules.specs.rules.Run.{after_call, answered, phase_stopped, one_written, arrived_by_stat_sn, arrived_by_ping, link_heard, may_join, link_joined, link_lost, cleared}
 use Rattle.iscsi_outbox_rules.specs.promises.Deeds.{Deed, items_in, items_of_call}
-use Rattle.iscsi_outbox_rules.specs.promises.Scope.{Sent, nth, aim_of_sent}
-use Rattle.iscsi_outbox_rules.specs.promises.Silent.{completed_in}
+use Rattle.iscsi_outbox_rules.specs.promises.Scope.{Sent, nth, aim_of_sent, completed_in}
 use Rattle.iscsi_outbox_rules.proofs.general.FoundLemmas.{find_link, EachFound, found-conn, found-at_link}
 use Rattle.iscsi_outbox_rules.proofs.general.FirstLemmas.{firsts, firsts-append, nth-first}
 use Rattle.iscsi_outbox_rules.proofs.general.DeedLemmas.{items_in-more}

@@ -17,8 +17,7 @@ use Rattle.iscsi_outbox_rules.specs.rules.Words.{contains, is_of}
 use Rattle.iscsi_outbox_rules.specs.rules.Queues.{at_link, takes_more, append, enter, without, emptied, drop_on}
 use Rattle.iscsi_outbox_rules.specs.rules.Due.{is_due, settle_from}
 use Rattle.iscsi_outbox_rules.specs.rules.Items.{executing, tickets_left, ticket_enabled, phase_enabled, in_phase, reply_sent, closed_in, newly_closed, leave, enter_tasks, close_one, close_all, close, outgoing, answer, send_as, aim, send, after_item, after_items}
-use Rattle.iscsi_outbox_rules.specs.promises.Scope.{Sent, aim_of_sent}
-use Rattle.iscsi_outbox_rules.specs.promises.Silent.{completed_in}
+use Rattle.iscsi_outbox_rules.specs.promises.Scope.{Sent, aim_of_sent, completed_in}
 use Rattle.iscsi_outbox_rules.proofs.general.FoundLemmas.{EachFound, found-conn, found-map, found-at_link}
 use Rattle.iscsi_outbox_rules.proofs.general.FirstLemmas.{firsts, firsts-none, firsts-some, length-push}
 use Rattle.iscsi_outbox_rules.proofs.order.CountRuns.{is_at}
@@ -29,7 +28,7 @@ is_same_ticket (Some t) (Some u) = t == u
 is_same_ticket None None = true
 is_same_ticket _ _ = false
 
-same_itself : (x : Option ℕ) → is_same_ticket x x ≡ true
+pub same_itself : (x : Option ℕ) → is_same_ticket x x ≡ true
 same_itself (Some t) = eq-eqb t t refl
 same_itself None = refl
 

@@ -11,8 +11,8 @@ use Rattle.iscsi_outbox_rules.specs.rules.Words.{is_open, under_way}
 use Rattle.iscsi_outbox_rules.specs.rules.Handing.{lets_pass, is_clear, takes_handed}
 use Rattle.iscsi_outbox_rules.specs.rules.Run.{opened, after_call, after_calls, answered, may_join}
 use Rattle.iscsi_outbox_rules.specs.promises.Deeds.{Deed, FollowsSession, deeds_from, deeds_of, handed_in_deed, handed_in, handed_on, items_in, is_join_of, has_joined, was_lost}
-use Rattle.iscsi_outbox_rules.specs.promises.Scope.{Sent, nth, sent_by, aim_of_sent, closes_in}
-use Rattle.iscsi_outbox_rules.specs.promises.Fence.{is_fenced, is_handed, is_closed, FenceFirst}
+use Rattle.iscsi_outbox_rules.specs.promises.Scope.{Sent, nth, sent_by, aim_of_sent, cut_by}
+use Rattle.iscsi_outbox_rules.specs.promises.Fence.{is_fenced, is_handed, FenceFirst}
 use Rattle.iscsi_outbox_rules.proofs.general.EachLemmas.{EachOf, each-any, each-first_of}
 use Rattle.iscsi_outbox_rules.proofs.general.FoundLemmas.{find_link, found-conn}
 use Rattle.iscsi_outbox_rules.proofs.general.FirstLemmas.{firsts, firsts-append, nth-first}
@@ -24,9 +24,7 @@ use Rattle.iscsi_outbox_rules.proofs.general.Cuts.{Cut, cut, keeps, Handing, han
 use Rattle.iscsi_outbox_rules.proofs.general.LinkRuns.{LinkShows}
 use Rattle.iscsi_outbox_rules.proofs.commands.LeaveLemmas.{leaves_once}
 use Rattle.iscsi_outbox_rules.proofs.order.SentLemmas.{one_reply_before, sent_by-firsts}
-use Rattle.iscsi_outbox_rules.proofs.closes.MarkRuns.{Marked, closed_by, cut_by}
-use Rattle.iscsi_outbox_rules.proofs.closes.MarkCalls.{cut_closed}
-use Rattle.iscsi_outbox_rules.proofs.closes.ElsewhereTheorem.{unclosed}
+use Rattle.iscsi_outbox_rules.proofs.closes.MarkRuns.{Marked, closed_by}
 use Rattle.iscsi_outbox_rules.proofs.arrivals.ArriveThrough.{ArriveStand, arrive_kept, arrive_start, find_known}
 use Rattle.iscsi_outbox_rules.proofs.fences.FenceTheorem.{went_fenced, found_all, either_way, all_pass}
 use Rattle.iscsi_outbox_rules.proofs.order.PlaceTimes.{InTime, Timely, TimelyStand, Times, timely_start}
@@ -35,7 +33,7 @@ use Rattle.iscsi_outbox_rules.proofs.order.PlaceCalls.{PlaceStands, times_kept, 
 
 -- ---- of lists
 
-nth_low : {A : Type 0} (n : ℕ) (xs : List A) (x : A) → nth n xs ≡ Some x → n < length xs
+pub nth_low : {A : Type 0} (n : ℕ) (xs : List A) (x : A) → nth n xs ≡ Some x → n < length xs
 nth_low n [] x is = absurd cc
 nth_low zero (y ∷ xs) x is = omega arith
 nth_low (suc n) (y ∷ xs) x is = let rest : n < length xs = nth_low n xs x is in omega (arith, rest)
@@ -46,7 +44,7 @@ nth_none zero (x ∷ xs) none = absurd cc
 nth_none (suc n) (x ∷ xs) none = let rest : length xs ≤ n = nth_none n xs none in omega (arith, rest)
 
 -- what was handed out on a connection was handed out
-on_handed : (p q : Handed → Bool) (c : ℕ) (gs : List (ℕ × Handed)) → ((g : Handed) → p g ≡ true → q g ≡ true) → list_any p (map (λ (g : ℕ × Handed). g.1) (filter (λ (g : ℕ × Handed). g.0 == c) gs)) ≡ true → list_any (λ (g : ℕ × Handed). q g.1) gs ≡ true
+pub on_handed : (p q : Handed → Bool) (c : ℕ) (gs : List (ℕ × Handed)) → ((g : Handed) → p g ≡ true → q g ≡ true) → list_any p (map (λ (g : ℕ × Handed). g.1) (filter (λ (g : ℕ × Handed). g.0 == c) gs)) ≡ true → list_any (λ (g : ℕ × Handed). q g.1) gs ≡ true
 on_handed p q c [] f some = some
 on_handed p q c (g ∷ gs) f some =
     elim (g.0 == c) as (λ v. list_any p (map (λ (x : ℕ × Handed). x.1) (cond v (g ∷ filter (λ (x : ℕ × Handed). x.0 == c) gs) (filter (λ (x : ℕ × Handed). x.0 == c) gs))) ≡ true → (q g.1 || list_any (λ (x : ℕ × Handed). q x.1) gs) ≡ true) [
@@ -101,13 +99,13 @@ join_start o c = record { arrive = arrive_start o; known = λ is. absurd (false�
 
 -- ---- deeds in two parts
 
-record Parted (o : Opening) (b : Box) (cs : List Call) (ds es : List Deed) : Type 0 where
-  first : List Call
-  second : List Call
-  first_is : ds ≡ deeds_from o b first
-  second_is : es ≡ deeds_from o (after_calls o b first) second
+pub record Parted (o : Opening) (b : Box) (cs : List Call) (ds es : List Deed) : Type 0 where
+  pub first : List Call
+  pub second : List Call
+  pub first_is : ds ≡ deeds_from o b first
+  pub second_is : es ≡ deeds_from o (after_calls o b first) second
 
-part : (o : Opening) (b : Box) (cs : List Call) (ds es : List Deed) → ds ++ es ≡ deeds_from o b cs → Parted o b cs ds es
+pub part : (o : Opening) (b : Box) (cs : List Call) (ds es : List Deed) → ds ++ es ≡ deeds_from o b cs → Parted o b cs ds es
 part o b cs [] es whole = record { first = []; second = cs; first_is = refl; second_is = whole }
 part o b [] (d ∷ ds) es whole = absurd cc
 part o b (c ∷ cs) (d ∷ ds) es whole =
@@ -121,25 +119,25 @@ part o b (c ∷ cs) (d ∷ ds) es whole =
 module _ (o : Opening) (calls : List Call) (follows : FollowsSession o calls) (first since earlier after : List Deed) (split : first ++ since ≡ earlier) (answer : Deed) (c : ℕ) (h : Handed) (place behind : ℕ) (s : Sent) (whole : earlier ++ answer ∷ after ≡ deeds_of o calls)
     (shown : handed_in_deed answer ≡ Some (c, h)) (fenced : is_fenced o (items_in earlier) h ≡ true) (sent : h.out.sent ≡ Some behind) (less : place < behind)
     (nth_is : nth place (sent_by (items_in earlier)) ≡ Some s) (unsent : nth place (sent_by (items_in first)) ≡ None) (at_once : aim_of_sent o s ≡ None) where
-  abbrev items : List (List Effect)
+  abbrev pub items : List (List Effect)
   items = items_in earlier
 
-  abbrev all : List (List Effect)
+  abbrev pub all : List (List Effect)
   all = items_in (deeds_of o calls)
 
-  abbrev rest : List (List Effect)
+  abbrev pub rest : List (List Effect)
   rest = items_in (answer ∷ after)
 
-  parts : items ++ rest ≡ all
+  pub parts : items ++ rest ≡ all
   parts = sym (items_in-append earlier (answer ∷ after)) ∙ ap items_in whole
 
   in_items : nth place (firsts items) ≡ Some s
   in_items = ap (nth place) (sym (sent_by-firsts items (one_reply_before o calls earlier (answer ∷ after) whole follows))) ∙ nth_is
 
-  in_all : nth place (firsts all) ≡ Some s
+  pub in_all : nth place (firsts all) ≡ Some s
   in_all = let more = firsts-append items rest in ap (λ its. nth place (firsts its)) (sym parts) ∙ ap (nth place) more.1 ∙ nth-first place (firsts items) more.0 s in_items
 
-  abbrev It : Outgoing → Bool
+  abbrev pub It : Outgoing → Bool
   It x = is_it o place s x
 
   -- before it is sent
@@ -197,10 +195,7 @@ module _ (o : Opening) (calls : List Call) (follows : FollowsSession o calls) (f
         both₂ : Both earlier b₂
         both₂ = subst (λ ds. Both ds b₂) (ap (λ ds. first ++ ds) (sym k₂.before_is) ∙ split) (keeps o Both both_kept first b₁ k₂.first both₁)
 
-  module _ (b : Box) (stands : Both earlier b) (n : Handing o b c h) where
-    times : TimelyStand o all place s in_all at_once items b
-    times = stands.places.times rest parts
-
+  module _ (b : Box) (arrive : ArriveStand o earlier b) (times : TimelyStand o all place s in_all at_once items b) (n : Handing o b c h) where
     out_is : n.out ≡ h.out
     out_is = sym (ap (λ (x : Handed). x.out) n.is)
 
@@ -277,19 +272,42 @@ module _ (o : Opening) (calls : List Call) (follows : FollowsSession o calls) (f
               | false ↦ λ it later. or_second (x.takes && nat_lt x.time n.out.time) (list_any (λ (y : Outgoing). y.takes && nat_lt y.time n.out.time) xs) (before_it xs each.1 later)
             ] refl is
 
+    -- so it waits nowhere
+    pub none_waits : (m : Link) → find_link s.conn b.links ≡ Some m → m.lost ≡ false → list_any It m.queue ≡ true → ⊥
+    none_waits m found unlost some = by_joined m.joined refl
+      where
+        mark : Marked (conns_of (opened o).links) (closed_by items) (cut_by items) m
+        mark = each-first_of (Marked (conns_of (opened o).links) (closed_by items) (cut_by items)) (λ (l : Link). l.conn == s.conn) b.links m found arrive.marks.marks
+
+        by_same : m.joined ≡ true → (s.conn ≡ c) ⊎ (s.conn ≡ c → ⊥) → ⊥
+        by_same joined is =
+            ⊎_elim
+            (λ same.
+            let alike : m ≡ n.link = some_link m n.link (sym found ∙ ap (λ k. find_link k b.links) same ∙ n.found) in
+            not_behind (ap (list_any It) (sym (ap (λ (x : Link). x.queue) alike ∙ queued.queue_is)) ∙ some))
+            (λ apart. not_elsewhere m found (and_both m.joined (not m.lost) joined (ap (λ v. not v) unlost)) apart some) is
+
+        by_joined : (v : Bool) → m.joined ≡ v → ⊥
+        by_joined true joined = by_same joined (cases_eq s.conn c)
+        by_joined false unjoined = false≢true (ap (list_any It) (sym (mark.idle unjoined)) ∙ some)
+
+  module _ (b : Box) (stands : Both earlier b) (n : Handing o b c h) where
+    times : TimelyStand o all place s in_all at_once items b
+    times = stands.places.times rest parts
+
     -- ---- where it is
 
     abbrev Goal : Type 0
-    Goal = (((is_handed place earlier || not (has_joined first s.conn)) || was_lost earlier s.conn) || is_closed items s.conn) ≡ true
+    Goal = (((is_handed place earlier || not (has_joined first s.conn)) || was_lost earlier s.conn) || cut_by items s.conn) ≡ true
 
     goal_handed : is_handed place earlier ≡ true → Goal
-    goal_handed is = or_first ((is_handed place earlier || not (has_joined first s.conn)) || was_lost earlier s.conn) (is_closed items s.conn) (or_first (is_handed place earlier || not (has_joined first s.conn)) (was_lost earlier s.conn) (or_first (is_handed place earlier) (not (has_joined first s.conn)) is))
+    goal_handed is = or_first ((is_handed place earlier || not (has_joined first s.conn)) || was_lost earlier s.conn) (cut_by items s.conn) (or_first (is_handed place earlier || not (has_joined first s.conn)) (was_lost earlier s.conn) (or_first (is_handed place earlier) (not (has_joined first s.conn)) is))
 
     goal_lost : was_lost earlier s.conn ≡ true → Goal
-    goal_lost is = or_first ((is_handed place earlier || not (has_joined first s.conn)) || was_lost earlier s.conn) (is_closed items s.conn) (or_second (is_handed place earlier || not (has_joined first s.conn)) (was_lost earlier s.conn) is)
+    goal_lost is = or_first ((is_handed place earlier || not (has_joined first s.conn)) || was_lost earlier s.conn) (cut_by items s.conn) (or_second (is_handed place earlier || not (has_joined first s.conn)) (was_lost earlier s.conn) is)
 
-    goal_closed : is_closed items s.conn ≡ true → Goal
-    goal_closed is = or_second ((is_handed place earlier || not (has_joined first s.conn)) || was_lost earlier s.conn) (is_closed items s.conn) is
+    goal_cut : cut_by items s.conn ≡ true → Goal
+    goal_cut is = or_second ((is_handed place earlier || not (has_joined first s.conn)) || was_lost earlier s.conn) (cut_by items s.conn) is
 
     module _ (m : Link) (found : find_link s.conn b.links ≡ Some m) where
       at : m.conn ≡ s.conn
@@ -316,28 +334,12 @@ module _ (o : Opening) (calls : List Call) (follows : FollowsSession o calls) (f
       waits_here : list_any It m.queue ≡ true → Goal
       waits_here some = by_lost m.lost refl
         where
-          by_same : m.lost ≡ false → (s.conn ≡ c) ⊎ (s.conn ≡ c → ⊥) → Goal
-          by_same opens is =
-              absurd
-              (⊎_elim
-              (λ same.
-              let alike : m ≡ n.link = some_link m n.link (sym found ∙ ap (λ k. find_link k b.links) same ∙ n.found) in
-              not_behind (ap (list_any It) (sym (ap (λ (x : Link). x.queue) alike ∙ queued.queue_is)) ∙ some))
-              (λ apart. not_elsewhere m found (and_both m.joined (not m.lost) joined_here (ap (λ v. not v) opens)) apart some) is)
-
           by_lost : (v : Bool) → m.lost ≡ v → Goal
           by_lost true is = lost_here is
-          by_lost false is = by_same is (cases_eq s.conn c)
+          by_lost false is = absurd (none_waits b stands.joins.arrive times n m found is some)
 
       cut_here : m.cut ≡ true → Goal
-      cut_here is = goal_closed (by_any (list_any (closes_in s.conn) items) refl)
-        where
-          closed : closed_by items s.conn ≡ true
-          closed = cut_closed items s.conn (ap (cut_by items) (sym at) ∙ sym mark.cut ∙ is)
-
-          by_any : (v : Bool) → list_any (closes_in s.conn) items ≡ v → v ≡ true
-          by_any true e = refl
-          by_any false e = absurd (false≢true (sym (unclosed items s.conn e) ∙ closed))
+      cut_here is = goal_cut (ap (cut_by items) (sym at) ∙ sym mark.cut ∙ is)
 
       here : is_here o place s m ≡ true → Goal
       here is = by_handed (list_any (λ (g : Handed). It g.out) m.handed) refl (list_any It m.queue) refl m.lost refl m.cut refl (ap (λ v. (list_any (λ (g : Handed). It g.out) m.handed || list_any It m.queue) || not ((v && not m.lost) && not m.cut)) (sym joined_here) ∙ is)
@@ -361,10 +363,10 @@ fence_first o calls follows earlier since after answer c h place behind s whole 
     all = earlier ++ since
 
     goal : Bool → Type 0
-    goal v = (((is_handed place all || not v) || was_lost all s.conn) || is_closed (items_in all) s.conn) ≡ true
+    goal v = (((is_handed place all || not v) || was_lost all s.conn) || cut_by (items_in all) s.conn) ≡ true
 
     by_joined : (v : Bool) → has_joined earlier s.conn ≡ v → goal v
-    by_joined false is = or_first ((is_handed place all || true) || was_lost all s.conn) (is_closed (items_in all) s.conn) (or_first (is_handed place all || true) (was_lost all s.conn) (or_second (is_handed place all) true refl))
+    by_joined false is = or_first ((is_handed place all || true) || was_lost all s.conn) (cut_by (items_in all) s.conn) (or_first (is_handed place all || true) (was_lost all s.conn) (or_second (is_handed place all) true refl))
     by_joined true is =
         let m = moment o calls follows earlier since all after refl answer c h place behind s whole shown fenced sent less nth_is unsent at_once is in
         subst goal is (goes_first o calls follows earlier since all after refl answer c h place behind s whole shown fenced sent less nth_is unsent at_once m.0 m.1 m.2)

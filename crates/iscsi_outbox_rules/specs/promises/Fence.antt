@@ -7,7 +7,7 @@ use Rattle.iscsi_outbox_rules.specs.rules.Calls.{Opening}
 use Rattle.iscsi_outbox_rules.specs.rules.Boxes.{Handed}
 use Rattle.iscsi_outbox_rules.specs.promises.Deeds.{Deed, handed_in_deed, handed_in, items_in, has_joined, was_lost}
 use Rattle.iscsi_outbox_rules.specs.promises.Arrived.{is_through}
-use Rattle.iscsi_outbox_rules.specs.promises.Scope.{Sent, nth, sent_by, sent_as, aim_of_sent, closes_in, covers_completed}
+use Rattle.iscsi_outbox_rules.specs.promises.Scope.{Sent, nth, sent_by, sent_as, aim_of_sent, covers_completed, cut_by}
 
 -- the answer to a function of several tasks, or to an ABORT TASK that found none
 abbrev pub is_fenced : Opening → List (List Effect) → Handed → Bool
@@ -19,10 +19,6 @@ is_fenced o items h = elim (sent_as items h.out) [
 -- the reply with this place in the log was handed out
 abbrev pub is_handed : ℕ → List Deed → Bool
 is_handed place ds = list_any (λ (g : ℕ × Handed). elim (g.1.out.sent) [ Some k ↦ k == place | None ↦ false ]) (handed_in ds)
-
--- its connection was closed by a Logout
-abbrev pub is_closed : List (List Effect) → ℕ → Bool
-is_closed items conn = list_any (closes_in conn) items
 
 -- as it goes out, what took a StatSN before it on another connection isn't under way any more
 abbrev pub FenceBefore : Opening → List Deed → Type 0
@@ -50,13 +46,13 @@ FenceInOrder o ds = (earlier since after : List Deed) (handing later : Deed) (c 
     → h.out.time < g.out.time
 
 -- a reply that stands before it in the log, and didn't have to wait, goes out before it, unless its connection hadn't joined as it
--- was sent, was closed or lost. `earlier` are the deeds before it was sent, or some of them
+-- was sent, was lost, or closed by another one's Logout. `earlier` are the deeds before it was sent, or some of them
 abbrev pub FenceFirst : Opening → List Deed → Type 0
 FenceFirst o ds = (earlier since after : List Deed) (answer : Deed) (c : ℕ) (h : Handed) (place fenced : ℕ) (s : Sent)
     → let all = earlier ++ since in all ++ answer ∷ after ≡ ds
     → handed_in_deed answer ≡ Some (c, h) → is_fenced o (items_in all) h ≡ true → h.out.sent ≡ Some fenced
     → place < fenced → nth place (sent_by (items_in earlier)) ≡ None → nth place (sent_by (items_in all)) ≡ Some s → aim_of_sent o s ≡ None
-    → is_handed place all || not (has_joined earlier s.conn) || was_lost all s.conn || is_closed (items_in all) s.conn ≡ true
+    → is_handed place all || not (has_joined earlier s.conn) || was_lost all s.conn || cut_by (items_in all) s.conn ≡ true
 
 pub record FenceHolds (o : Opening) (ds : List Deed) : Type 0 where
   pub before : FenceBefore o ds

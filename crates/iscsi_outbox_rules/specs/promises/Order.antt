@@ -7,8 +7,7 @@ use Rattle.iscsi_outbox_rules.specs.rules.Calls.{Call, Puts}
 use Rattle.iscsi_outbox_rules.specs.rules.Boxes.{Pdu, Owns, Handed}
 use Rattle.iscsi_outbox_rules.specs.rules.Run.{Answered, Put}
 use Rattle.iscsi_outbox_rules.specs.promises.Deeds.{Deed, handed_in_deed, handed_in, items_in}
-use Rattle.iscsi_outbox_rules.specs.promises.Scope.{sent_as}
-use Rattle.iscsi_outbox_rules.specs.promises.Silent.{completed_in}
+use Rattle.iscsi_outbox_rules.specs.promises.Scope.{sent_as, completed_in}
 
 abbrev pub taken_by : Call → Answered → Option OwnPdu
 taken_by (Puts p) (Put None) = Some p

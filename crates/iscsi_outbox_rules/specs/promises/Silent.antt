@@ -1,17 +1,12 @@
--- Silent after: nothing of a command goes out after the answer to an abort or Logout by which it is over (SAM-5 section 7).
+-- Silent after: nothing of a command goes out after the answer to an abort or Logout by which it is over (SAM-5 section 7), be it that
+-- it was taken out, or had completed.
 use Rattle.std.specs.Prelude.{◌≡◌, ℕ, true, List, ◌∷◌, ◌++◌, Option, Some, None}
 use Rattle.iscsi_rules.specs.declared.effect.Effect.{Effect}
-use Rattle.iscsi_rules.specs.rules.Trace.{first_of}
 use Rattle.iscsi_outbox_rules.specs.declared.own_pdu.OwnPdu.TheVariants.{OfCommand}
 use Rattle.iscsi_outbox_rules.specs.rules.Calls.{Opening}
 use Rattle.iscsi_outbox_rules.specs.rules.Boxes.{Pdu, Owns, Outgoing, Handed}
-use Rattle.iscsi_outbox_rules.specs.rules.Items.{executing, tickets_left}
 use Rattle.iscsi_outbox_rules.specs.promises.Deeds.{Deed, handed_in_deed, items_in}
-use Rattle.iscsi_outbox_rules.specs.promises.Scope.{sent_as, says_over}
-
--- the command whose completion the item is
-abbrev pub completed_in : List Effect → Option ℕ
-completed_in item = elim (executing item) [ Some r ↦ None | None ↦ first_of (tickets_left item) ]
+use Rattle.iscsi_outbox_rules.specs.promises.Scope.{completed_in, sent_as, says_over}
 
 abbrev pub ticket_of_own : Pdu → Option ℕ
 ticket_of_own (Owns (OfCommand ticket header)) = Some ticket

@@ -158,7 +158,7 @@ finds_none _ = false
 
 -- nothing overtakes such an answer on another connection, nor does it overtake what went before: one to a function of several
 -- tasks, or to an ABORT TASK that found none, as the task may have completed just before, and be under way elsewhere
--- outbox: fence/set, fence/no-task
+-- outbox: fence/no-task
 abbrev pub is_fence : Aim → Pdu → Bool
 is_fence (AtUnit unit) pdu = true
 is_fence (AtTag tag unit) pdu = finds_none pdu

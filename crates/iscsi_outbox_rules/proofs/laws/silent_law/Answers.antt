@@ -1,4 +1,4 @@
-use Rattle.iscsi_outbox_rules.proofs.aborts.SilentTheorem.{is_silent_after}
+use Rattle.iscsi_outbox_rules.proofs.aborts.PastTheorem.{is_silent_after}
 use Rattle.iscsi_outbox_rules.proofs.laws.silent_law.Goals as goal
 
 pub returns : goal.returns
