@@ -11,8 +11,6 @@ mod lines;
 #[cfg(test)]
 mod links;
 #[cfg(test)]
-mod ready;
-#[cfg(test)]
 mod requests;
 #[cfg(test)]
 mod sequence;
