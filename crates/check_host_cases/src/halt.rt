@@ -15,8 +15,6 @@ pub(crate) enum Halt {
     BadRecording,
     #[error("a call was refused")]
     Refused,
-    #[error("a reply with other numbers than the handle's")]
-    OtherNumbers,
     #[error("another report by a handle that was closed and opened again")]
     OtherReport,
 }

@@ -22,7 +22,7 @@ const ENABLE: u8 = 7;
 
 const LEAVE: u8 = 8;
 
-pub(crate) const SEND: u8 = 9;
+const SEND: u8 = 9;
 
 const CLOSE_CONN: u8 = 10;
 

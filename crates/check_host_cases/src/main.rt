@@ -1,4 +1,4 @@
-//! The cases of `tests/cases` by the library's handle, as a target in C or Rust makes its calls. The gate builds this
+//! The cases of `tests/cases` by a handle on a session with its effects, on which the library stands. The gate builds this
 //! program by two compilers, and compares what it prints with the reports of the cases; the library's own archive is
 //! built by one of them.
 //!

@@ -1,8 +1,8 @@
 //! A recording's events by a handle, and the report of all that the handle shows of them.
 
 use crate::halt::Halt;
-use crate::lines::{NOTHING, SEND, put_effect, put_event};
-use iscsi_host::{Answer, Handle, PlainConnection, PlainEffect, PlainNumbers, PlainOptions};
+use crate::lines::{NOTHING, put_effect, put_event};
+use iscsi_host::{Answer, Handle, PlainConnection, PlainOptions};
 use iscsi_recording::{EventSource, Events, NO_EVENT, Recording, Watched, read_recording};
 use iscsi_rules::Event;
 use std::alloc::{AllocError, Global};
@@ -77,34 +77,12 @@ fn take(alloc: Global, handle: &mut Handle, event: &Event) -> Result<(), Halt> {
 
 /// Appends the line of each effect of the last event.
 fn put_effects(alloc: Global, handle: &mut Handle, report: &mut String) -> Result<(), Halt> {
-    let Ok(numbers) = handle.numbers(alloc) else {
-        return Err(Halt::Refused);
-    };
     let mut effect = NOTHING;
     for index in 0..handle.effect_count(alloc) {
         must(handle.effect(alloc, index, &mut effect))?;
-        if effect.kind == SEND && shown_numbers(&effect) != numbers {
-            return Err(Halt::OtherNumbers);
-        }
         put_effect(&effect, report)?;
     }
     Ok(())
-}
-
-/// ExpCmdSN and MaxCmdSN of a reply's header.
-fn shown_numbers(reply: &PlainEffect) -> PlainNumbers {
-    let number = |at: usize| {
-        u32::from_be_bytes([
-            reply.header[at],
-            reply.header[at + 1],
-            reply.header[at + 2],
-            reply.header[at + 3],
-        ])
-    };
-    PlainNumbers {
-        exp_cmd_sn: number(28),
-        max_cmd_sn: number(32),
-    }
 }
 
 /// A call that must be done.

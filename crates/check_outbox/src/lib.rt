@@ -7,15 +7,9 @@ mod ffi_commands;
 #[cfg(test)]
 mod lane;
 #[cfg(test)]
-mod lines;
-#[cfg(test)]
 mod links;
 #[cfg(test)]
-mod ready;
-#[cfg(test)]
 mod requests;
-#[cfg(test)]
-mod sequence;
 #[cfg(test)]
 mod tickets;
 #[cfg(test)]

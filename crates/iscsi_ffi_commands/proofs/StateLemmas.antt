@@ -4,8 +4,7 @@ use Rattle.std.proofs.lemmas.Bool.{cases_eq, eqb-true, false≢true}
 use Rattle.std.proofs.lemmas.List.{get_or_default, get_or-set_same, get_or-set_other, length-map, length-set, length_push, map-append}
 use Rattle.iscsi_slots.specs.Slots.{times}
 use Rattle.iscsi_lists.specs.Lists.{AreApart, Listed, last_of, linked_in, times_in, with_last, without}
-use Rattle.iscsi_lists.proofs.PlaceLemmas.{times_any}
-use Rattle.iscsi_lists.proofs.SequenceLemmas.{fewer_free, last_there, nth_map}
+use Rattle.iscsi_lists.proofs.PlaceLemmas.{fewer_free, last_there, nth_map, times_any}
 use Rattle.iscsi_tickets.specs.Tickets.{Known, known, value_of, without_ticket}
 use Rattle.iscsi_ffi_commands.specs.declared.command.Command.{Command}
 use Rattle.iscsi_ffi_commands.specs.declared.command.Stage.{Stage}

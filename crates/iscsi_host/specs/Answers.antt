@@ -7,22 +7,10 @@ use Rattle.iscsi_rules.specs.declared.event.Event.TheVariants.{Arrive}
 use Rattle.iscsi_rules.specs.rules.Settings.{Setting}
 use Rattle.iscsi_session.specs.promises.Refusals.{refusal_of}
 use Rattle.iscsi_host.specs.declared.plain.PlainEffect.{PlainEffect}
-use Rattle.iscsi_host.specs.declared.plain.PlainNumbers.{PlainNumbers}
 use Rattle.iscsi_host.specs.Serving.{Hosted}
-use Rattle.iscsi_host.specs.Plain.{plain_at, plain_numbers}
+use Rattle.iscsi_host.specs.Plain.{plain_at}
 use Rattle.iscsi_host.specs.declared.answer.Answer.{Answer}
 use Rattle.iscsi_host.specs.declared.answer.Answer.TheVariants.{Done, BadOptions, NoMemory, UnknownConnection, Exhausted, NotOpen, AlreadyOpen, NoEffect, ShortHeader}
-
-abbrev pub code_of : Answer → ℕ
-code_of Done = 0
-code_of BadOptions = 1
-code_of NoMemory = 2
-code_of UnknownConnection = 3
-code_of Exhausted = 4
-code_of NotOpen = 5
-code_of AlreadyOpen = 6
-code_of NoEffect = 7
-code_of ShortHeader = 8
 
 -- the answer where a session refuses
 abbrev pub refused_with : SessionFault → Answer
@@ -56,10 +44,6 @@ abbrev pub effect_in : Option Hosted → ℕ → Result PlainEffect Answer
 effect_in None index = Err NotOpen
 effect_in (Some host) index = elim (plain_at host.effects host.numbers index) [ Some effect ↦ Ok effect | None ↦ Err NoEffect ]
 
-abbrev pub numbers_in : Option Hosted → Result PlainNumbers Answer
-numbers_in None = Err NotOpen
-numbers_in (Some host) = Ok (plain_numbers host.numbers)
-
 abbrev pub closing_answer : Option Hosted → Answer
 closing_answer None = NotOpen
 closing_answer (Some host) = Done
@@ -69,32 +53,11 @@ abbrev pub MayRefuseAs : {A : Type 0} → Bool → Result A SessionFault → Typ
 MayRefuseAs valid (Ok host) = valid ≡ true
 MayRefuseAs valid (Err fault) = (fault ≡ faults.NoMemory) ⊎ ((valid ≡ false) × (fault ≡ faults.BadOptions))
 
--- ---- the same as numbers
-
--- the number of an answer that an opening may give
-abbrev pub OpensWith : Option Hosted → Bool → ℕ → Type 0
-OpensWith old valid code = (answer : Answer) × ((code ≡ code_of answer) × OpensAs old valid answer)
-
 abbrev pub answer_in : {A : Type 0} → Result A Answer → Answer
 answer_in (Ok x) = Done
 answer_in (Err answer) = answer
-
-abbrev pub code_after : {A : Type 0} → Result A Answer → ℕ
-code_after r = code_of (answer_in r)
 
 -- what stands in a place that a result is written to
 abbrev pub written_over : {A : Type 0} → A → Result A Answer → A
 written_over old (Ok x) = x
 written_over old (Err answer) = old
-
-abbrev pub effect_code : Option Hosted → ℕ → ℕ
-effect_code old index = code_after (effect_in old index)
-
-abbrev pub effect_after : Option Hosted → ℕ → PlainEffect → PlainEffect
-effect_after old index effect = written_over effect (effect_in old index)
-
-abbrev pub numbers_code : Option Hosted → ℕ
-numbers_code old = code_after (numbers_in old)
-
-abbrev pub numbers_after : Option Hosted → PlainNumbers → PlainNumbers
-numbers_after old numbers = written_over numbers (numbers_in old)

@@ -17,7 +17,6 @@ use Rattle.iscsi_rules.specs.rules.Settings.{Setting}
 use Rattle.iscsi_host.specs.declared.options.PlainOptions.{PlainOptions}
 use Rattle.iscsi_host.specs.declared.options.PlainConnection.{PlainConnection}
 use Rattle.iscsi_host.specs.declared.plain.PlainEffect.{PlainEffect}
-use Rattle.iscsi_host.specs.declared.plain.PlainNumbers.{PlainNumbers}
 
 -- ---- options
 
@@ -120,6 +119,3 @@ last_executing es = last_or None (filter_map executing es)
 -- the plain form of the effect with this index, if there is one
 abbrev pub plain_at : List Effect → Numbers → ℕ → Option PlainEffect
 plain_at es n index = option_map (λ (e : Effect). plain_of e (last_executing (take index es)) n) (slice_get es index)
-
-abbrev pub plain_numbers : Numbers → PlainNumbers
-plain_numbers n = record { exp_cmd_sn = n.exp; max_cmd_sn = n.max }

@@ -1,7 +1,7 @@
 //! What a call from C or Rust answers.
 
 ghost use Rattle.std.specs.Prelude.{◌≡◌};
-ghost use Rattle.iscsi_host.specs.Answers.{code_of, refused_with};
+ghost use Rattle.iscsi_host.specs.Answers.{refused_with};
 
 use iscsi_session::SessionFault;
 
@@ -26,25 +26,6 @@ pub enum Answer {
     NoEffect,
     /// A header has 48 bytes, and this one fewer.
     ShortHeader,
-}
-
-impl Answer {
-    /// The number of the answer, from 0 on in the order above.
-    pub fn code(self) -> u32
-        ensures { result ≡ code_of self }
-    {
-        match self {
-            Answer::Done => 0,
-            Answer::BadOptions => 1,
-            Answer::NoMemory => 2,
-            Answer::UnknownConnection => 3,
-            Answer::Exhausted => 4,
-            Answer::NotOpen => 5,
-            Answer::AlreadyOpen => 6,
-            Answer::NoEffect => 7,
-            Answer::ShortHeader => 8,
-        }
-    }
 }
 
 /// The answer of a call that a session refused.

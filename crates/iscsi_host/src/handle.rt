@@ -4,7 +4,7 @@ ghost use Rattle.std.specs.Prelude.{◌≡◌, ◌≢◌, List, [], ◌∷◌, �
 ghost use Rattle.iscsi_rules.specs.rules.Settings.{Setting, is_valid};
 ghost use Rattle.iscsi_session.specs.promises.Refusals.{refusal_of};
 ghost use Rattle.iscsi_host.specs.Serving.{Serves, ServesIn, effects_in};
-ghost use Rattle.iscsi_host.specs.Answers.{answer_of, arrival_answer, closed_arrival_answer, closing_answer, answer_in, effect_in, written_over, numbers_in, MayRefuseAs, OpensAs};
+ghost use Rattle.iscsi_host.specs.Answers.{answer_of, arrival_answer, closed_arrival_answer, closing_answer, answer_in, effect_in, written_over, MayRefuseAs, OpensAs};
 ghost use Rattle.iscsi_host.specs.Plain.{plain_setting};
 
 mod owner;
@@ -13,7 +13,7 @@ mod parts;
 use crate::answer::{Answer, answer_to};
 use crate::host::Host;
 use crate::options::{PlainConnection, PlainOptions, options_of};
-use crate::plain::{PlainEffect, PlainNumbers};
+use crate::plain::PlainEffect;
 use iscsi_rules::Event;
 use iscsi_session::SessionFault;
 use owner::Owner;
@@ -145,19 +145,6 @@ impl Handle {
         } else {
             Answer::NoEffect
         }
-    }
-
-    /// ExpCmdSN and MaxCmdSN after the last event. `NotOpen`.
-    pub fn numbers(&mut self, alloc: Global) -> Result<PlainNumbers, Answer>
-        ensures numbers { result ≡ numbers_in (inside self.old) }
-        ensures same { inside self.new ≡ inside self.old }
-    {
-        let Some(host) = self.take(alloc) else {
-            return Err(Answer::NotOpen);
-        };
-        let numbers = host.numbers();
-        self.put(host);
-        Ok(numbers)
     }
 
     /// Closes the session, and frees what it holds. `NotOpen` where it is closed.

@@ -6,9 +6,9 @@ ghost use Rattle.iscsi_session.specs.promises.Settings.{setting_of};
 ghost use Rattle.iscsi_session.specs.promises.Refusals.{RefusesAs, refusal_of, refusal_of_options};
 ghost use Rattle.iscsi_session.specs.promises.Bounds.{most_effects};
 ghost use Rattle.iscsi_host.specs.Serving.{Serves, fault_of};
-ghost use Rattle.iscsi_host.specs.Plain.{plain_at, executing as executing_in, last_executing, plain_numbers};
+ghost use Rattle.iscsi_host.specs.Plain.{plain_at, executing as executing_in, last_executing};
 
-use crate::plain::{PlainEffect, PlainNumbers, write_plain};
+use crate::plain::{PlainEffect, write_plain};
 use iscsi_rules::{Effect, Event, Numbers};
 use iscsi_session::{Options, Session, SessionFault};
 use iscsi_wire::Request;
@@ -116,16 +116,6 @@ impl Host {
         };
         write_plain(effect, request, self.numbers, out);
         true
-    }
-
-    /// ExpCmdSN and MaxCmdSN after the last event (RFC 7143 section 4.2.2.1).
-    pub fn numbers(&self) -> PlainNumbers
-        ensures { result ≡ plain_numbers self.now.numbers }
-    {
-        PlainNumbers {
-            exp_cmd_sn: self.numbers.exp,
-            max_cmd_sn: self.numbers.max,
-        }
     }
 }
 

@@ -12,4 +12,4 @@ pub use answer::Answer;
 pub use handle::Handle;
 pub use host::Host;
 pub use options::{PlainConnection, PlainOptions};
-pub use plain::{PlainEffect, PlainNumbers};
+pub use plain::PlainEffect;

@@ -1,4 +1,4 @@
-//! Effects and numbers in the plain form in which C reads them.
+//! Effects in plain form.
 
 ghost use Rattle.std.specs.Prelude.{◌≡◌, ◌++◌, None, option_map};
 ghost use Rattle.iscsi_wire.specs.Replies.{bytes_4, header_of};
@@ -32,14 +32,6 @@ pub struct PlainEffect {
     pub header: [u8; 48],
     pub tail: [u8; 48],
     pub reserved: [u8; 4],
-}
-
-/// ExpCmdSN and MaxCmdSN.
-#[repr(C)]
-#[derive(Clone, Copy, Debug, PartialEq, Eq)]
-pub struct PlainNumbers {
-    pub exp_cmd_sn: u32,
-    pub max_cmd_sn: u32,
 }
 
 const NOTHING: PlainEffect = PlainEffect {

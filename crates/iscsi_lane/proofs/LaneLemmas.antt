@@ -7,8 +7,7 @@ use Rattle.std.proofs.lemmas.List.{get_or-set_same, get_or-set_other, length-set
 use Rattle.iscsi_slots.specs.Slots.{times}
 use Rattle.iscsi_lists.specs.Lists.{Listed, AreApart as AreSlotsApart, first_of, linked_in, times_in, without, with_last}
 use Rattle.iscsi_lists.proofs.WithoutLemmas.{without_none, times_same}
-use Rattle.iscsi_lists.proofs.PlaceLemmas.{only_there, times_any}
-use Rattle.iscsi_lists.proofs.SequenceLemmas.{nth_map}
+use Rattle.iscsi_lists.proofs.PlaceLemmas.{nth_map, only_there, times_any}
 use Rattle.iscsi_lines.proofs.MoveLemmas.{length_any, stands_in}
 use Rattle.iscsi_outbox_state.specs.declared.lane.Left.{Left}
 use Rattle.iscsi_outbox_state.specs.declared.lane.Undue.{Undue}

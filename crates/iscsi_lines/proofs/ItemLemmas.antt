@@ -1,10 +1,10 @@
 -- The items of slots, where the item of one slot changes, or a slot is taken out.
-use Rattle.std.proofs.Common.{◌≡◌, ℕ, ◌<◌, ◌≤◌, Bool, true, List, [], ◌∷◌, ◌++◌, length, get_or, set, refl, ap, sym, subst, ◌∙◌, arith, ⊎_elim}
+use Rattle.std.proofs.Common.{◌≡◌, ℕ, ◌<◌, Bool, true, List, [], ◌∷◌, ◌++◌, length, get_or, set, refl, ap, sym, subst, ◌∙◌, ⊎_elim}
 use Rattle.std.proofs.lemmas.Bool.{cases_eq}
 use Rattle.std.proofs.lemmas.List.{get_or-set_same, get_or-set_other}
 use Rattle.iscsi_slots.specs.Slots.{times}
 use Rattle.iscsi_lists.specs.Lists.{without}
-use Rattle.iscsi_lists.proofs.WithoutLemmas.{times_other, without_same, without_other, not_first, none_behind}
+use Rattle.iscsi_lists.proofs.WithoutLemmas.{without_same, without_other, not_first, none_behind}
 use Rattle.iscsi_lines.specs.declared.item.Item.{Item}
 use Rattle.iscsi_lines.specs.Lines.{BLANK, items_of}
 use Rattle.iscsi_lines.specs.Settling.{AllAre}
@@ -41,11 +41,4 @@ module _ (test : Item → Bool) (values : List Item) (s : ℕ) where
   all_without (y ∷ ys) all = ⊎_elim
       (λ same. subst (λ r. AllAre test (items_of values r)) (sym (without_same s y ys same)) (all_without ys all.1))
       (λ other. subst (λ r. AllAre test (items_of values r)) (sym (without_other s y ys other)) (all.0, all_without ys all.1))
-      (cases_eq y s)
-
-  pub all_at : (xs : List ℕ) → 1 ≤ times s xs → AllAre test (items_of values xs) → test (get_or values s BLANK) ≡ true
-  all_at [] there all = absurd (omega (arith, there))
-  all_at (y ∷ ys) there all = ⊎_elim
-      (λ same. ap (λ k. test (get_or values k BLANK)) (sym same) ∙ all.0)
-      (λ other. let t = times_other s y ys other in all_at ys (omega (arith, t, there)) all.1)
       (cases_eq y s)

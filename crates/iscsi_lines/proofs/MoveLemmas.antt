@@ -4,8 +4,7 @@ use Rattle.std.proofs.lemmas.Bool.{cases_lt}
 use Rattle.std.proofs.lemmas.List.{get_or-set_same, get_or-set_other, length-map}
 use Rattle.iscsi_slots.specs.Slots.{times}
 use Rattle.iscsi_lists.specs.Lists.{times_in, total, without, with_last}
-use Rattle.iscsi_lists.proofs.PlaceLemmas.{times_any, only_there}
-use Rattle.iscsi_lists.proofs.SequenceLemmas.{nth_map}
+use Rattle.iscsi_lists.proofs.PlaceLemmas.{times_any, only_there, nth_map}
 use Rattle.iscsi_lists.proofs.WithoutLemmas.{times_same, without_same, without_none}
 
 pub length_any : (k : ℕ) (lists : List (List ℕ)) → length (get_or lists k []) ≤ total lists

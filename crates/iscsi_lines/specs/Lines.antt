@@ -1,9 +1,8 @@
 -- Lines: commands that left and owe something, and the answers that wait for them, in the order of the log. What stands before an
 -- answer in its line is its scope; the first answer is due where nothing of that holds it back.
-use Rattle.std.specs.Prelude.{◌≡◌, ◌≢◌, ◌<◌, ℕ, ◌+◌, ◌==◌, ◌&&◌, ◌||◌, not, Bool, true, false, List, [], ◌∷◌, ◌++◌, length, map, Option, Some, None, slice_index_or, slice_set, if◌then◌else◌}
+use Rattle.std.specs.Prelude.{ℕ, ◌+◌, ◌==◌, ◌&&◌, ◌||◌, not, Bool, true, false, List, [], ◌∷◌, ◌++◌, map, Option, Some, None, slice_index_or, if◌then◌else◌}
 use Rattle.std.specs.List.{list_any}
-use Rattle.iscsi_slots.specs.Slots.{times}
-use Rattle.iscsi_lists.specs.Lists.{Listed, without}
+use Rattle.iscsi_lists.specs.Lists.{Listed}
 use Rattle.iscsi_lines.specs.declared.item.Owing.{Owing}
 use Rattle.iscsi_lines.specs.declared.item.Item.{Item}
 use Rattle.iscsi_lines.specs.declared.item.Item.TheVariants.{Command, Answer}
@@ -55,48 +54,3 @@ item_at v slot = slice_index_or v.slots.values slot BLANK
 -- the slots of a line, in order
 abbrev pub line_at : Lined → ℕ → List ℕ
 line_at v line = slice_index_or v.slots.lists line [] ++ slice_index_or v.slots.lists (v.count + line) []
-
--- ---- what a command owes gets less
-
--- its unit doesn't touch the medium for it any more
-abbrev pub stopped : Item → Item
-stopped (Command c) = Command (record { conn = c.conn; running = false; under_way = c.under_way })
-stopped (Answer conn) = Answer conn
-
--- nothing of it is under way any more
-abbrev pub arrived : Item → Item
-arrived (Command c) = Command (record { conn = c.conn; running = c.running; under_way = false })
-arrived (Answer conn) = Answer conn
-
-abbrev pub owes_nothing : Item → Bool
-owes_nothing (Command c) = not (owes c)
-owes_nothing (Answer conn) = false
-
--- an item stands behind all others of a line, in a slot that was free
-pub record Pushes (old new : Lined) (line slot : ℕ) (item : Item) : Type 0 where
-  pub here : line_at new line ≡ line_at old line ++ slot ∷ []
-  pub others : (k : ℕ) → k < old.count → k ≢ line → line_at new k ≡ line_at old k
-  pub fresh : (k : ℕ) → times slot (line_at old k) ≡ 0
-  pub values : new.slots.values ≡ slice_set old.slots.values slot item
-  pub free : length new.slots.free + 1 ≡ length old.slots.free
-  pub count : new.count ≡ old.count
-
--- each slot stays in its place, and this one has this item
-pub record Keeps (old new : Lined) (slot : ℕ) (item : Item) : Type 0 where
-  pub lines : (line : ℕ) → line < old.count → line_at new line ≡ line_at old line
-  pub values : new.slots.values ≡ slice_set old.slots.values slot item
-  pub free : length new.slots.free ≡ length old.slots.free
-  pub count : new.count ≡ old.count
-
--- the slot is in no line any more
-pub record Loses (old new : Lined) (slot : ℕ) : Type 0 where
-  pub lines : (line : ℕ) → line < old.count → line_at new line ≡ without slot (line_at old line)
-  pub values : new.slots.values ≡ old.slots.values
-  pub free : length new.slots.free ≡ length old.slots.free + 1
-  pub count : new.count ≡ old.count
-
--- the slot has this item, where that owes something, and is gone otherwise
-pub record Settles (old new : Lined) (slot : ℕ) (item : Item) (gone : Bool) : Type 0 where
-  pub which : gone ≡ owes_nothing item
-  pub kept : gone ≡ false → Keeps old new slot item
-  pub lost : gone ≡ true → Loses old new slot

@@ -2,7 +2,7 @@
 use Rattle.std.specs.Prelude.{◌≡◌, ℕ, true, false, Bool, List, [], ◌∷◌, Some, None, refl}
 use Rattle.iscsi_lines.specs.declared.item.Item.{Item}
 use Rattle.iscsi_lines.specs.declared.item.Item.TheVariants.{Command, Answer}
-use Rattle.iscsi_lines.specs.Lines.{BLANK, due_in, stopped, arrived, owes_nothing}
+use Rattle.iscsi_lines.specs.Lines.{BLANK, due_in}
 
 abbrev pub command : ℕ → Bool → Bool → Item
 command conn running under_way = Command (record { conn = conn; running = running; under_way = under_way })
@@ -33,10 +33,3 @@ second = refl
 -- a line without an answer has none that is due
 pub none : due_in (three (command 1 false true) BLANK BLANK) (1 ∷ []) ≡ None
 none = refl
-
--- a command that ran and is under way owes something once it stopped, and nothing once that arrived
-pub stops : owes_nothing (stopped (command 1 true true)) ≡ false
-stops = refl
-
-pub arrives : owes_nothing (arrived (stopped (command 1 true true))) ≡ true
-arrives = refl

@@ -1,5 +1,5 @@
 -- The two parts of a line. For private contracts alone.
-use Rattle.std.specs.Prelude.{◌≡◌, ◌≢◌, ◌==◌, ℕ, ◌+◌, ◌<◌, ◌≤◌, ◌||◌, ◌&&◌, not, Bool, true, false, List, [], ◌∷◌, ◌++◌, length, Some, slice_index_or}
+use Rattle.std.specs.Prelude.{◌≡◌, ◌≢◌, ◌==◌, ℕ, ◌+◌, ◌≤◌, ◌||◌, ◌&&◌, not, Bool, true, false, List, [], ◌∷◌, ◌++◌, length, Some, slice_index_or}
 use Rattle.iscsi_lists.specs.Lists.{Listed, first_of}
 use Rattle.iscsi_lines.specs.declared.item.Owing.{Owing}
 use Rattle.iscsi_lines.specs.declared.item.Item.{Item}
@@ -55,10 +55,6 @@ conn_at conns line = slice_index_or conns line 0
 
 abbrev pub IsLineAt : List ℕ → Listed Item → ℕ → Type 0
 IsLineAt conns s line = IsLine (conn_at conns line) (items_at s line) (items_at s (length conns + line))
-
-pub record AreLines (conns : List ℕ) (s : Listed Item) : Type 0 where
-  pub each : (line : ℕ) → line < length conns → IsLineAt conns s line
-  pub lists : length s.lists ≡ length conns + length conns
 
 -- ---- changes
 

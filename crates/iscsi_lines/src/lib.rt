@@ -2,8 +2,5 @@
 #![tactic(auto)]
 
 mod item;
-mod lines;
-mod settling;
 
 pub use item::{Item, Owing};
-pub use lines::Lines;

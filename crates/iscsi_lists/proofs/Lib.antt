@@ -6,4 +6,3 @@ pub mod ReadLemmas
 pub mod OpenLemmas
 pub mod ListedLemmas
 pub mod ClearLemmas
-pub mod SequenceLemmas

@@ -1,8 +1,10 @@
--- Where a slot stands: in one list at most, and there once. And how long two lists are.
-use Rattle.std.proofs.Common.{◌≡◌, ◌≢◌, ℕ, zero, suc, ◌+◌, ◌≤◌, List, [], ◌∷◌, length, get_or, replicate, refl, ap, arith, ⊎_elim}
+-- Where a slot stands: in one list at most, and there once. And how long some lists are.
+use Rattle.std.proofs.Common.{◌≡◌, ◌≢◌, ℕ, zero, suc, ◌+◌, ◌≤◌, List, [], ◌∷◌, length, map, get_or, replicate, Some, refl, ap, subst, arith, ⊎_elim}
 use Rattle.std.proofs.lemmas.Bool.{cases_lt}
 use Rattle.iscsi_slots.specs.Slots.{times}
-use Rattle.iscsi_lists.specs.Lists.{Linked, AreApart, counted, times_in}
+use Rattle.iscsi_lists.specs.Lists.{Linked, AreApart, Listed, counted, last_of, linked_in, times_in, without}
+use Rattle.iscsi_lists.proofs.WithoutLemmas.{length_without}
+use Rattle.iscsi_lists.proofs.ReadLemmas.{end_there}
 
 pub times_any : (s k : ℕ) (lists : List (List ℕ)) → times s (get_or lists k []) ≤ times_in s lists
 times_any s zero [] = omega arith
@@ -31,7 +33,25 @@ once_in {v = v} apart s = ⊎_elim
     (λ none. omega (arith, none))
     (cases_lt 0 (times_in s v.lists))
 
+pub last_there : (s : ℕ) (slots : List ℕ) → last_of slots ≡ Some s → 1 ≤ times s slots
+last_there s [] e = absurd (cc)
+last_there s (x ∷ slots) e = subst (λ n. 1 ≤ times n (x ∷ slots)) (cc) (end_there x slots)
+
+pub nth_map : (s k : ℕ) (lists : List (List ℕ)) → get_or (map (without s) lists) k [] ≡ without s (get_or lists k [])
+nth_map s zero [] = refl
+nth_map s (suc k) [] = refl
+nth_map s zero (xs ∷ lists) = refl
+nth_map s (suc k) (xs ∷ lists) = nth_map s k lists
+
 -- ---- how long they are
+
+-- a free slot goes to a list, and the free ones are one fewer
+pub fewer_free : {X : Type 0} (v : Listed X) → AreApart (linked_in v) → (s : ℕ) → last_of v.free ≡ Some s → times_in s v.lists ≡ 0 → length (without s v.free) + 1 ≡ length v.free
+fewer_free v known s last fresh =
+    let there = last_there s v.free last in
+    let some : 1 ≤ times s v.free + times_in s v.lists = omega (arith, there) in
+    let one = known.once s (known.some s some) (known.within s some) in
+    let a = length_without s v.free in omega (arith, a, one, fresh)
 
 pub counted_long : (n k : ℕ) → length (counted n k) ≡ k
 counted_long n zero = refl

@@ -65,11 +65,6 @@ abbrev pub counted : ℕ → ℕ → List ℕ
 counted n zero = []
 counted n (suc k) = n ∷ counted (suc n) k
 
--- some of the slots from 1 to a room, in the order in which they came
-pub record Sequenced : Type 0 where
-  pub order : List ℕ
-  pub room : ℕ
-
 -- linked slots, and the value of each: that at 0 is of no slot
 pub record Listed (X : Type 0) : Type 0 where
   pub free : List ℕ

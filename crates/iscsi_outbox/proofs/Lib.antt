@@ -9,7 +9,5 @@ pub mod SendLemmas
 pub mod WalkLemmas
 pub mod ItemLemmas
 pub mod OpenLemmas
-pub mod WordLemmas
 pub mod LimitsLemmas
-pub mod ToldLemmas
 pub mod AskLemmas

@@ -1,4 +1,3 @@
 pub mod private
 pub mod promises
 pub mod rules
-pub mod examples

@@ -1,3 +1,3 @@
--- The bytes of what goes out, and which connections are told to be ready.
+-- The bytes of what goes out, and what `next` would give.
 pub mod Headers
 pub mod Words

@@ -8,7 +8,6 @@ mod items;
 mod lifted;
 mod options;
 mod outbox;
-mod writers;
 
 pub use bytes::header;
 pub use fault::OutboxFault;
@@ -19,4 +18,3 @@ pub use iscsi_outbox_steps::{Given, Handed, Pdu};
 pub use iscsi_waiting::Response;
 pub use options::OutboxOptions;
 pub use outbox::{HandedResponse, Outbox};
-pub use writers::Writers;

@@ -1,7 +1,6 @@
--- Something goes out as long as anything waits, and who is told of it.
+-- Something goes out as long as anything waits.
 pub mod DeadlockQueues
 pub mod DeadlockSettled
 pub mod DeadlockLogouts
 pub mod DeadlockGives
 pub mod DeadlockTheorem
-pub mod WordTheorem

@@ -9,7 +9,6 @@ pub mod Closed
 pub mod Once
 pub mod Numbers
 pub mod Order
-pub mod Word
 pub mod Deadlock
 pub mod Room
 pub mod Promises

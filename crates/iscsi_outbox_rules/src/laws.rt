@@ -12,7 +12,6 @@ ghost use Rattle.iscsi_outbox_rules.specs.promises.Promises.{KeepsPromises};
 ghost use Rattle.iscsi_outbox_rules.specs.promises.Room.{RepliesFit, RoomOnTheWay, ShownFits, Step, TasksFit};
 ghost use Rattle.iscsi_outbox_rules.specs.promises.Silent.{SilentAfter};
 ghost use Rattle.iscsi_outbox_rules.specs.promises.Still.{ArrivesBefore, CompletesBefore, StopsBefore};
-ghost use Rattle.iscsi_outbox_rules.specs.promises.Word.{WordHolds, tells};
 ghost use Rattle.iscsi_outbox_rules.specs.rules.Calls.{Call, Opening};
 
 /// The numbers that a PDU shows (RFC 7143 section 4.2.2): its StatSN, in sequence on its connection; ExpCmdSN of the moment; and
@@ -86,13 +85,7 @@ pub fn deadlock_law()
     ensures gives { (o : Opening) → NoDeadlock o }
 {}
 
-/// No lost word: one that tells, at the end of each call, the connections that could give something and weren't told since they last
-/// gave nothing, loses no word, and tells each once until it gives nothing.
-pub fn word_law()
-    ensures word { (o : Opening) (calls : List Call) → WordHolds o (tells o calls) }
-{}
-
-/// All of these in one, but for `deadlock_law` and `word_law`: if what is taken is what a session gives, whose requests came on
+/// All of these in one, but for `deadlock_law`: if what is taken is what a session gives, whose requests came on
 /// its own connections, and whose MaxCmdSN flows.
 pub fn promises_law()
     ensures promises { (o : Opening) (calls : List Call) → FollowsFlow o calls → FollowsKnown o calls → KeepsPromises o calls }

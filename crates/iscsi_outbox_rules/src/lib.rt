@@ -7,6 +7,6 @@ mod own_pdu;
 
 pub use laws::{
     closed_law, deadlock_law, fence_law, numbers_law, once_law, order_law, promises_law,
-    silent_law, still_law, word_law,
+    silent_law, still_law,
 };
 pub use own_pdu::{OwnPdu, PutRefusal};

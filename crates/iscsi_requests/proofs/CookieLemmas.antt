@@ -6,7 +6,7 @@ use Rattle.std.proofs.lemmas.List.{get_or-map, get_or-set_other, get_or-set_same
 use Rattle.iscsi_slots.specs.Slots.{times}
 use Rattle.iscsi_slots.proofs.SlotLemmas.{times_append, times_at}
 use Rattle.iscsi_lists.specs.Lists.{AreApart, Listed, last_of, linked_in, times_in, total, with_last, without}
-use Rattle.iscsi_lists.proofs.SequenceLemmas.{last_there}
+use Rattle.iscsi_lists.proofs.PlaceLemmas.{last_there}
 use Rattle.iscsi_lists.proofs.WithoutLemmas.{none_behind, not_first, times_other, times_same, times_without, times_without_other}
 use Rattle.iscsi_requests.specs.declared.cookies.Counted.{Counted}
 use Rattle.iscsi_requests.specs.Cookies.{AreKnown, Cookies, Request, cookie_at, entered, has_place, is_at, is_used_on, removed, uses_at, with_uses}

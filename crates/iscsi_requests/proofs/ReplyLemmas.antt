@@ -7,8 +7,7 @@ use Rattle.std.proofs.lemmas.List.Quantifiers.{all_pairs_push}
 use Rattle.iscsi_slots.specs.Slots.{times, values}
 use Rattle.iscsi_lists.specs.Lists.{AreApart, Listed, counted, last_of, linked_in, listed, times_in, with_last, without}
 use Rattle.iscsi_lists.proofs.ListedLemmas.{taken_first}
-use Rattle.iscsi_lists.proofs.PlaceLemmas.{counted_long, once_in, only_there, times_any}
-use Rattle.iscsi_lists.proofs.SequenceLemmas.{fewer_free, last_there, nth_map}
+use Rattle.iscsi_lists.proofs.PlaceLemmas.{counted_long, fewer_free, last_there, nth_map, once_in, only_there, times_any}
 use Rattle.iscsi_lists.proofs.WithoutLemmas.{times_in_other, times_in_with, times_in_without, times_other, times_same}
 use Rattle.iscsi_tickets.specs.Tickets.{Known, known, value_of, without_ticket}
 use Rattle.iscsi_requests.specs.declared.replies.WaitingReply.{WaitingReply}

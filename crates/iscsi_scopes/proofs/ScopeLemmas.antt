@@ -12,8 +12,7 @@ use Rattle.iscsi_lines.specs.declared.item.Item.TheVariants.{Command}
 use Rattle.iscsi_lines.specs.Lines.{BLANK, items_of, line_at, owes}
 use Rattle.iscsi_lines.specs.Settling.{AllAre, may_stand, is_ahead, IsLine, IsLineAt, IsLess, conn_at, items_at, slots_at, Moves}
 use Rattle.iscsi_lines.proofs.ItemLemmas.{items_append, items_fresh, all_append, all_set, all_without}
-use Rattle.iscsi_lists.proofs.PlaceLemmas.{only_there, times_any}
-use Rattle.iscsi_lists.proofs.SequenceLemmas.{nth_map}
+use Rattle.iscsi_lists.proofs.PlaceLemmas.{nth_map, only_there, times_any}
 use Rattle.iscsi_lines.proofs.MoveLemmas.{stands_in}
 use Rattle.iscsi_lines.proofs.SettleLemmas.{items_by}
 use Rattle.iscsi_lines.proofs.LineLemmas.{whole_at, all_less}
@@ -30,7 +29,7 @@ module _ (conns : List ℕ) (s t u : Listed Item) (line : ℕ) (low : line < len
 
   -- what stands in each line, and outside, is what stood there after the change
   pub line_again : (k : ℕ) → k < length conns → line_at (lined (set conns line r) u) k ≡ slots_at t k ++ slots_at t (length conns + k)
-  line_again k l = ap (λ n. slots_at u k ++ slots_at u (n + k)) same_long ∙ whole_at conns s t u line low moves k l
+  line_again k l = ap (λ n. slots_at u k ++ slots_at u (n + k)) same_long ∙ whole_at conns t u line low moves k l
 
   pub outside_again : outside_at (lined (set conns line r) u) ≡ slots_at t (length conns + length conns)
   outside_again =

@@ -1,9 +1,8 @@
 -- Lines in which nothing stands yet.
 use Rattle.std.proofs.Common.{◌≡◌, ℕ, zero, suc, ◌+◌, ◌<◌, ◌≤◌, List, [], ◌∷◌, ◌++◌, length, get_or, set, refl, ap, sym, subst, ◌∙◌, arith, replicate, Some}
 use Rattle.std.proofs.lemmas.List.{get_or-set_same, get_or-set_other, length-set, length_push}
-use Rattle.iscsi_lists.proofs.PlaceLemmas.{counted_long, replicate_long}
+use Rattle.iscsi_lists.proofs.PlaceLemmas.{counted_long, fewer_free, replicate_long}
 use Rattle.iscsi_lists.specs.Lists.{Listed, AreApart, counted, last_of, linked_in, times_in, without, with_last}
-use Rattle.iscsi_lists.proofs.SequenceLemmas.{fewer_free}
 use Rattle.iscsi_lines.specs.declared.item.Item.{Item}
 use Rattle.iscsi_lines.specs.declared.item.Item.TheVariants.{Answer}
 use Rattle.iscsi_lines.specs.Lines.{items_of}

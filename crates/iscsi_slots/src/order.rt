@@ -93,17 +93,6 @@ impl Order {
         self.head = self.places.len();
     }
 
-    /// Has the slots of another order from now on, in its order. It takes no memory.
-    pub fn copy_from(&mut self, other: &Order)
-        requires { length other.now.items ≤ self.old.room }
-        ensures { self.new ≡ queued other.now.items self.old.room }
-    {
-        self.places.clear();
-        self.head = 0;
-        let copied: Result<_, _> = self.places.extend_from_slice(&other.places[other.head..]);
-        copied.unwrap();
-    }
-
     /// Takes the slot at a place out. Those on the shorter side of it close up; none moves where it is the first one.
     pub fn remove(&mut self, k: usize)
         requires { k < length self.old.items }

@@ -6,8 +6,7 @@ use Rattle.std.proofs.lemmas.List.{get_or-set_same, get_or-set_other, get_or-map
 use Rattle.iscsi_slots.specs.Slots.{times}
 use Rattle.iscsi_slots.proofs.SlotLemmas.{times_append}
 use Rattle.iscsi_lists.specs.Lists.{AreApart, Listed, counted, last_of, linked_in, listed, times_in, with_last, without}
-use Rattle.iscsi_lists.proofs.PlaceLemmas.{counted_long, once_in, replicate_long, times_any}
-use Rattle.iscsi_lists.proofs.SequenceLemmas.{fewer_free, last_there, nth_map}
+use Rattle.iscsi_lists.proofs.PlaceLemmas.{counted_long, fewer_free, last_there, nth_map, once_in, replicate_long, times_any}
 use Rattle.iscsi_lists.proofs.WithoutLemmas.{times_in_other, times_in_with, times_in_without, times_other, times_same, times_without, times_without_other}
 use Rattle.iscsi_arrivals.specs.declared.stamp.Stamp.{Stamp}
 use Rattle.iscsi_tickets.specs.Tickets.{Known, known, value_of, without_ticket}

@@ -4,7 +4,7 @@ use Rattle.std.proofs.lemmas.Bool.{cases_eq}
 use Rattle.std.proofs.lemmas.List.{get_or-set_same, get_or-set_other, length-map}
 use Rattle.iscsi_slots.specs.Slots.{times}
 use Rattle.iscsi_lists.specs.Lists.{Listed, AreApart, counted, linked_in, times_in, total, without, with_last, last_of}
-use Rattle.iscsi_lists.proofs.SequenceLemmas.{last_there}
+use Rattle.iscsi_lists.proofs.PlaceLemmas.{last_there}
 use Rattle.iscsi_lists.proofs.WithoutLemmas.{times_same, times_other, times_in_with}
 use Rattle.iscsi_outbox_state.specs.declared.waiting.Waiting.{Waiting}
 use Rattle.iscsi_outbox_state.specs.Waits.{Entry, Waits, entry, entered, opened}

@@ -6,7 +6,7 @@ use Rattle.iscsi_slots.specs.Slots.{times}
 use Rattle.iscsi_slots.proofs.SlotLemmas.{times_append}
 use Rattle.iscsi_lists.specs.Lists.{Listed, AreApart, linked_in, times_in, without, with_last}
 use Rattle.iscsi_lists.proofs.WithoutLemmas.{times_same, times_other, times_without, times_without_other, without_none}
-use Rattle.iscsi_lists.proofs.SequenceLemmas.{nth_map}
+use Rattle.iscsi_lists.proofs.PlaceLemmas.{nth_map}
 use Rattle.iscsi_waiting.specs.Kept.{GoesTo}
 use Rattle.iscsi_waiting.specs.Marks.{AreMarked, slots_at, value_at}
 

@@ -4,7 +4,7 @@ use Rattle.std.proofs.lemmas.Bool.{cases_eq}
 use Rattle.std.proofs.lemmas.List.{get_or-set_same, get_or-set_other, set-get_or}
 use Rattle.iscsi_slots.specs.Slots.{times}
 use Rattle.iscsi_lists.specs.Lists.{Listed, AreApart, first_of, linked_in, times_in, without, with_last}
-use Rattle.iscsi_lists.proofs.SequenceLemmas.{nth_map}
+use Rattle.iscsi_lists.proofs.PlaceLemmas.{nth_map}
 use Rattle.iscsi_lists.proofs.WithoutLemmas.{times_in_other, times_in_without}
 use Rattle.iscsi_outbox_state.specs.declared.waiting.Waiting.{Waiting}
 use Rattle.iscsi_outbox_state.specs.Waits.{Entry, entry, first_item, is_own, is_reply, of_none, popped}

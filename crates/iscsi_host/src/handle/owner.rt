@@ -64,6 +64,3 @@ impl Owner {
         }
     }
 }
-
-// SAFETY: it owns what it points to, and a host may go to another thread.
-unsafe impl Send for Owner {}

@@ -4,7 +4,6 @@ ghost use Rattle.std.specs.Prelude.{◌≡◌, ◌&&◌, ◌<◌, not, nat_lt, �
 ghost use Rattle.iscsi_arrivals.specs.Counts.{is_behind_logout_by};
 ghost use Rattle.iscsi_outbox_steps.specs.State.{is_asked_for, is_fence_elsewhere, is_fence_here, is_fence_out, is_over, link_at, passes, wants_notice, wants_ping};
 ghost use Rattle.iscsi_outbox_steps.specs.Steps.{chosen};
-ghost use Rattle.iscsi_outbox.specs.rules.Words.{gives};
 ghost use Rattle.iscsi_outbox.specs.private.Choices.{choice_of, holds_of, is_clear, lets_pass};
 
 use crate::lifted::lifted;
@@ -42,14 +41,6 @@ impl Outbox {
             Some(front) if self.passes(conn, front) => Some(Choice::Waiting),
             _ => None,
         }
-    }
-
-    /// Whether a connection gives something, if it is asked: a PDU, or that it is to be closed.
-    pub(crate) fn gives(&self, conn: usize) -> bool
-        requires { conn < length self.now.limits.cids }
-        ensures { result ≡ gives conn self.now }
-    {
-        self.chosen(conn).is_some() || self.is_over(conn)
     }
 
     /// Whether nothing goes out any more on a connection that a Logout closed.

@@ -3,7 +3,7 @@ use Rattle.std.proofs.Common.{◌≡◌, ℕ, zero, suc, ◌+◌, ◌<◌, ◌�
 use Rattle.std.proofs.lemmas.Bool.{and_parts, cases_eq, cases_lt, false≢true, true≢false}
 use Rattle.iscsi_slots.specs.Slots.{times}
 use Rattle.iscsi_lists.specs.Lists.{first_of, without}
-use Rattle.iscsi_lists.proofs.SequenceLemmas.{nth_map}
+use Rattle.iscsi_lists.proofs.PlaceLemmas.{nth_map}
 use Rattle.iscsi_lists.proofs.WithoutLemmas.{length_without, times_other, times_same}
 use Rattle.iscsi_arrivals.specs.declared.stamp.Stamp.{Stamp}
 use Rattle.iscsi_arrivals.specs.Counts.{is_under_way_by}

@@ -7,7 +7,7 @@ use Rattle.std.proofs.lemmas.List.Elements.{filter-append}
 use Rattle.std.proofs.lemmas.List.Folds.{list_any-append}
 use Rattle.iscsi_slots.specs.Slots.{times}
 use Rattle.iscsi_lists.specs.Lists.{times_in, without}
-use Rattle.iscsi_lists.proofs.SequenceLemmas.{last_there}
+use Rattle.iscsi_lists.proofs.PlaceLemmas.{last_there}
 use Rattle.iscsi_lists.proofs.WithoutLemmas.{length_without, times_without, times_without_other}
 use Rattle.iscsi_arrivals.proofs.CountLemmas.{count-cons}
 use Rattle.iscsi_outbox_rules.specs.rules.Calls.{Opening}

@@ -1,6 +1,6 @@
 use Rattle.std.proofs.Common.{ap, length, ◌∙◌, arith}
 use Rattle.iscsi_lists.specs.Lists.{Listed}
-use Rattle.iscsi_lists.proofs.SequenceLemmas.{fewer_free}
+use Rattle.iscsi_lists.proofs.PlaceLemmas.{fewer_free}
 use Rattle.iscsi_waiting.specs.Marks.{slots_at}
 use Rattle.iscsi_waiting.proofs.EnterLemmas.{counted_long, lists_long, none_at, no_slots, pushed_first}
 use Rattle.iscsi_waiting.proofs.slots.all_in_first.Goals as goal

@@ -1,5 +1,5 @@
 use Rattle.std.proofs.Common.{◌<◌, ◌∙◌, ap, sym, subst, arith}
-use Rattle.iscsi_lists.proofs.SequenceLemmas.{last_there}
+use Rattle.iscsi_lists.proofs.PlaceLemmas.{last_there}
 use Rattle.iscsi_requests.specs.Conns.{count_all}
 use Rattle.iscsi_requests.specs.Functions.{WaitingFunctions, pushed}
 use Rattle.iscsi_requests.specs.Kept.{NO_FUNCTION, functions_of}

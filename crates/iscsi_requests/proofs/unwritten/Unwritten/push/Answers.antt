@@ -1,6 +1,6 @@
 use Rattle.std.proofs.Common.{ℕ, ◌+◌, ◌<◌, ◌∙◌, length, set, Option, None, ap, sym, subst, arith}
 use Rattle.iscsi_lists.specs.Lists.{Listed}
-use Rattle.iscsi_lists.proofs.SequenceLemmas.{last_there}
+use Rattle.iscsi_lists.proofs.PlaceLemmas.{last_there}
 use Rattle.iscsi_requests.specs.Conns.{count_all}
 use Rattle.iscsi_requests.specs.Unwritten.{Unwritten, pushed}
 use Rattle.iscsi_requests.specs.Kept.{unwritten_of}

@@ -1,2 +1,0 @@
--- Worked lists of what a host does.
-pub mod Rows
