@@ -6,7 +6,7 @@ mod laws;
 mod own_pdu;
 
 pub use laws::{
-    closed_law, deadlock_law, fence_law, numbers_law, once_law, order_law, promises_law,
+    closed_law, deadlock_law, fence_law, numbers_law, once_law, order_law, promises_law, room_law,
     silent_law, still_law,
 };
 pub use own_pdu::{OwnPdu, PutRefusal};
