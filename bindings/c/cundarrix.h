@@ -103,8 +103,9 @@ typedef struct cundarrix_options {
     uint32_t level;        /* the protocol level: 1, or 2 for the task management queries of RFC 7144 */
     uint32_t own;          /* the most PDUs of the target's own (cundarrix_put) that wait on a connection: 1 to 1024 */
     uint32_t unwritten;    /* the most PDUs of a connection that are handed out and aren't written: 1 to 1024 */
-    uint8_t acknowledged;  /* 1: the answer to an abort waits until what went out of its commands is known to have arrived on
-                              other connections (by ExpStatSN, or a ping that is answered). 0: until it is written there */
+    uint8_t acknowledged;  /* 1: the answer to an abort waits until what went out of its commands, also of one that had completed, is
+                              known to have arrived on other connections (by ExpStatSN, or a ping that is answered). 0: until it is
+                              written there */
     uint8_t shared;        /* 1: other sessions have the units, too: resets are told, and wait for cundarrix_cleared. 0: they don't */
     uint8_t reserved[6];   /* zeros */
 } cundarrix_options;
@@ -119,7 +120,8 @@ typedef enum cundarrix_kind {
     CUNDARRIX_STOP = 2,  /* a command that was told to start is to stop: ticket, cookie, why. Nothing more is put for it. Once
                             nothing touches the medium for it: cundarrix_stopped */
     CUNDARRIX_RESET = 3, /* with `shared`: a CLEAR TASK SET (function 4) or LOGICAL UNIT RESET (5) was executed: unit, function. The
-                            target has each other session clear the unit; once all of that has stopped: cundarrix_cleared */
+                            target has each other session clear the unit; once nothing of any other session touches the unit's
+                            medium, also what was marked or aborted before: cundarrix_cleared */
     CUNDARRIX_READY = 4, /* something may go out on the connection: cid. It isn't told again before cundarrix_next has answered
                             CUNDARRIX_NOTHING or CUNDARRIX_OVER there */
     CUNDARRIX_CLOSE = 5, /* nothing goes out on the connection any more: cid. The target closes its transport; then cundarrix_lose */
@@ -353,8 +355,8 @@ static inline cundarrix_result cundarrix_clear(cundarrix_session *session, uint1
     return (cundarrix_result)iscsi_c_clear(session, unit, place, room, told);
 }
 
-/* With `shared`: the other sessions have cleared the unit for a CUNDARRIX_RESET of this one, and none of their commands touches
-   its medium any more. It counts for the oldest reset of the unit that waits; where none does, nothing changes: CUNDARRIX_OK all the same. */
+/* With `shared`: the other sessions have cleared the unit for a CUNDARRIX_RESET of this one, and nothing of them touches its
+   medium any more, also what was marked or aborted before. It counts for the oldest reset of the unit that waits; where none does, nothing changes: CUNDARRIX_OK all the same. */
 static inline cundarrix_result cundarrix_cleared(cundarrix_session *session, uint16_t unit, cundarrix_action *actions,
                                                  size_t room, cundarrix_told *told) {
     cundarrix_action *place = cundarrix_place_(actions, room, told);
@@ -385,8 +387,8 @@ static inline bool cundarrix_may_take(cundarrix_session *session) {
     return session && iscsi_c_may_take(session);
 }
 
-/* Whether a CUNDARRIX_PING went out on the connection, and isn't answered. How long that is borne is the target's to say: at the end
-   of its patience it loses the connection. */
+/* Whether a CUNDARRIX_PING went out on the connection, and isn't answered. Meanwhile it may hold up all of the session. How long that is
+   borne is the target's to say, and less than its initiators bear themselves: then it loses the connection. */
 static inline bool cundarrix_is_asked(cundarrix_session *session, uint16_t cid) {
     return session && iscsi_c_is_asked(session, cid);
 }

@@ -394,6 +394,149 @@ static void test_written_is_enough(void) {
     close_side();
 }
 
+/* ---- an abort on one connection of what completed on another */
+
+/* A READ of connection 2 has completed. Its Data-Ins and its response wait there. */
+static void complete_a_read(uint8_t acknowledged) {
+    cundarrix_options options = usual();
+    options.acknowledged = acknowledged;
+    open_with(options, 2);
+    DONE(arrive, 2, command(CUNDARRIX_SIMPLE, 0, 1), 48, 70);
+    TELLS(start(1, 0, CUNDARRIX_SIMPLE, 70));
+    DONE(put, 2, 1, data_in(0xa0000001), 48, 0);
+    TELLS(ready(2));
+    DONE(put, 2, 1, data_in(0xa0000001), 48, 0);
+    TELLS_NOTHING();
+    DONE(complete, 1, 0);
+    TELLS_NOTHING();
+}
+
+/* Its data goes out, and is written. */
+static void send_its_data(void) {
+    for (int place = 0; place < 2; place++) {
+        GIVES(2, OWN, 70);
+        DONE(written, 2);
+        TELLS_NOTHING();
+    }
+}
+
+/* A function of its initiator's on connection 1 is about it: ABORT TASK finds none, and another one of the unit takes out none. */
+static const uint8_t *abort_by(uint8_t number) {
+    return number == 1 ? abort_task(1, 0xb1, 2) : function(number, 0, 0xb1, 2);
+}
+
+/* Its answer goes out. */
+static void expect_answer(uint8_t number) {
+    GIVES(1, REPLY, 80);
+    CHECK(buffer[0] == 0x22 && buffer[2] == (number == 1) && number_at(buffer + 16) == 0xb1);
+    DONE(written, 1);
+    TELLS(forget(80));
+}
+
+/* Another READ has the tag now, on connection 1: what comes is its own, and of the first one nothing more comes. */
+static void use_the_tag_again(void) {
+    command(CUNDARRIX_SIMPLE, 0, 2);
+    put_number(header + 16, 0xa0000001);
+    DONE(arrive, 1, header, 48, 71);
+    TELLS(start(2, 0, CUNDARRIX_SIMPLE, 71));
+    REFUSED(GONE, put, 2, 1, data_in(0xa0000001), 48, 0);
+    DONE(put, 1, 2, data_in(0xa0000001), 48, 0);
+    TELLS_NOTHING();
+    DONE(complete, 2, 0);
+    TELLS_NOTHING();
+    GIVES(1, OWN, 71);
+    DONE(written, 1);
+    TELLS_NOTHING();
+    GIVES(1, REPLY, 71);
+    CHECK(buffer[0] == 0x21 && number_at(buffer + 16) == 0xa0000001);
+    DONE(written, 1);
+    TELLS(forget(71));
+    GIVES_NONE(2, NOTHING);
+    close_side();
+}
+
+/* All of it waits, and arrival is looked for: the answer goes out once the initiator has answered a ping behind the response, or
+   acknowledged that by a later request. */
+static void test_completed_waits(uint8_t number, bool is_pinged) {
+    complete_a_read(1);
+    DONE(arrive, 1, abort_by(number), 48, 80);
+    TELLS_NOTHING();
+    GIVES_NONE(1, NOTHING);
+    send_its_data();
+    GIVES_NONE(1, NOTHING);
+    GIVES(2, REPLY, 70);
+    CHECK(buffer[0] == 0x21 && number_at(buffer + 16) == 0xa0000001);
+    DONE(written, 2);
+    TELLS(forget(70));
+    GIVES_NONE(1, NOTHING);
+    GIVES_BARE(2, PING);
+    DONE(written, 2);
+    TELLS_NOTHING();
+    GIVES_NONE(2, NOTHING);
+    GIVES_NONE(1, NOTHING);
+    nop_out(0xffffffff, is_pinged ? 0x80000000 : 0xffffffff, 2);
+    put_number(header + 28, STAT_SN + 256u + !is_pinged);
+    DONE(heard, 2, header, 48);
+    TELLS(ready(1));
+    expect_answer(number);
+    use_the_tag_again();
+}
+
+/* All of it is written, and not acknowledged, as the abort comes: a ping is asked for at once. */
+static void test_completed_lies_there(uint8_t number) {
+    complete_a_read(1);
+    send_its_data();
+    GIVES(2, REPLY, 70);
+    DONE(written, 2);
+    TELLS(forget(70));
+    GIVES_NONE(2, NOTHING);
+    DONE(arrive, 1, abort_by(number), 48, 80);
+    TELLS(ready(2));
+    GIVES_NONE(1, NOTHING);
+    GIVES_BARE(2, PING);
+    DONE(heard, 2, nop_out(0xffffffff, 0x80000000, 2), 48);
+    TELLS(ready(1));
+    expect_answer(number);
+    use_the_tag_again();
+}
+
+/* Arrival isn't looked for: the answer goes out once the response is written. */
+static void test_completed_is_written(uint8_t number) {
+    complete_a_read(0);
+    DONE(arrive, 1, abort_by(number), 48, 80);
+    TELLS_NOTHING();
+    send_its_data();
+    GIVES_NONE(1, NOTHING);
+    GIVES(2, REPLY, 70);
+    GIVES_NONE(2, NOTHING);
+    GIVES_NONE(1, NOTHING);
+    DONE(written, 2);
+    TELLS(ready(1), forget(70));
+    expect_answer(number);
+    use_the_tag_again();
+}
+
+/* The connection is lost with all of it: nothing of it is read any more. */
+static void test_completed_is_lost(uint8_t number) {
+    complete_a_read(1);
+    DONE(arrive, 1, abort_by(number), 48, 80);
+    TELLS_NOTHING();
+    GIVES(2, OWN, 70);
+    GIVES_NONE(1, NOTHING);
+    DONE(lose, 2);
+    TELLS(ready(1), forget(70));
+    expect_answer(number);
+    use_the_tag_again();
+}
+
+static void test_completed(uint8_t number) {
+    test_completed_waits(number, true);
+    test_completed_waits(number, false);
+    test_completed_lies_there(number);
+    test_completed_is_written(number);
+    test_completed_is_lost(number);
+}
+
 int main(void) {
     test_life();
     test_replies();
@@ -410,5 +553,9 @@ int main(void) {
     test_logout();
     test_arrival();
     test_written_is_enough();
+    test_completed(2);
+    test_completed(4);
+    test_completed(5);
+    test_completed(1);
     return 0;
 }

@@ -7,7 +7,7 @@
 #include "parts.h"
 
 enum { BLOCK = 512, BLOCKS = 32768, PIECE = 8192 };
-enum { TEST_UNIT_READY = 0x00, GOOD = 0x00, CHECK_CONDITION = 0x02, BUSY = 0x08, NO_TAG = -1 };
+enum { TEST_UNIT_READY = 0x00, GOOD = 0x00, CHECK_CONDITION = 0x02, BUSY = 0x08 };
 
 static pthread_mutex_t medium = PTHREAD_MUTEX_INITIALIZER;
 static char **delays; /* how many milliseconds the commands take, in turn .. */
@@ -66,7 +66,7 @@ uint8_t perform(struct request *request) {
     if (!request->stop)
         work(request, length ? block : 0);
     for (uint32_t offset = 0; reads && offset < length; offset += PIECE)
-        if (!put_piece(request, DATA_IN, (uint32_t)NO_TAG, offset, length - offset < PIECE ? length - offset : PIECE))
+        if (!put_piece(request, DATA_IN, NO_TAG, offset, length - offset < PIECE ? length - offset : PIECE))
             break;
     return GOOD;
 }

@@ -8,6 +8,8 @@
 #include "cundarrix.h"
 
 enum { UNITS = 2, CIDS = 8, ROOM = 16, SEGMENT = 65536, STAT_SN = 1, LOGIN_LENGTH = 48 + 184 };
+enum { PATIENCE = 4 }; /* so many seconds a ping may lie unanswered, or a socket take nothing: fewer than the five that Linux waits for its own */
+#define NO_TAG UINT32_MAX
 enum { NOP_OUT = 0x00, LOGIN = 0x03, DATA_OUT = 0x05, NOP_IN = 0x20, SCSI_RESPONSE = 0x21, LOGIN_RESPONSE = 0x23, DATA_IN = 0x25, R2T = 0x31 };
 enum { READ = 0x28, WRITE = 0x2a };
 
@@ -71,7 +73,7 @@ pthread_t begin_thread(void *(*body)(void *), void *argument);
 /* A port of 127.0.0.1, 0 for any that is free; and the next connection that comes there. */
 int listen_at(uint16_t port);
 int accept_next(int listener);
-/* These say whether all was sent, or came. */
+/* These say whether all was sent, or came. A socket that takes nothing for PATIENCE isn't sent to any more. */
 bool send_bytes(int to, const uint8_t *bytes, size_t length);
 bool receive(int from, uint8_t *bytes, size_t length);
 

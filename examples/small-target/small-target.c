@@ -1,7 +1,7 @@
 /* A small iSCSI target over the library, to be read beside docs/USING.md: what it does for its session. It serves one, with up to eight
    connections, and ends with it. It asks nobody who he is, and so it listens on 127.0.0.1 alone.
 
-   A connection has a thread that reads and one that writes, and a command that was started has one. The session has a lock, which each of them
+   A connection has a thread that reads and one that writes, a command that was started has one, and so has the clock. The session has a lock, which each of them
    takes for a call and for what that tells; none holds it while it reads, writes or works on the disk. */
 #define _POSIX_C_SOURCE 200809L
 #include <stdio.h>
@@ -15,6 +15,7 @@ struct connection {
     int socket;
     uint16_t cid;
     bool ready, gone; /* something may go out; the transport is broken, or to be closed */
+    unsigned asked;   /* for so many seconds a ping isn't answered */
 };
 
 static cundarrix_session session = CUNDARRIX_CLOSED;
@@ -91,6 +92,28 @@ static void *execute(void *argument) {
     return NULL;
 }
 
+/* Closes the transport of a connection: its reader loses it. */
+static void give_up(struct connection *connection) {
+    connection->gone = true;
+    shutdown(connection->socket, SHUT_RDWR);
+    pthread_cond_broadcast(&changed);
+}
+
+/* The thread that has the clock. Who leaves a ping unanswered for so long is given up: what waits for that answer then goes out on the
+   other connections, the answers to their own pings too. */
+static void *watch(void *argument) {
+    for (;; sleep(1)) {
+        pthread_mutex_lock(&lock);
+        for (uint16_t cid = 0; cid < CIDS; cid++) {
+            struct connection *connection = connections[cid];
+            if (connection && (connection->asked = cundarrix_is_asked(&session, cid) ? connection->asked + 1 : 0) >= PATIENCE)
+                give_up(connection);
+        }
+        pthread_mutex_unlock(&lock);
+    }
+    return argument;
+}
+
 /* The thread that writes on a connection. It asks for a PDU once the one before it is written, so `next` is never blocked. */
 static void *send_all(void *argument) {
     struct connection *connection = argument;
@@ -111,14 +134,14 @@ static void *send_all(void *argument) {
         if (is_sent)
             carry_out(cundarrix_written(&session, connection->cid, TELL));
         else
-            connection->gone = true, shutdown(connection->socket, SHUT_RDWR);
+            give_up(connection);
     }
     pthread_mutex_unlock(&lock);
     return NULL;
 }
 
 /* Gives a request to the session, and holds it back while that is busy. Whether the connection goes on. */
-static bool take_request(const struct connection *connection, const uint8_t *header, const uint8_t *data) {
+static bool take_request(struct connection *connection, const uint8_t *header, const uint8_t *data) {
     struct request *request = keep(header, data);
     cundarrix_result answer;
     while ((answer = carry_out(cundarrix_arrive(&session, connection->cid, header, CUNDARRIX_HEADER, (uintptr_t)request, TELL))) == CUNDARRIX_BUSY) {
@@ -134,11 +157,13 @@ static bool take_request(const struct connection *connection, const uint8_t *hea
 }
 
 /* The thread that reads, until the transport ends. */
-static void read_all(const struct connection *connection) {
+static void read_all(struct connection *connection) {
     uint8_t header[CUNDARRIX_HEADER], *data = allocate(SEGMENT);
     bool goes_on = true;
     while (goes_on && receive_pdu(connection->socket, header, data)) {
         pthread_mutex_lock(&lock);
+        if ((header[0] & 0x3f) == NOP_OUT && number(header + 16) == NO_TAG)
+            connection->asked = 0; /* a ping is answered, and another may go out at once */
         if ((header[0] & 0x3f) == DATA_OUT) {
             carry_out(cundarrix_heard(&session, connection->cid, header, sizeof header, TELL));
             take_data(header, data);
@@ -201,9 +226,7 @@ static void *serve(void *argument) {
         pthread_t sender = begin_thread(send_all, connection);
         read_all(connection);
         pthread_mutex_lock(&lock);
-        connection->gone = true;
-        shutdown(connection->socket, SHUT_RDWR);
-        pthread_cond_broadcast(&changed);
+        give_up(connection);
         pthread_mutex_unlock(&lock);
         pthread_join(sender, NULL);
         pthread_mutex_lock(&lock);
@@ -221,6 +244,7 @@ static void *serve(void *argument) {
 int main(int count, char **words) {
     int listener = listen_at((uint16_t)(count > 1 ? atoi(words[1]) : 3260));
     set_delays(count > 2 ? (unsigned)count - 2 : 0, words + 2);
+    pthread_detach(begin_thread(watch, NULL));
     for (;;) {
         struct connection *connection = allocate(sizeof *connection);
         connection->socket = accept_next(listener);

@@ -5,6 +5,7 @@
 #include <stdio.h>
 #include <stdlib.h>
 #include <sys/socket.h>
+#include <sys/time.h>
 
 #include "parts.h"
 
@@ -41,9 +42,11 @@ int listen_at(uint16_t port) {
 
 int accept_next(int listener) {
     int accepted = accept(listener, NULL, NULL), yes = 1;
+    struct timeval patience = {.tv_sec = PATIENCE};
     if (accepted < 0)
         fail("small-target: accept");
     setsockopt(accepted, IPPROTO_TCP, TCP_NODELAY, &yes, sizeof yes);
+    setsockopt(accepted, SOL_SOCKET, SO_SNDTIMEO, &patience, sizeof patience);
     return accepted;
 }
 

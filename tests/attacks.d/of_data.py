@@ -120,6 +120,28 @@ def fenced(victim, byte_1):
         peer.log_out()
 
 
+def completed(victim):
+    """An abort of a READ that has completed, while its connection isn't read"""
+    new = b"N" * len(WHOLE)
+    with Peer(victim.port, cids=(1, 2), receives=65536) as peer:
+        peer.good(peer.write(2, 0, WHOLE))
+        peer.good(peer.write(2, MOST_BLOCKS, new))
+        cmd_sn, tag = peer.cmd_sn, peer.read(1, 0, MOST_BLOCKS)
+        peer.pump(lambda: False, 0.5, cids=(2,))
+        own = peer.function(2, FINAL | ABORT_TASK, tag, cmd_sn)
+        if peer.pump(lambda: own in peer.replies, 0.4, cids=(2,)):
+            before = len(peer.came)
+            peer.pump(lambda: tag in peer.replies, 5)
+            behind = sum(one[2] == tag for one in peer.came[before:])
+            raise Wrong(f"the answer comes at once, and {behind} PDUs of the READ behind it")
+        answer = peer.wait(own)
+        if answer[2] != 1 or tag not in peer.replies or peer.data[tag] != WHOLE:
+            raise Wrong(f"response {answer[2]}, {len(peer.data.get(tag, ()))} bytes of the READ")
+        if peer.good(peer.read(1, MOST_BLOCKS, MOST_BLOCKS, tag)) != new:
+            raise Wrong("the READ that has the tag again gets what the first one had read")
+        peer.log_out()
+
+
 # ---- what isn't sent to the end
 
 class Unfinished:

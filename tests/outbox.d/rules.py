@@ -2,8 +2,8 @@
 
 An outbox stands between a session and the connections. Words: a ticket has *left* once an abort, a Logout or the loss of
 its connection took it out of its task set; it is *running* if it left, was started, and its unit wasn't reported stopped.
-An answer to an abort or Logout has a *scope*: the tickets that its initiator holds for over by it. A PDU is *under way* on
-a connection from the moment it is handed out until it is known to have arrived (`acknowledged`), or was written.
+An answer to an abort or Logout has a *scope*: the tickets that left by what it is about, or before. Its initiator holds for
+over by it what completed, too (`over`); so one that found nothing is fenced. A PDU is *under way* on a connection from the moment it is handed out until it is known to have arrived (`acknowledged`), or was written.
 
 `Outbox(options, wrong)` plays without the rule that `wrong` names.
 """
@@ -38,7 +38,8 @@ class Options(NamedTuple):
 
 class Entry(NamedTuple):
     """A PDU that waits on a connection. `time` orders the entries of all connections; `takes`: it takes a StatSN; `fenced`:
-    the answer to a function of several tasks; `scope` and `closes`: the tickets and connections that are over by it."""
+    the answer to a function of several tasks, or to an ABORT TASK that found none; `over` and `closes`: the tickets and
+    connections that are over by it."""
 
     time: int
     kind: str
@@ -46,18 +47,19 @@ class Entry(NamedTuple):
     takes: bool = True
     fenced: bool = False
     numbered: bool = False
-    scope: frozenset = frozenset()
+    over: frozenset = frozenset()
     closes: frozenset = frozenset()
 
 
 class Answer(NamedTuple):
     """The answer to an abort or Logout that isn't due yet, in the order of the session's log. `own`: what left in its item;
-    `aim`: the tag or the unit that it is about."""
+    `over`: its scope, and what completed of what it is about; `aim`: the tag or the unit that it is about."""
 
     conn: int
     kind: str
     fenced: bool
     scope: frozenset
+    over: frozenset
     own: frozenset = frozenset()
     closes: frozenset = frozenset()
     aim: tuple = ()
@@ -227,7 +229,7 @@ class Outbox:
         undue = ()
         for answer in self.undue:
             if self.is_due(answer, undue):
-                self.enter(answer.conn, Entry(0, answer.kind, None, True, answer.fenced, False, answer.scope, answer.closes))
+                self.enter(answer.conn, Entry(0, answer.kind, None, True, answer.fenced, False, answer.over, answer.closes))
             else:
                 undue += (answer,)
         self.undue = undue
@@ -253,7 +255,7 @@ class Outbox:
                 or any(pdu.entry.fenced for pdu in handed) and any(entry.takes for entry in elsewhere))
 
     def passes_fence(self, conn, entry):
-        """Nothing that takes a StatSN overtakes an answer to a function of several tasks, nor is overtaken by one."""
+        """Nothing that takes a StatSN overtakes a fenced answer, nor is overtaken by one."""
         for other in self.others(conn):
             waiting, handed = self.queue[other], self.handed[other]
             if self.wrong != "fence-behind":

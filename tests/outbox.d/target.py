@@ -1,12 +1,15 @@
 """The moves of a trial: a target and an initiator that do what they may, by chance."""
 
 import struct
+from collections import namedtuple
 
 from trial import (ABORT_TASK, ABORT_TASK_SET, CLEAR_TASK_SET, COMMAND, DATA_IN, FUNCTION, FUNCTION_RESPONSE, LOGOUT,
                    LOGOUT_RESPONSE, NOP, NOP_IN, NO_TAG, R2T, REJECT, SCSI_RESPONSE, TEXT_RESPONSE, UNIT_RESET, Command,
                    Connection, Pdu, Reader, later, promise)
 
 UNITS = 2
+# What an abort or Logout is about: the tags of what left, and of what completed.
+Scope = namedtuple("Scope", "left completed")
 # The tag of the Logouts by which the target tells its session that a connection is lost.
 LOSS_TAG = 0xEEEE0000
 
@@ -27,8 +30,9 @@ class Trial:
         self.next, self.allowed = self.first, (self.first + self.window - 1) % 2**32
         self.tag = self.count = 0
         self.commands, self.tickets = {}, {}
-        # Requests that are to be answered, with their connection; and what is over by the answer to an abort or Logout.
-        self.asked, self.scopes, self.closes, self.fenced = {}, {}, {}, set()
+        # Requests that are to be answered, with their connection; what an abort or Logout is about, and once it was carried out
+        # what left by then and what completed by then of that; and the functions of several tasks.
+        self.asked, self.scopes, self.closes, self.of_set = {}, {}, {}, set()
         self.over = False
         for cid in self.conns:
             if cid == 1 or chance.random() < 0.9:
@@ -94,7 +98,7 @@ class Trial:
         function = self.chance.choice([ABORT_TASK, ABORT_TASK, ABORT_TASK_SET, CLEAR_TASK_SET, UNIT_RESET])
         command = self.chance.choice(list(self.commands.values()) or [Command(0x999, 1, 0)])
         tag = self.new_tag(conn)
-        self.fenced |= {tag} if function != ABORT_TASK else set()
+        self.of_set |= {tag} if function != ABORT_TASK else set()
         word = command.tag if function == ABORT_TASK else NO_TAG
         self.scopes[tag] = ("tag", command.tag) if function == ABORT_TASK else ("unit", command.unit)
         text = header(FUNCTION | 0x40 * immediate, 0x80 | function, command.unit, tag, word, self.numbers(conn, immediate), self.next)
@@ -142,7 +146,7 @@ class Trial:
                 enabled.append(self.tickets[numbers[0]])
             elif name == "leave":
                 command = self.tickets[numbers[0]]
-                command.live, command.left = False, request is not None
+                command.live, command.left, command.completed = False, request is not None, request is None
                 if request is None:
                     command.touches = False
             elif name == "close":
@@ -154,13 +158,13 @@ class Trial:
             command.enabled = command.touches = command.live
 
     def end_item(self, request, closing):
-        """What the answer to a request is about, by what left in its item or before."""
+        """What the answer to a request is about, by what left or completed in its item or before."""
         aim = self.scopes.get(request)
-        left = {command.tag for command in self.commands.values() if command.left}
         if isinstance(aim, tuple):
             about = {"tag": lambda c: c.tag == aim[1], "unit": lambda c: c.unit == aim[1],
                      "logout": lambda c: any(c.cid == conn.cid for conn in closing)}[aim[0]]
-            self.scopes[request] = {tag for tag in left if about(self.commands[tag])}
+            mine = [command for command in self.commands.values() if about(command)]
+            self.scopes[request] = Scope({c.tag for c in mine if c.left}, {c.tag for c in mine if c.completed})
         for conn in closing:
             if not conn.closed:
                 self.closes.setdefault(request, set()).add(conn.cid)
@@ -222,9 +226,10 @@ class Trial:
         self.count += 1
         pdu = Pdu(given, conn.cid, self.count)
         scope = self.scope_of(pdu)
-        pdu.fenced = pdu.tag in self.fenced and pdu.bytes[2] == 0
+        pdu.fenced = pdu.opcode == FUNCTION_RESPONSE and pdu.bytes[2] == (0 if pdu.tag in self.of_set else 1)
         running = [tag for tag in scope if self.commands[tag].touches]
         promise(not running, "still before: no command that is over touches the medium")
+        self.see_way(conn, pdu, scope)
         if pdu.opcode == NOP_IN and not pdu.is_ping or pdu.opcode in (SCSI_RESPONSE, FUNCTION_RESPONSE, LOGOUT_RESPONSE):
             self.check_once(pdu)
         conn.handed.append(pdu)
@@ -235,10 +240,22 @@ class Trial:
         return True
 
     def scope_of(self, pdu):
-        """What is over by a PDU: the answer to an abort, also one that finds no task, or to a Logout."""
+        """What is over by a PDU: the answer to an abort, also one that finds no task, or to a Logout. What completed is over, too,
+        by the answer to a function of several tasks, and by one that found no task."""
         scope = self.scopes.get(pdu.tag)
         is_answer = pdu.opcode in (FUNCTION_RESPONSE, LOGOUT_RESPONSE) and pdu.bytes[2] in (0, 1)
-        return scope if is_answer and isinstance(scope, set) else set()
+        if not is_answer or not isinstance(scope, Scope):
+            return set()
+        covers_completed = pdu.opcode == FUNCTION_RESPONSE and (pdu.tag in self.of_set or pdu.bytes[2] == 1)
+        return scope.left | scope.completed if covers_completed else scope.left
+
+    def see_way(self, conn, pdu, scope):
+        """Nothing of what is over by a PDU is under way on another connection, but on one that it closes."""
+        closes = self.closes.get(pdu.tag, ()) if pdu.opcode == LOGOUT_RESPONSE else ()
+        for other in self.open_conns():
+            if other is not conn and not other.shut and other.cid not in closes:
+                way = [*other.handed, *(other.written if self.reader.acknowledged else ())]
+                promise(not any(one.is_of_command and one.tag in scope for one in way), "silent after: nothing is under way elsewhere")
 
     def check_once(self, pdu):
         if pdu.tag != NO_TAG:
@@ -251,6 +268,7 @@ class Trial:
 
     def write(self, conn):
         pdu = conn.handed.popleft()
+        pdu.written = self.count
         if not conn.shut:
             conn.written.append(pdu)
         self.player.call("written", conn.cid)

@@ -54,7 +54,8 @@ class Player:
 
 
 class Pdu:
-    """A PDU as it goes out. `handed`: its place among all that went out; it takes a StatSN or not, and is fenced or not."""
+    """A PDU as it goes out. `handed`: its place among all that went out; `written`: the place of the last that went out before it
+    was written; it takes a StatSN or not, and is fenced or not."""
 
     def __init__(self, text, conn, handed):
         self.bytes, self.conn, self.handed = bytes.fromhex(text), conn, handed
@@ -64,7 +65,7 @@ class Pdu:
         self.is_ping = self.opcode == NOP_IN and self.tag == NO_TAG and self.transfer_tag != NO_TAG
         self.takes = self.opcode not in (DATA_IN, R2T) and not (self.opcode == NOP_IN and self.tag == NO_TAG)
         self.is_of_command = self.opcode in (DATA_IN, R2T, SCSI_RESPONSE)
-        self.fenced = False
+        self.fenced, self.written = False, None
 
 
 class Connection:
@@ -88,7 +89,7 @@ class Command:
     def __init__(self, tag, cid, unit):
         self.tag, self.cid, self.unit = tag, cid, unit
         self.ticket = None
-        self.live = self.enabled = self.touches = self.left = False
+        self.live = self.enabled = self.touches = self.left = self.completed = False
         self.put = self.read = 0
         self.responded = False
 
@@ -98,7 +99,8 @@ class Reader:
 
     def __init__(self, acknowledged):
         self.acknowledged = acknowledged
-        self.over, self.answered = set(), set()
+        # What is over by an answer that was read, with the answer's place among all that went out; by one that went out.
+        self.over, self.answered = {}, set()
         # What takes a StatSN and wasn't read, by its place among all that went out; and the fenced answers of these.
         self.unread = {}
 
@@ -124,11 +126,12 @@ class Reader:
             self.reads_of_command(pdu, commands[pdu.tag])
         if pdu.takes:
             self.reads_fenced(conn, pdu)
-        self.over |= scope
+        for tag in scope:
+            self.over.setdefault(tag, pdu.handed)
 
     def reads_of_command(self, pdu, command):
         promise(command.cid == pdu.conn, "a PDU of a command comes on its connection")
-        promise(not self.acknowledged or pdu.tag not in self.over, "silent after")
+        promise(not self.is_behind(pdu), "silent after")
         promise(not command.responded, "nothing of a command behind its response")
         if pdu.opcode == SCSI_RESPONSE:
             command.responded = True
@@ -136,6 +139,12 @@ class Reader:
         else:
             promise(pdu.offset == command.read, "data in order")
             command.read += 1
+
+    def is_behind(self, pdu):
+        """Whether a PDU of a command comes behind an answer by which that is over: where arrival isn't looked for, one that was
+        written before the answer went out may."""
+        answer = self.over.get(pdu.tag)
+        return answer is not None and (self.acknowledged or pdu.written >= answer)
 
     def reads_fenced(self, conn, pdu):
         self.unread.pop(pdu.handed, None)

@@ -95,7 +95,7 @@ class World:
                     yield ("start", fresh, conn)
                     yield ("enter", fresh, conn)
             if self.immediate[conn] < self.options.immediate:
-                yield from (("abort", ticket, conn) for ticket in named.values() if self.state[ticket] != "done")
+                yield from (("abort", ticket, conn) for ticket in named.values())
                 yield ("abort_set", conn)
                 unjoined = [other for other in self.options.conns if other not in box.joined | box.closed]
                 yield from (("logout", other, conn) for other in usable + unjoined)
@@ -186,19 +186,26 @@ class World:
             self.enter(conn, Entry(0, "nop", numbered=True))
 
     def do_abort(self, ticket, conn):
+        """With response 0 what has its tag and left is over; with 1, where none was found, what completed, too."""
         same = self.same_tag(ticket)
         there = [t for t in same if self.state[t] in ("live", "dormant")]
-        over = frozenset(t for t in same if self.state[t] != "done")
+        scope = self.not_done(same)
+        over = scope if there else same
         self.immediate[conn] += 1
         if there or self.box.wrong != "no-task":
-            self.take_out(there, Answer(conn, "abort", False, over, aim=("tag", self.tag(ticket))))
+            is_fenced = not there and self.box.wrong != "fence-no-task"
+            self.take_out(there, Answer(conn, "abort", is_fenced, scope, over, aim=("tag", self.tag(ticket))))
         else:
-            self.enter(conn, Entry(0, "abort", scope=over))
+            self.enter(conn, Entry(0, "abort", over=over))
 
     def do_abort_set(self, conn):
-        every = frozenset(ticket for ticket in self.tickets if self.state[ticket] not in ("new", "done"))
+        every = frozenset(ticket for ticket in self.tickets if self.state[ticket] != "new")
         self.immediate[conn] += 1
-        self.take_out(self.live(), Answer(conn, "set", True, every, aim=("unit",)))
+        self.take_out(self.live(), Answer(conn, "set", True, self.not_done(every), every, aim=("unit",)))
+
+    def not_done(self, tickets):
+        """Those of them that didn't complete."""
+        return frozenset(ticket for ticket in tickets if self.state[ticket] != "done")
 
     def do_logout(self, closing, conn):
         self.immediate[conn] += 1
@@ -212,7 +219,7 @@ class World:
         for other in closing:
             self.box.close(other, other != conn)
         mine = frozenset(ticket for ticket in self.tickets if self.conn.get(ticket) in closing and self.state[ticket] != "done")
-        self.take_out([t for t in self.live() if t in mine], Answer(conn, "logout", False, mine, closes=frozenset(closing)))
+        self.take_out([t for t in self.live() if t in mine], Answer(conn, "logout", False, mine, mine, closes=frozenset(closing)))
 
     def do_lose(self, conn):
         self.box.lose(conn)
@@ -243,7 +250,7 @@ class World:
         self.read[conn] += 1
         if self.options.acknowledged and conn not in self.shut:
             promise(entry.ticket not in self.silent, "silent after, as the initiator sees it")
-        self.silent |= entry.scope
+        self.silent |= entry.over
         self.shut |= entry.closes
         self.allowed = max(self.allowed, shown)
         if entry is PING:
@@ -272,7 +279,8 @@ class World:
         promise(conn in self.box.joined, "nothing before the connection joined")
         promise(conn not in self.ended, "closed: nothing behind a Logout Response")
         promise(entry.ticket not in self.answered, "silent after")
-        promise(not entry.scope & self.medium, "still before")
+        promise(not entry.over & self.medium, "still before")
+        self.see_way(conn, entry)
         if entry not in (PING, NOTICE):
             promise(entry.time > self.last[conn], "in the order in which they entered")
             self.last[conn] = entry.time
@@ -280,8 +288,16 @@ class World:
             self.unanswered[conn] -= 1
         if entry.takes:
             self.see_fence(conn, entry)
-        self.answered |= entry.scope
+        self.answered |= entry.over
         self.ended |= entry.closes
+
+    def see_way(self, conn, entry):
+        """Nothing of what is over by an answer is under way on another connection, but on one that it closes."""
+        for other in self.box.open_conns():
+            if other != conn and other not in entry.closes:
+                unread = self.box.handed[other][self.read[other]:]
+                way = unread if self.options.acknowledged else self.box.unwritten(other)
+                promise(not any(pdu.entry.ticket in entry.over for pdu in way), "silent after: nothing is under way elsewhere")
 
     def see_fence(self, conn, entry):
         for other in self.options.conns:

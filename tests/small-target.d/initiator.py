@@ -98,8 +98,12 @@ class Session:
 
     # ---- requests: each gives its tag
 
-    def command(self, cid, opcode, flags, block, count):
-        tag = self.new_tag()
+    def command(self, cid, opcode, flags, block, count, tag=None):
+        """A tag that is named is used again: what comes with it from now on is of this command."""
+        if tag is None:
+            tag = self.new_tag()
+        for known in self.replies, self.data:
+            known.pop(tag, None)
         header = self.header(COMMAND, FINAL | flags | SIMPLE, tag)
         header[20:24] = (count * BLOCK).to_bytes(4, "big")
         header[32], header[34:38], header[39:41] = opcode, block.to_bytes(4, "big"), count.to_bytes(2, "big")
@@ -112,8 +116,8 @@ class Session:
             self.written[self.tag + 1] = data
         return self.command(cid, 0x2a, WRITES, block, len(data) // BLOCK)
 
-    def read(self, cid, block, count=1):
-        return self.command(cid, 0x28, READS, block, count)
+    def read(self, cid, block, count=1, tag=None):
+        return self.command(cid, 0x28, READS, block, count, tag)
 
     def abort(self, cid, tag, cmd_sn):
         own = self.new_tag()

@@ -32,8 +32,8 @@ pub enum Action {
     },
     /// This session's initiator reset or cleared a unit that other sessions have, too
     /// ([`Options::shared`](crate::Options::shared)). Each of them is told by its own
-    /// [`clear`](crate::Session::clear); once their commands have stopped, this one is told by
-    /// [`Session::cleared`](crate::Session::cleared).
+    /// [`clear`](crate::Session::clear); once nothing of them touches the unit's medium, also what was marked or aborted
+    /// before, this one is told by [`Session::cleared`](crate::Session::cleared).
     Reset {
         /// The logical unit.
         unit: u16,

@@ -279,7 +279,8 @@ impl Session {
         })
     }
 
-    /// No other session's command of this unit touches the medium any more, behind an [`Action::Reset`] of it.
+    /// Nothing of any other session touches this unit's medium any more, also what was marked or aborted before, behind an
+    /// [`Action::Reset`] of it.
     ///
     /// # Errors
     ///
@@ -309,8 +310,9 @@ impl Session {
         unsafe { raw::iscsi_c_may_take(self.raw.get()) }
     }
 
-    /// Whether a ping of the library's own was handed out on a connection, and isn't answered. Time is the target's:
-    /// one that stays so for long is to be [`lost`](Session::lose).
+    /// Whether a ping of the library's own was handed out on a connection, and isn't answered. Meanwhile it may hold up all
+    /// of the session. Time is the target's: one that stays so for longer than its initiators bear is to be
+    /// [`lost`](Session::lose).
     pub fn is_asked(&self, cid: u16) -> bool {
         // SAFETY: as in `numbers`.
         unsafe { raw::iscsi_c_is_asked(self.raw.get(), cid) }

@@ -20,7 +20,8 @@ pub struct Options {
     pub sessions: usize,
     /// So long a login may take, and so long a socket may take no byte.
     pub patience: Duration,
-    /// So long an initiator may be silent before it is asked, and so long it may take to answer.
+    /// So long an initiator may be silent before it is asked, and so long it may take to answer, and half as long again: less
+    /// than the five seconds after which Linux gives up a target whose own answers wait for that one.
     pub ping: Duration,
     pub trace: Option<PathBuf>,
 }
@@ -37,7 +38,7 @@ impl Default for Options {
             name: "iqn.2026-01.example.cundarrix:ram".to_string(),
             sessions: 32,
             patience: Duration::from_secs(30),
-            ping: Duration::from_secs(15),
+            ping: Duration::from_secs(3),
             trace: None,
         }
     }

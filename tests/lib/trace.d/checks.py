@@ -18,19 +18,21 @@ OF_SET = (ABORT_TASK_SET, CLEAR_TASK_SET, LOGICAL_UNIT_RESET)
 # A worker that takes a command which was stopped before has a line, too, of no work: it begins and ends in a moment. So
 # what began less than so many nanoseconds before isn't judged.
 MOMENT = 5_000_000
-COMPLETE, TASK_ABORTED = 0, 0x40
+COMPLETE, NO_TASK, TASK_ABORTED = 0, 1, 0x40
 ORDERED, HEAD_OF_QUEUE = 2, 3
 NEVER = float("inf")
 
 
 @dataclass
 class Command:
-    """A SCSI Command of the capture. `abort` is the reply that says that it was aborted."""
+    """A SCSI Command of the capture. `abort` is the reply that says that it was aborted, and `gone` one that an ABORT TASK of it
+    found no task, as it had completed or left."""
     item: object
     offset: int
     answers: list = field(default_factory=list)
     works: list = field(default_factory=list)
     abort: object = None
+    gone: object = None
     is_aborted_late: bool = False
 
     @property
@@ -136,6 +138,16 @@ class Session:
             self.note(function, item)
             if function.request.function == LOGICAL_UNIT_RESET:
                 self.resets.append((function, item))
+        elif item.reply.response == NO_TASK and function.request.function == ABORT_TASK:
+            for command in self.received_before(function):
+                command.gone = command.gone or item
+
+    def received_before(self, function):
+        """The command that an ABORT TASK is about, where its number was certainly received before: else the number would be voided,
+        with response 0."""
+        request = function.request
+        return [command for command in self.covered(function) if command.request.is_numbered
+                and command.request.cmd_sn == request.ref_cmd_sn and command.offset < self.offset(request.cmd_sn)]
 
     def note(self, function, item):
         """Notes a complete function for what comes later."""
@@ -177,10 +189,10 @@ class Session:
         if not command:
             self.fault(item, f"{item.reply.name} for tag {item.reply.tag:08x}, which no command has")
             return
-        if command.abort:
+        if abort := command.abort or command.gone:
             self.fault(item, f"{item.reply.name} of {command.name} after the abort of it was answered in frame "
-                             f"{command.abort.frame} on connection {command.abort.cid}",
-                       self.overtaken if self.is_overtaken(item, command.abort) else self.faults)
+                             f"{abort.frame} on connection {abort.cid}",
+                       self.overtaken if self.is_overtaken(item, abort) else self.faults)
         if command.answers:
             self.fault(item, f"{item.reply.name} of {command.name} after it was answered in frame "
                              f"{command.answers[0].frame}")

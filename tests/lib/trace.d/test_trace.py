@@ -219,6 +219,27 @@ class Checks(unittest.TestCase):
         self.assertEqual(2, len(run.faults(True)))
         self.found(run, r"SCSI Response .* after the abort of it was answered", has_fence=True)
 
+    def none_found(self, answer_on=2, unit=0, refsn=0, number=1, opcode=0x01, **numbers):
+        """A command completes, an ABORT TASK of it finds none, and behind that answer come its data and its response."""
+        run = Run()
+        run.command(answer_on, 0, 0x10, opcode=opcode)
+        run.work(1, 0x10, 0)
+        run.function(1, number, 0x20, ABORT_TASK, unit=unit, ref=0x10, refsn=refsn)
+        run.complete(1, 0x20, NO_TASK, greatest=33)
+        run.data(answer_on, 0x10, greatest=33, **numbers)
+        run.answer(answer_on, 0x10, greatest=33, **numbers)
+        return run
+
+    def test_an_answer_that_none_was_found_overtakes_what_completed(self):
+        for answer_on in (1, 2):
+            run = self.none_found(answer_on)
+            for name in ("SCSI Data-In", "SCSI Response"):
+                self.found(run, rf"{name} of READ\(10\) with tag 00000010 .* after the abort of it was answered", has_fence=True)
+        self.assertEqual([], self.none_found().faults())
+        self.assertEqual(2, len(self.none_found(answer_on=2, exp=2).faults()))
+        for other in ({"unit": 1}, {"refsn": 7}, {"number": 0}, {"opcode": 0x41}):
+            self.assertEqual([], self.none_found(**other).faults(True), other)
+
     def test_a_command_that_comes_after_its_abort(self):
         run = good_run()
         run.work(6, 0x13, 3)
