@@ -13,3 +13,4 @@ pub mod WordLemmas
 pub mod LimitsLemmas
 pub mod ToldLemmas
 pub mod AskLemmas
+pub mod CalledLemmas

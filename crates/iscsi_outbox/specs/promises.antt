@@ -1,4 +1,5 @@
--- With which options an outbox opens, its limits, that no word is lost, and what goes out in a form of its own.
+-- With which options an outbox opens, its limits, what a call answers, that no word is lost, and what goes out in a form of its own.
 pub mod Options
 pub mod Told
 pub mod Responses
+pub mod Called

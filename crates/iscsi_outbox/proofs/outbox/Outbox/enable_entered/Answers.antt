@@ -1,4 +1,4 @@
-use Rattle.std.proofs.Common.{◌≡◌, ◌||◌, ℕ, Bool, true, not, refl, sym, ap, subst, ◌∙◌}
+use Rattle.std.proofs.Common.{◌≡◌, ◌||◌, ℕ, Bool, true, not, sym, ap, subst, ◌∙◌}
 use Rattle.iscsi_tracked.specs.declared.command.Phase.TheVariants.{Started}
 use Rattle.iscsi_tracked.specs.Tracked.{Tracked, has_place, in_phase}
 use Rattle.iscsi_outbox_state.specs.Lane.{count_in, is_left}
