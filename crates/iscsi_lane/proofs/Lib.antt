@@ -25,3 +25,4 @@ pub mod HoldLemmas
 pub mod ClearLemmas
 pub mod DroppingLemmas
 pub mod TellLemmas
+pub mod HintLemmas

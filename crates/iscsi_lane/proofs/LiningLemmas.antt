@@ -109,4 +109,5 @@ new_lined l log room new same none = record {
   of_untold = new.untold ∙ sym (ap (filter (untold_at log.values)) none);
   untold_room = let a = new.untold_room in omega (arith, a, same);
   holders = new.holders ∙ ap (λ n. n + 1) (sym same);
+  hints = λ t among. let a = ap (times t) new.untold in absurd (omega (arith, a, among));
 }

@@ -153,5 +153,8 @@ module _ (log : Listed Standing) (known : AreApart (linked_in log)) (k t : ℕ) 
   pub within_at : 1 ≤ times t (slots_at log k) → t ≤ log.room
   within_at there = let a = times_any t k log.lists in known.within t (omega (arith, a, there))
 
+  pub some_at : 1 ≤ times t (slots_at log k) → 1 ≤ t
+  some_at there = let a = times_any t k log.lists in known.some t (omega (arith, a, there))
+
 pub few_at : (log : Listed Standing) → AreApart (linked_in log) → (k : ℕ) → length (slots_at log k) ≤ log.room
 few_at log known k = let a = length_any k log.lists in let b = known.all in omega (arith, a, b)

@@ -7,3 +7,4 @@ pub mod Walking
 pub mod Counting
 pub mod Lining
 pub mod Dropping
+pub mod Hints

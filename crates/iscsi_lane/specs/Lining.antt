@@ -8,6 +8,7 @@ use Rattle.iscsi_lane.specs.Standings.{IsLane, slots_at}
 use Rattle.iscsi_lane.specs.Scoping.{untold_at}
 use Rattle.iscsi_lane.specs.Times.{AllUnder, IsUp}
 use Rattle.iscsi_lane.specs.Following.{FollowsLog}
+use Rattle.iscsi_lane.specs.Hints.{AreHints}
 
 pub record IsLined (l : Lines) (log : Listed Standing) : Type 0 where
   pub following : FollowsLog log l.units l.tags l.due.items (vec_capacity l.due)
@@ -17,6 +18,7 @@ pub record IsLined (l : Lines) (log : Listed Standing) : Type 0 where
   pub of_untold : l.untold.items ≡ filter (untold_at log.values) (slots_at log 2)
   pub untold_room : log.room ≤ vec_capacity l.untold
   pub holders : length l.holders.items ≡ log.room + 1
+  pub hints : AreHints (slots_at log 2) l.holders.items l.untold.items
 
 pub record IsNew (l : Lines) (room : ℕ) : Type 0 where
   pub units : l.units.lines ≡ []

@@ -1,6 +1,6 @@
 //! The lane.
 
-ghost use Rattle.std.specs.Prelude.{◌≡◌, ◌+◌, ◌*◌, ◌<◌, ◌≤◌, false, true, nat_lt, length, slice_index_or, slice_set, IfOk};
+ghost use Rattle.std.specs.Prelude.{◌≡◌, ◌+◌, ◌*◌, ◌<◌, ◌≤◌, None, false, true, is_some, nat_lt, not, length, slice_index_or, slice_set, IfOk};
 ghost use Rattle.iscsi_outbox_state.specs.Lane.{any_in, arrived, awaited, cleared, count_in, dropped_on, first_due, goes_out_on, has_left, is_command, is_left, is_numbered, is_under_way_on, opened, owes, stopped, without_due};
 ghost use Rattle.iscsi_lane.specs.Standings.{AreKnown, is_undue};
 
@@ -132,13 +132,7 @@ impl Lane {
         ensures answer { result ≡ first_due self.old }
         ensures state { self.new ≡ without_due self.old }
     {
-        if self.settled {
-            return None;
-        }
-        let Some(answer) = self.standings.take_due() else {
-            self.settled = true;
-            return None;
-        };
+        let answer = take_unless_settled(&mut self.standings, &mut self.settled)?;
         self.going_out[usize::from(answer.conn)] -= 1;
         Some(answer)
     }
@@ -205,6 +199,22 @@ impl Lane {
     {
         self.standings.numbered()
     }
+}
+
+/// The answer that is due first goes, if one is due. Where none is, that is known from then on.
+#[inline(always)]
+fn take_unless_settled(standings: &mut Standings, settled: &mut bool) -> Option<Undue>
+    requires { settled.old ≡ true → first_due standings.old ≡ None }
+    ensures answer { result ≡ first_due standings.old }
+    ensures state { standings.new ≡ without_due standings.old }
+    ensures settled { settled.new ≡ not (is_some (first_due standings.old)) }
+{
+    if *settled {
+        return None;
+    }
+    let taken = standings.take_due();
+    *settled = taken.is_none();
+    taken
 }
 
 /// Whether there is any of a connection, by the counts of all.

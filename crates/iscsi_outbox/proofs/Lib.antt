@@ -11,3 +11,4 @@ pub mod ItemLemmas
 pub mod OpenLemmas
 pub mod LimitsLemmas
 pub mod AskLemmas
+pub mod CalledLemmas

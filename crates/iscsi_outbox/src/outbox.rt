@@ -2,7 +2,8 @@
 
 ghost use Rattle.std.specs.Prelude.{◌≡◌, ◌+◌, ◌-◌, ◌<◌, ◌≤◌, ◌^◌, length, true, IfOk, IfSome};
 ghost use Rattle.iscsi_wire.specs.Serial.{number_of_first};
-ghost use Rattle.iscsi_outbox_law.specs.promises.Called.{KeepsAllPromises, KeepsToRules};
+ghost use Rattle.iscsi_outbox.specs.promises.Called.{FollowsRules};
+ghost use Rattle.iscsi_outbox_steps.specs.Run.{Joined};
 ghost use Rattle.iscsi_outbox_rules.specs.rules.Calls.{Joins};
 ghost use Rattle.iscsi_outbox_steps.specs.State.{opened, place_of};
 ghost use Rattle.iscsi_outbox.specs.rules.Words.{cid_at};
@@ -158,8 +159,7 @@ impl Outbox {
     pub fn join(&mut self, cid: u16, stat_sn: u32) -> bool
         ensures answer { result ≡ may_join cid self.old }
         ensures state { self.new ≡ joined cid stat_sn self.old }
-        ensures rules { KeepsToRules self.old (Joins cid stat_sn) }
-        ensures promises { KeepsAllPromises self.old (Joins cid stat_sn) }
+        ensures rules { FollowsRules self.old (Joins cid stat_sn) (Joined result) self.new }
     {
         match self.cids.place(cid) {
             Some(conn) => self.links.join(conn, stat_sn),

@@ -23,8 +23,8 @@ const MOST_PLACES: u32 = 1024;
 /// A [`Window`](crate::Window) of command numbers (RFC 7143 section 4.2.2.1) that keeps, with each request that it holds, the
 /// event in which it arrived, and that says how many it holds.
 ///
-/// Its calls are those of `Window`, which is made of it: each gives the exact answer and the exact window after. Without the
-/// events (`shown`) it is the `Window` after the same calls.
+/// Its calls are those of `Window`, which is made of it: each gives the exact answer and the exact window after, and has no clause
+/// over histories. That it is a `Window` without the events (`shown`) is proved in the bodies of `Window`, whose clauses have them.
 pub struct EventWindow {
     first: u32,
     unfinished: u32,

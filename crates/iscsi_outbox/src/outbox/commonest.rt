@@ -6,7 +6,8 @@ ghost use Rattle.iscsi_rules.specs.declared.effect.Effect.{Effect};
 ghost use Rattle.iscsi_rules.specs.declared.effect.Effect.TheVariants.{Deliver, Enable, Enter, Leave, Send};
 ghost use Rattle.iscsi_tracked.specs.declared.command.Phase.TheVariants.{Fresh, Started};
 ghost use Rattle.iscsi_outbox_steps.specs.Steps.{enter, in_phase_if, is_dormant, is_fresh, placed, reply_item, send_placed, settle, taken};
-ghost use Rattle.iscsi_outbox_law.specs.promises.Called.{KeepsAllPromises, KeepsToRules};
+ghost use Rattle.iscsi_outbox.specs.promises.Called.{FollowsRules};
+ghost use Rattle.iscsi_outbox_steps.specs.Run.{Silent};
 ghost use Rattle.iscsi_outbox_rules.specs.rules.Calls.{Takes};
 ghost use Rattle.iscsi_outbox.specs.private.Walks.{HasEntered, after_event};
 
@@ -21,8 +22,8 @@ impl Outbox {
     #[inline(always)]
     pub fn take_left(&mut self, ticket: u64, cid: u16, reply: &Reply, numbers: Numbers)
         ensures state { (unit stat_sn : ℕ) → self.new ≡ taken (Leave ticket unit ∷ Send cid stat_sn reply.now ∷ []) numbers self.old }
-        ensures rules { (effects : List Effect) → KeepsToRules self.old (Takes effects numbers) }
-        ensures promises { (effects : List Effect) → KeepsAllPromises self.old (Takes effects numbers) }
+        ensures rules { (unit stat_sn : ℕ) → FollowsRules self.old
+            (Takes (Leave ticket unit ∷ Send cid stat_sn reply.now ∷ []) numbers) Silent self.new }
     {
         self.take_completion(ticket, cid, reply);
         self.number(numbers);
@@ -39,8 +40,8 @@ impl Outbox {
         numbers: Numbers,
     )
         ensures state { (attr : Attr) (of : ℕ) → self.new ≡ taken (Deliver request.now ∷ Enter ticket unit attr ∷ Enable enabled of ∷ []) numbers self.old }
-        ensures rules { (effects : List Effect) → KeepsToRules self.old (Takes effects numbers) }
-        ensures promises { (effects : List Effect) → KeepsAllPromises self.old (Takes effects numbers) }
+        ensures rules { (attr : Attr) (of : ℕ) → FollowsRules self.old
+            (Takes (Deliver request.now ∷ Enter ticket unit attr ∷ Enable enabled of ∷ []) numbers) Silent self.new }
     {
         self.take_command(request, ticket, unit, enabled);
         self.number(numbers);

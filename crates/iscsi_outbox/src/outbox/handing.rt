@@ -5,7 +5,8 @@ ghost use Rattle.iscsi_wire.specs.Serial.{wire};
 ghost use Rattle.iscsi_arrivals.specs.Counts.{is_open_by};
 ghost use Rattle.iscsi_outbox_state.specs.declared.waiting.Waiting.{Waiting as WaitingValue};
 ghost use Rattle.iscsi_outbox_state.specs.Waits.{first_item, queue_at};
-ghost use Rattle.iscsi_outbox_law.specs.promises.Called.{KeepsAllPromises, KeepsToRules};
+ghost use Rattle.iscsi_outbox.specs.promises.Called.{FollowsRules};
+ghost use Rattle.iscsi_outbox_steps.specs.Run.{Gives};
 ghost use Rattle.iscsi_outbox_rules.specs.rules.Calls.{Nexts};
 ghost use Rattle.iscsi_outbox_steps.specs.State.{is_over, link_at};
 ghost use Rattle.iscsi_outbox_steps.specs.Steps.{Noticed, Pinged, Waited, after_out, given, next, numbered, of_command, of_fence};
@@ -26,8 +27,7 @@ impl Outbox {
     pub fn next(&mut self, cid: u16) -> Given
         ensures answer { result ≡ given cid self.old }
         ensures state { self.new ≡ next cid self.old }
-        ensures rules { KeepsToRules self.old (Nexts cid) }
-        ensures promises { KeepsAllPromises self.old (Nexts cid) }
+        ensures rules { FollowsRules self.old (Nexts cid) (Gives result) self.new }
     {
         let Some(conn) = self.cids.place(cid) else {
             return Given::Nothing;

@@ -13,7 +13,7 @@ impl Outbox {
     #[inline(always)]
     pub fn may_take(&self) -> bool
         ensures answer { result ≡ may_take self.now }
-        ensures rules { MayTakeByRules self.now (may_take self.now) }
+        ensures rules { MayTakeByRules self.now result }
     {
         let room = 2 * self.most_at_once();
         self.waits

@@ -2,7 +2,8 @@
 
 ghost use Rattle.std.specs.Prelude.{◌≡◌, ◌+◌, ◌<◌, ◌≤◌, length, true, IfSome};
 ghost use Rattle.iscsi_outbox_rules.specs.rules.Own.{is_fit, is_free_tag, own_takes, pdu_opcode, pdu_word};
-ghost use Rattle.iscsi_outbox_law.specs.promises.Called.{KeepsAllPromises, KeepsToRules};
+ghost use Rattle.iscsi_outbox.specs.promises.Called.{FollowsRules};
+ghost use Rattle.iscsi_outbox_steps.specs.Run.{Put};
 ghost use Rattle.iscsi_outbox_rules.specs.rules.Calls.{Puts};
 ghost use Rattle.iscsi_outbox_steps.specs.Steps.{absent, home_of, is_live, live_command, own_item, put, put_refusal, refusal_on};
 ghost use Rattle.iscsi_tracked.specs.Tracked.{find_ticket, has_place};
@@ -26,8 +27,7 @@ impl Outbox {
     pub fn put(&mut self, pdu: &OwnPdu) -> Result<(), PutRefusal>
         ensures answer { refused result ≡ put_refusal pdu.now self.old }
         ensures state { self.new ≡ put pdu.now self.old }
-        ensures rules { KeepsToRules self.old (Puts pdu.now) }
-        ensures promises { KeepsAllPromises self.old (Puts pdu.now) }
+        ensures rules { FollowsRules self.old (Puts pdu.now) (Put (refused result)) self.new }
     {
         if !is_fit(pdu) {
             return Err(PutRefusal::Unfit);

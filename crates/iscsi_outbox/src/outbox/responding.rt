@@ -5,7 +5,8 @@ ghost use Rattle.iscsi_arrivals.specs.Counts.{is_open_by};
 ghost use Rattle.iscsi_waiting.specs.Firsts.{response_in};
 ghost use Rattle.iscsi_outbox_state.specs.declared.waiting.Waiting.{Waiting as WaitingValue};
 ghost use Rattle.iscsi_outbox_state.specs.Waits.{first_item, queue_at};
-ghost use Rattle.iscsi_outbox_law.specs.promises.Called.{KeepsAllPromises, KeepsToRules};
+ghost use Rattle.iscsi_outbox.specs.promises.Called.{FollowsRules};
+ghost use Rattle.iscsi_outbox_steps.specs.Run.{Gives};
 ghost use Rattle.iscsi_outbox_rules.specs.rules.Calls.{Nexts};
 ghost use Rattle.iscsi_outbox_steps.specs.State.{link_at, place_of};
 ghost use Rattle.iscsi_outbox_steps.specs.Steps.{Waited, after_out, given, next, numbered};
@@ -51,8 +52,8 @@ impl Outbox {
         ensures answer { (cid : ℕ) → place_of self.old cid ≡ Some conn → given cid self.old ≡ Given.Hands (handed_of result) }
         ensures state { (cid : ℕ) → place_of self.old cid ≡ Some conn → self.new ≡ next cid self.old }
         ensures limits { self.new.limits ≡ self.old.limits }
-        ensures rules { (cid : ℕ) → KeepsToRules self.old (Nexts cid) }
-        ensures promises { (cid : ℕ) → KeepsAllPromises self.old (Nexts cid) }
+        ensures rules { (cid : ℕ) → place_of self.old cid ≡ Some conn →
+            FollowsRules self.old (Nexts cid) (Gives (Given.Hands (handed_of result))) self.new }
     {
         self.hand_out_response(conn, response)
     }

@@ -3,7 +3,8 @@
 ghost use Rattle.std.specs.Prelude.{◌≡◌, ◌<◌, ◌≤◌, length, true, IfSome};
 ghost use Rattle.iscsi_outbox_state.specs.Lane.{first_due, without_due};
 ghost use Rattle.iscsi_arrivals.specs.Counts.{heard_by};
-ghost use Rattle.iscsi_outbox_law.specs.promises.Called.{KeepsAllPromises, KeepsToRules};
+ghost use Rattle.iscsi_outbox.specs.promises.Called.{FollowsRules};
+ghost use Rattle.iscsi_outbox_steps.specs.Run.{Silent, Stopped};
 ghost use Rattle.iscsi_outbox_rules.specs.rules.Boxes.{Replies};
 ghost use Rattle.iscsi_outbox_rules.specs.rules.Calls.{Clears, Hears, Loses, Stops, Writes};
 ghost use Rattle.iscsi_outbox_rules.specs.rules.Items.{finds_none};
@@ -22,8 +23,7 @@ impl Outbox {
     pub fn stopped(&mut self, ticket: u64) -> bool
         ensures answer { result ≡ is_running_ticket ticket self.old }
         ensures state { self.new ≡ stopped ticket self.old }
-        ensures rules { KeepsToRules self.old (Stops ticket) }
-        ensures promises { KeepsAllPromises self.old (Stops ticket) }
+        ensures rules { FollowsRules self.old (Stops ticket) (Stopped result) self.new }
     {
         match self.tracked.find(ticket) {
             Some(command) if is_running(&command) => {
@@ -40,8 +40,7 @@ impl Outbox {
     #[inline(always)]
     pub fn written(&mut self, cid: u16)
         ensures state { self.new ≡ written cid self.old }
-        ensures rules { KeepsToRules self.old (Writes cid) }
-        ensures promises { KeepsAllPromises self.old (Writes cid) }
+        ensures rules { FollowsRules self.old (Writes cid) Silent self.new }
     {
         if let Some(conn) = self.cids.place(cid) {
             self.links.write(conn);
@@ -55,8 +54,7 @@ impl Outbox {
     #[inline(always)]
     pub fn heard(&mut self, cid: u16, exp_stat_sn: u32, transfer_tag: u32)
         ensures state { self.new ≡ heard cid exp_stat_sn transfer_tag self.old }
-        ensures rules { KeepsToRules self.old (Hears cid exp_stat_sn transfer_tag) }
-        ensures promises { KeepsAllPromises self.old (Hears cid exp_stat_sn transfer_tag) }
+        ensures rules { FollowsRules self.old (Hears cid exp_stat_sn transfer_tag) Silent self.new }
     {
         if let Some(conn) = self.cids.place(cid) {
             self.hear_on(conn, exp_stat_sn, transfer_tag);
@@ -77,8 +75,7 @@ impl Outbox {
     /// The transport of a connection is gone: what waits there is dropped, and the answers that would go out there.
     pub fn lose(&mut self, cid: u16)
         ensures state { self.new ≡ lost cid self.old }
-        ensures rules { KeepsToRules self.old (Loses cid) }
-        ensures promises { KeepsAllPromises self.old (Loses cid) }
+        ensures rules { FollowsRules self.old (Loses cid) Silent self.new }
     {
         self.reached = 0;
         if let Some(conn) = self.cids.place(cid) {
@@ -92,8 +89,7 @@ impl Outbox {
     /// waits no more.
     pub fn clear(&mut self, unit: u16)
         ensures state { self.new ≡ cleared_of unit self.old }
-        ensures rules { KeepsToRules self.old (Clears unit) }
-        ensures promises { KeepsAllPromises self.old (Clears unit) }
+        ensures rules { FollowsRules self.old (Clears unit) Silent self.new }
     {
         self.lane.clear(unit);
         self.settle();

@@ -2,7 +2,8 @@
 
 ghost use Rattle.std.specs.Prelude.{◌≡◌};
 ghost use Rattle.iscsi_rules.specs.promises.Order.{in_parts};
-ghost use Rattle.iscsi_outbox_law.specs.promises.Called.{KeepsAllPromises, KeepsToRules};
+ghost use Rattle.iscsi_outbox.specs.promises.Called.{FollowsRules};
+ghost use Rattle.iscsi_outbox_steps.specs.Run.{Silent};
 ghost use Rattle.iscsi_outbox_rules.specs.rules.Calls.{Takes};
 ghost use Rattle.iscsi_outbox_steps.specs.Steps.{after_item, after_items, taken};
 ghost use Rattle.iscsi_outbox.specs.private.Walks.{after_event, numbered_by};
@@ -22,8 +23,7 @@ impl Outbox {
     #[inline(always)]
     pub fn take(&mut self, effects: &[Effect], numbers: Numbers)
         ensures state { self.new ≡ taken effects.now numbers self.old }
-        ensures rules { KeepsToRules self.old (Takes effects.now numbers) }
-        ensures promises { KeepsAllPromises self.old (Takes effects.now numbers) }
+        ensures rules { FollowsRules self.old (Takes effects.now numbers) Silent self.new }
     {
         self.take_event(effects);
         self.number(numbers);

@@ -1,7 +1,8 @@
-use Rattle.std.proofs.Common.{◌+◌, ◌≤◌, ◌∙◌, ℕ, filter, ap, sym, subst, arith}
+use Rattle.std.proofs.Common.{◌+◌, ◌≤◌, ◌∙◌, ℕ, List, filter, ap, sym, subst, arith}
 use Rattle.std.specs.Prelude.{◌||◌}
 use Rattle.iscsi_slots.specs.Slots.{times}
 use Rattle.iscsi_scopes.specs.Scopes.{slots_of}
+use Rattle.iscsi_lane.specs.Hints.{AreHints}
 use Rattle.iscsi_lane.specs.Standings.{slots_at}
 use Rattle.iscsi_lane.specs.Times.{AllUnder, IsUp, gains, has}
 use Rattle.iscsi_lane.proofs.ClearLemmas.{clear_follows, clear_order, clear_stands, clear_untold, t_order, t_room}
@@ -39,4 +40,5 @@ returns-clause-lined c =
       of_untold = c.requires.lined.of_untold ∙ sym (clear_untold c.args.log.now c.args.self.now.units c.args.self.now.tags c.args.self.now.due.items _ c.requires.lined.following c.known.ensures.apart c.known.ensures.values c.args.slot c.requires.there c.args.unit c.args.answer c.requires.is c.requires.waits c.set.new.self c.set.ensures);
       untold_room = let a = c.requires.lined.untold_room in omega (arith, a, room);
       holders = c.requires.lined.holders ∙ ap (λ n. n + 1) (sym room);
+      hints = subst (λ (q : List ℕ). AreHints q now.holders.items now.untold.items) (sym order) c.requires.lined.hints;
     }

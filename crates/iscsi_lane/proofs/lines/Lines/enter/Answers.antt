@@ -1,9 +1,11 @@
-use Rattle.std.proofs.Common.{◌+◌, ◌∙◌, filter, refl, ap, sym, subst, arith}
+use Rattle.std.proofs.Common.{◌+◌, ◌∙◌, ℕ, List, filter, refl, ap, sym, subst, arith}
 use Rattle.iscsi_outbox_state.specs.declared.lane.Standing.TheVariants.{Left as IsLeft}
 use Rattle.std.proofs.lemmas.List.{append-nil}
 use Rattle.iscsi_lane.specs.Scoping.{untold_at}
+use Rattle.iscsi_lane.specs.Hints.{IsHint, hint_at}
 use Rattle.iscsi_lane.specs.Standings.{slots_at}
 use Rattle.iscsi_lane.specs.Times.{AllUnder, IsUp}
+use Rattle.iscsi_lane.proofs.HintLemmas.{hint_comes}
 use Rattle.iscsi_lane.proofs.JoinLemmas.{left_joins, t_order, t_room}
 use Rattle.iscsi_lane.proofs.LiningLemmas.{joined_untold}
 use Rattle.iscsi_lane.proofs.lines.Lines.enter.Goals as goal
@@ -27,4 +29,5 @@ returns c p t is_p is_t =
       of_untold = c.requires.lined.of_untold ∙ sym (append-nil (filter (untold_at log.values) (slots_at log 2))) ∙ sym stay;
       untold_room = let a = c.requires.lined.untold_room in omega (arith, a, room);
       holders = c.requires.lined.holders ∙ ap (λ n. n + 1) (sym room);
+      hints = λ u among. subst (λ (q : List ℕ). IsHint q (hint_at now.holders.items u)) (sym order) (hint_comes (slots_at log 2) c.args.left.command (hint_at now.holders.items u) (c.requires.lined.hints u among));
     }

@@ -1,10 +1,12 @@
-use Rattle.std.proofs.Common.{◌+◌, ◌∙◌, ◌++◌, ◌∷◌, [], cond, filter, length, map, refl, ap, sym, subst, arith}
+use Rattle.std.proofs.Common.{◌+◌, ◌∙◌, ℕ, List, set, ◌++◌, ◌∷◌, [], cond, filter, length, map, refl, ap, sym, subst, arith}
 use Rattle.std.proofs.lemmas.List.{length-append, length-set}
 use Rattle.iscsi_outbox_state.specs.declared.lane.Standing.TheVariants.{Undue as IsUndue}
 use Rattle.iscsi_lists.specs.Lists.{with_last, without}
 use Rattle.iscsi_lane.specs.Scoping.{untold_at}
+use Rattle.iscsi_lane.specs.Hints.{AreHints}
 use Rattle.iscsi_lane.specs.Standings.{slots_at}
 use Rattle.iscsi_lane.specs.Times.{AllUnder, IsUp}
+use Rattle.iscsi_lane.proofs.HintLemmas.{hints_join}
 use Rattle.iscsi_lane.proofs.LiningLemmas.{joined_order, joined_room, joined_untold}
 use Rattle.iscsi_lane.proofs.OrderLemmas.{filter_long}
 use Rattle.iscsi_lane.proofs.StampLemmas.{few_at}
@@ -37,4 +39,7 @@ returns-clause-lined c =
           ∙ ap (λ b. filter (untold_at log.values) (slots_at log 2) ++ cond b (c.args.slot ∷ []) []) c.is_untold.ensures ∙ sym joins;
       untold_room = let a = c.requires.lined.untold_room in let b = c.add_if.ensures.capacity in omega (arith, a, b, room);
       holders = length-set c.args.self.now.holders.items c.args.slot 0 ∙ c.requires.lined.holders ∙ ap (λ n. n + 1) (sym room);
+      hints = subst (λ (q : List ℕ). AreHints q (set c.args.self.now.holders.items c.args.slot 0) c.add_if.new.slots.items) (sym order)
+          (hints_join c.args.slot (slots_at log 2) c.args.self.now.untold.items c.add_if.new.slots.items c.args.self.now.holders.items c.is_untold.result
+          (let a = c.requires.within in let b = c.requires.lined.holders in omega (arith, a, b)) c.add_if.ensures.slots c.requires.lined.hints);
     }

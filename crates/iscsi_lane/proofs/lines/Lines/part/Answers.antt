@@ -7,7 +7,9 @@ use Rattle.iscsi_lane.specs.Scoping.{untold_at}
 use Rattle.iscsi_lane.specs.Standings.{slots_at}
 use Rattle.iscsi_lane.proofs.LaneLemmas.{moved_other, moved_room}
 use Rattle.iscsi_lane.proofs.LiningLemmas.{untold_goes}
-use Rattle.iscsi_lane.proofs.StampLemmas.{under_goes, up_goes}
+use Rattle.iscsi_lane.specs.Hints.{AreHints, Passes}
+use Rattle.iscsi_lane.proofs.HintLemmas.{hints_part}
+use Rattle.iscsi_lane.proofs.StampLemmas.{once_at, some_at, under_goes, up_goes}
 use Rattle.iscsi_lane.proofs.TellLemmas.{kept_there, kept_up, kept_within}
 use Rattle.iscsi_lane.proofs.lines.Lines.part.Goals as goal
 
@@ -39,5 +41,9 @@ returns-clause-lined c =
       long = c.requires.lined.long ∙ ap (λ n. n + 1) (sym room);
       of_untold = c.leave_due.ensures.due ∙ ap (without slot) c.requires.lined.of_untold ∙ sym (untold_goes log c.part.new.log slot c.part.ensures.log);
       untold_room = let a = c.requires.lined.untold_room in let b = c.leave_due.ensures.capacity in omega (arith, a, b, room);
-      holders = c.pass_over.ensures ∙ ap (λ n. n + 1) (sym room);
+      holders = c.pass_over.ensures.holders ∙ ap (λ n. n + 1) (sym room);
+      hints = subst (λ (q : List ℕ). AreHints q c.pass_over.new.holders.items c.leave_due.new.due.items) (sym order)
+          (hints_part slot (slots_at log 2) c.requires.there (once_at log c.known.ensures.apart 2 slot) (some_at log c.known.ensures.apart 2 slot c.requires.there) now.untold.items c.leave_due.new.due.items now.holders.items c.pass_over.new.holders.items
+          c.leave_due.ensures.due
+          (subst (λ (d : List ℕ). Passes slot (slots_at log 2) d now.holders.items c.pass_over.new.holders.items) c.deref.ensures.value c.pass_over.ensures.passes) c.requires.lined.hints);
     }

@@ -1,9 +1,8 @@
+use Rattle.std.proofs.Common.{rules, arith, refl}
+use Rattle.std.proofs.lemmas.Grind.{common_steps}
+use Rattle.iscsi_outbox.proofs.CalledLemmas.{follows_silent}
 use Rattle.iscsi_outbox_rules.specs.rules.Calls.{Loses}
-use Rattle.iscsi_outbox_law.proofs.calls.Called.{keeps, keeps_all}
 use Rattle.iscsi_outbox.proofs.outbox.Outbox.lose.Goals as goal
 
 pub returns-clause-rules : goal.returns-clause-rules
-returns-clause-rules c = keeps _ (Loses c.args.cid)
-
-pub returns-clause-promises : goal.returns-clause-promises
-returns-clause-promises c = keeps_all _ (Loses c.args.cid)
+returns-clause-rules c = follows_silent _ (Loses c.args.cid) _ refl (first_of (search rules, grind (arith, common_steps)))

@@ -1,11 +1,11 @@
-use Rattle.std.proofs.Common.{◌≡◌, Option, Some, refl, sym, ap, subst, ◌∙◌, IsSome}
-use Rattle.iscsi_outbox_steps.specs.declared.given.Given.TheVariants.{Hands}
+use Rattle.std.proofs.lemmas.Grind.{common_steps}
+use Rattle.std.proofs.Common.{arith, ◌≡◌, Option, Some, None, refl, sym, ap, subst, ◌∙◌, IsSome}
+use Rattle.iscsi_outbox_steps.specs.declared.given.Given.TheVariants.{Hands, Nothing}
 use Rattle.iscsi_outbox_state.specs.declared.waiting.Waiting.{Waiting}
 use Rattle.iscsi_outbox_steps.specs.State.{State, place_of}
 use Rattle.iscsi_outbox_steps.specs.Steps.{Noticed, Waited}
 use Rattle.iscsi_outbox.proofs.ChoiceLemmas.{given_at, given_none, next_at, next_none, nothing_goes, notice_goes, ping_goes, waiting_goes}
-use Rattle.iscsi_outbox_rules.specs.rules.Calls.{Nexts}
-use Rattle.iscsi_outbox_law.proofs.calls.Called.{keeps, keeps_all}
+use Rattle.iscsi_outbox.proofs.CalledLemmas.{follows_nexts}
 use Rattle.iscsi_outbox.proofs.outbox.Outbox.next.Goals as goal
 
 pub hand_out_waiting-requires-clause-open : goal.hand_out_waiting-requires-clause-open
@@ -81,31 +81,18 @@ returns-in-None-clause-state c =
     sym (next_none c.args.cid c.in-Some.conn c.args.self.now at (nothing_goes c.in-Some.conn c.args.self.now (sym c.chosen.ensures ∙ c.in-None.is)))
 
 pub returns-in_default-clause-rules : goal.returns-in_default-clause-rules
-returns-in_default-clause-rules c = keeps _ (Nexts c.args.cid)
-
-pub returns-in_default-clause-promises : goal.returns-in_default-clause-promises
-returns-in_default-clause-promises c = keeps_all _ (Nexts c.args.cid)
+returns-in_default-clause-rules c =
+    let at : place_of c.args.self.now c.args.cid ≡ None = ap (λ (s : State). place_of s c.args.cid) (sym c.self.view_is) ∙ sym c.place.ensures ∙ c.in_default.is in
+    follows_nexts c.args.self.now c.args.cid Nothing c.args.self.now (grind (arith, common_steps)) (grind (arith, common_steps))
 
 pub returns-in-Some-Waiting-clause-rules : goal.returns-in-Some-Waiting-clause-rules
-returns-in-Some-Waiting-clause-rules c = keeps _ (Nexts c.args.cid)
-
-pub returns-in-Some-Waiting-clause-promises : goal.returns-in-Some-Waiting-clause-promises
-returns-in-Some-Waiting-clause-promises c = keeps_all _ (Nexts c.args.cid)
+returns-in-Some-Waiting-clause-rules c = follows_nexts _ c.args.cid _ _ (returns-in-Some-Waiting-clause-answer c) (returns-in-Some-Waiting-clause-state c)
 
 pub returns-in-Some-Ping-clause-rules : goal.returns-in-Some-Ping-clause-rules
-returns-in-Some-Ping-clause-rules c = keeps _ (Nexts c.args.cid)
-
-pub returns-in-Some-Ping-clause-promises : goal.returns-in-Some-Ping-clause-promises
-returns-in-Some-Ping-clause-promises c = keeps_all _ (Nexts c.args.cid)
+returns-in-Some-Ping-clause-rules c = follows_nexts _ c.args.cid _ _ (returns-in-Some-Ping-clause-answer c) (returns-in-Some-Ping-clause-state c)
 
 pub returns-in-Some-Notice-clause-rules : goal.returns-in-Some-Notice-clause-rules
-returns-in-Some-Notice-clause-rules c = keeps _ (Nexts c.args.cid)
-
-pub returns-in-Some-Notice-clause-promises : goal.returns-in-Some-Notice-clause-promises
-returns-in-Some-Notice-clause-promises c = keeps_all _ (Nexts c.args.cid)
+returns-in-Some-Notice-clause-rules c = follows_nexts _ c.args.cid _ _ (returns-in-Some-Notice-clause-answer c) (returns-in-Some-Notice-clause-state c)
 
 pub returns-in-None-clause-rules : goal.returns-in-None-clause-rules
-returns-in-None-clause-rules c = keeps _ (Nexts c.args.cid)
-
-pub returns-in-None-clause-promises : goal.returns-in-None-clause-promises
-returns-in-None-clause-promises c = keeps_all _ (Nexts c.args.cid)
+returns-in-None-clause-rules c = follows_nexts _ c.args.cid _ _ (returns-in-None-clause-answer c) (returns-in-None-clause-state c)

@@ -6,8 +6,7 @@ use Rattle.iscsi_outbox_steps.specs.Steps.{Waited}
 use Rattle.iscsi_outbox.proofs.ChoiceLemmas.{given_at, next_at}
 use Rattle.iscsi_outbox.proofs.LimitsLemmas.{out_stays}
 use Rattle.iscsi_outbox.proofs.ResponseLemmas.{response_goes}
-use Rattle.iscsi_outbox_rules.specs.rules.Calls.{Nexts}
-use Rattle.iscsi_outbox_law.proofs.calls.Called.{keeps, keeps_all}
+use Rattle.iscsi_outbox.proofs.CalledLemmas.{follows_nexts}
 use Rattle.iscsi_outbox.proofs.outbox.Outbox.next_response.Goals as goal
 
 pub hand_out_response-requires-clause-open : goal.hand_out_response-requires-clause-open
@@ -35,7 +34,4 @@ returns-clause-limits c =
     ap (λ (s : State). s.limits) (c.hand_out_response.ensures.state g.item g.first) ∙ out_stays c.args.conn (Waited g.item) c.args.self.now
 
 pub returns-clause-rules : goal.returns-clause-rules
-returns-clause-rules c = λ cid. keeps _ (Nexts cid)
-
-pub returns-clause-promises : goal.returns-clause-promises
-returns-clause-promises c = λ cid. keeps_all _ (Nexts cid)
+returns-clause-rules c = λ cid at. follows_nexts _ cid _ _ (sym (returns-clause-answer c cid at)) (returns-clause-state c cid at)
