@@ -355,6 +355,36 @@ fn an_answer_waits_until_what_is_heard_says_that_others_arrived() {
     assert_eq!(goes(&mut session, 2).cookie(), Some(8));
 }
 
+/// An abort on connection 2 of a command that has completed on 1: what completed goes first, and arrives.
+fn waits_for_what_completed(function: Request, response: u8) {
+    let mut session = small_of_two();
+    arrives(&mut session, 1, command(1, 0xa1), 7);
+    let data = told(|tell| session.put_data(1, &own(DATA_IN, 0x80, Request::NO_TAG), tell));
+    assert_eq!(data, (Ok(()), vec![Ready { cid: 1 }]));
+    assert_eq!(told(|tell| session.complete(1, 0, tell)), (Ok(()), vec![]));
+    assert_eq!(arrives(&mut session, 2, function, 8), []);
+    for (kind, forgotten) in [(PduKind::Own, vec![]), (PduKind::Reply, vec![Forget { cookie: 7 }])] {
+        assert_eq!(none_goes(&mut session, 2), Refusal::Nothing);
+        assert_eq!(goes(&mut session, 1).kind(), kind);
+        assert_eq!(told(|tell| session.written(1, tell)), (Ok(()), forgotten));
+    }
+    assert_eq!(none_goes(&mut session, 2), Refusal::Nothing);
+    let acknowledging = Request::new(Opcode::DataOut).with_transfer_tag(Request::NO_TAG).with_exp_stat_sn(2);
+    assert_eq!(told(|tell| session.heard(1, &acknowledging, tell)), (Ok(()), vec![Ready { cid: 2 }]));
+    let answer = goes(&mut session, 2);
+    assert_eq!((answer.cookie(), answer[2]), (Some(8), response));
+}
+
+#[test]
+fn an_abort_of_several_commands_waits_for_what_completed() {
+    waits_for_what_completed(function(Function::AbortTaskSet, 2, 0xb1), 0);
+}
+
+#[test]
+fn an_abort_that_finds_no_task_waits_for_what_completed() {
+    waits_for_what_completed(abort(2, 0xb1, 0xa1, 1), 1);
+}
+
 /// A session in which a Data-In of an aborted command is under way on connection 1, so that the answer on 2 waits.
 fn with_data_under_way(acknowledged: bool) -> Session {
     let mut session = joined(Options::new().acknowledged(acknowledged), &[1, 2]);
