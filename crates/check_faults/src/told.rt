@@ -99,6 +99,7 @@ impl Told {
             LoopFault::Exhausted => self.say("exhausted"),
             LoopFault::NoMemory => Err(Halt::NoMemory),
             LoopFault::NoThread => Err(Halt::NoThread),
+            LoopFault::Unposted => self.say("unposted"),
         }
     }
 

@@ -143,6 +143,7 @@ pub stopped_for : (s : Settings) (r : Recorded) (fault : LoopFault) (e : ReplayF
 stopped_for s r loop.BadOptions e is fills = absurd is
 stopped_for s r loop.NoMemory e is fills = subst (ComesOfThreads s r) (sym is) tt
 stopped_for s r loop.NoThread e is fills = subst (ComesOfThreads s r) (sym is) tt
+stopped_for s r loop.Unposted e is fills = subst (ComesOfThreads s r) (sym is) tt
 stopped_for s r loop.Exhausted e is fills = subst (ComesOfThreads s r) (sym is) (fills refl)
 
 can_stop : (s : Settings) (r : Recorded) (e : ReplayFault) → ComesOfThreads s r e → CanStopThreads s r e

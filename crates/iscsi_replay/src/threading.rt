@@ -43,7 +43,7 @@ fn fault_of(fault: LoopFault) -> ReplayFault
         LoopFault::BadOptions => unreachable!(),
         LoopFault::NoMemory => ReplayFault::NoMemory,
         LoopFault::Exhausted => ReplayFault::Exhausted,
-        LoopFault::NoThread => ReplayFault::NoThread,
+        LoopFault::NoThread | LoopFault::Unposted => ReplayFault::NoThread,
     }
 }
 
@@ -156,7 +156,7 @@ fn run_threads<T: Threads + Wait + Sync>(
 /// 7143 section 4.2.2.1), and isn't posted again.
 ///
 /// `BadSettings` stands before all others, and then come the refusals of reading. Then there are `NoThread`, where a
-/// thread can't be made, and `Exhausted`, where the arrivals and the answers are more than 2,097,152 events. After
+/// thread can't be made, or ended before its list was posted, which none does, and `Exhausted`, where the arrivals and the answers are more than 2,097,152 events. After
 /// `Write`, and after `NoMemory` once the input was read, a front of the report is written, and after the others
 /// nothing.
 pub fn replay_threads<T: Threads + Wait + Sync, R: Source, W: Sink>(

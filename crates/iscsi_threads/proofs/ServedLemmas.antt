@@ -8,6 +8,7 @@ use Rattle.iscsi_threads.specs.declared.fault.LoopFault.{LoopFault}
 use Rattle.iscsi_threads.specs.declared.fault.LoopFault.TheVariants.{BadOptions, NoMemory, Exhausted}
 use Rattle.iscsi_threads.specs.declared.halt.Halt.{Halt}
 use Rattle.iscsi_threads.specs.declared.halt.Halt.TheVariants.{Memory, Thread}
+use Rattle.iscsi_threads.specs.declared.halt.ThreadLost.TheVariants.{Refused, Stopped}
 use Rattle.iscsi_threads.specs.private.Halts.{fault_named}
 use mathlib.Core.List.{IsPrefix}
 use Rattle.iscsi_threads.specs.declared.port.Port.{Port}
@@ -47,11 +48,13 @@ open_not_full {A} true r fault bad good is full = (let none : fault ≡ NoMemory
 -- nor is what halts the threads, and it is no bad option
 pub halt_not_full : {X : Type 0} (h : Halt) → fault_named h ≡ Exhausted → X
 halt_not_full (Memory e) full = absurd cc
-halt_not_full (Thread t) full = absurd cc
+halt_not_full (Thread Refused) full = absurd cc
+halt_not_full (Thread Stopped) full = absurd cc
 
 pub halt_not_bad : {X : Type 0} (h : Halt) → fault_named h ≡ BadOptions → X
 halt_not_bad (Memory e) bad = absurd cc
-halt_not_bad (Thread t) bad = absurd cc
+halt_not_bad (Thread Refused) bad = absurd cc
+halt_not_bad (Thread Stopped) bad = absurd cc
 
 -- what came back quietly ran to its end
 pub ran_back : (o : Setting) (lists : List (Vec (List ℕ) Global)) (l l' : Loop) (ports ports' : List Port) (units units' : List UnitPort) (end : End)

@@ -17,4 +17,7 @@ pub enum LoopFault {
     /// No thread could be made.
     #[error("no thread could be made")]
     NoThread,
+    /// A thread ended before it had posted its list, though none was told to stop. No thread does that.
+    #[error("a thread ended before its list was posted")]
+    Unposted,
 }

@@ -30,7 +30,8 @@ pub(crate) fn fault_of(halt: Halt) -> LoopFault
 {
     match halt {
         Halt::Memory(_) => LoopFault::NoMemory,
-        Halt::Thread(_) => LoopFault::NoThread,
+        Halt::Thread(ThreadLost::Refused) => LoopFault::NoThread,
+        Halt::Thread(ThreadLost::Stopped) => LoopFault::Unposted,
     }
 }
 

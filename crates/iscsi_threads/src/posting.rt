@@ -1,6 +1,6 @@
 //! The threads of the connections.
 
-ghost use Rattle.std.specs.Prelude.{◌≡◌, ◌≤◌, ◌++◌, length, OnOk, vec_len, vec_capacity};
+ghost use Rattle.std.specs.Prelude.{◌≡◌, ◌≤◌, ◌++◌, length, IfErr, OnOk, vec_len, vec_capacity};
 ghost use Rattle.iscsi_threads.specs.rules.Ports.{posted, port_ring};
 ghost use Rattle.iscsi_threads.specs.private.Posting.{HasPosted};
 ghost use Rattle.iscsi_threads.specs.private.Promises.{AllPosts, AllPostedOn};
@@ -43,8 +43,9 @@ pub(crate) fn start_posts<'s, E, R: Wait + Sync>(
 ) -> Result<(), ThreadLost>
     requires lens { length lists.now ≡ vec_len ports }
     requires room { (handles.old.items ≡ []) × (vec_len ports ≤ vec_capacity handles.old) }
-    ensures { OnOk result ((vec_len handles.new ≡ vec_len ports)
+    ensures posts { OnOk result ((vec_len handles.new ≡ vec_len ports)
         × AllPosts handles.new.items ports.items lists.now (vec_len ports)) }
+    ensures refused { IfErr result (λ lost. lost ≡ ThreadLost.Refused) }
 {
     let mut i = 0;
     for port in ports {

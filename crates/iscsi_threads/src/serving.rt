@@ -33,8 +33,9 @@ use std::thread::{PromisedHandle, Scope, Threads};
 /// header was taken, and no command is live; then all threads have ended.
 ///
 /// `BadOptions` where an option is outside its limits, a CID stands twice, or there isn't one list for each
-/// connection; then `NoMemory`, `NoThread` where no thread can be made, and `Exhausted` where the lists and the answers
-/// to their commands gave as many events as the options allow. Then, too, all threads have ended.
+/// connection; then `NoMemory`, `NoThread` where a thread can't be made, `Unposted` where one ended before its list was
+/// posted, which none does, and `Exhausted` where the lists and the answers to their commands gave as many events as
+/// the options allow. Then, too, all threads have ended.
 pub fn serve<R: Threads + Wait + Sync, W: UnitWork + Sync>(
     rt: &R,
     alloc: Global,
@@ -286,6 +287,8 @@ fn run_loop<'s, R: Threads + Wait>(
     ensures same { SameLoop core.old core.new }
     ensures ports { IfOk result (λ r. CameBack posts.entry.items (vec_len posts.entry) r.0.items r.1) }
     ensures end { IfOk result (λ r. IsEnd r.1 core.new r.0.items) }
+    // A thread that can't be made isn't told here: all were made.
+    ensures made { IfErr result (λ halt. halt ≢ Halt.Thread ThreadLost.Refused) }
 {
     let mut out = Vec::new(core.alloc);
     let are_posted = turn_while_posting(rt, core, &mut out, shared)?;

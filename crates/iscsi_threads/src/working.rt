@@ -1,6 +1,6 @@
 //! The workers of the units.
 
-ghost use Rattle.std.specs.Prelude.{◌≡◌, ◌≤◌, ◌<◌, ◌++◌, ◌∷◌, [], ℕ, IsTrue, OnOk, length, vec_len, vec_capacity, slice_index_or, false};
+ghost use Rattle.std.specs.Prelude.{◌≡◌, ◌≤◌, ◌<◌, ◌++◌, ◌∷◌, [], ℕ, IfErr, IsTrue, OnOk, length, vec_len, vec_capacity, slice_index_or, false};
 ghost use Rattle.iscsi_threads.specs.rules.Ports.{taken, answered, unit_rings};
 ghost use Rattle.iscsi_threads.specs.rules.Works.{InTurn, AllAnswered};
 ghost use Rattle.iscsi_threads.specs.private.Promises.{AllWorks, AllWorkedOn};
@@ -48,8 +48,9 @@ pub(crate) fn start_works<'s, E, R: Wait + Sync, W: UnitWork + Sync>(
     requires few { vec_len ports ≤ 256 }
     requires fresh { (i : ℕ) (d : _) → i < vec_len ports → AllAnswered (slice_index_or ports.items i d) }
     requires room { (handles.old.items ≡ []) × (vec_len ports ≤ vec_capacity handles.old) }
-    ensures { OnOk result ((vec_len handles.new ≡ vec_len ports)
+    ensures works { OnOk result ((vec_len handles.new ≡ vec_len ports)
         × AllWorks handles.new.items ports.items (vec_len ports)) }
+    ensures refused { IfErr result (λ lost. lost ≡ ThreadLost.Refused) }
 {
     let mut unit: u16 = 0;
     for port in ports {

@@ -89,6 +89,7 @@ abbrev pub IsFaultOf : LoopFault → ReplayFault → Type 0
 IsFaultOf loop.BadOptions e = ⊥
 IsFaultOf loop.NoMemory e = e ≡ fault.NoMemory
 IsFaultOf loop.NoThread e = e ≡ fault.NoThread
+IsFaultOf loop.Unposted e = e ≡ fault.NoThread
 IsFaultOf loop.Exhausted e = e ≡ fault.Exhausted
 
 -- what threads may stop for

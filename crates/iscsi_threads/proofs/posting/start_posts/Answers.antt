@@ -35,8 +35,8 @@ loop-port-preserved g c =
           k lo h p l;
     }
 
-pub returns : goal.returns
-returns g c =
+pub returns-clause-posts : goal.returns-clause-posts
+returns-clause-posts g c =
     let v = c.loop-port.invariant in
     let last : c.loop-port.i ≡ vec_len c.args.ports = omega (arith, c.in-None.ensures.steps.0, v.left) in
     (v.count ∙ last, rw (← last) v.started)

@@ -16,7 +16,7 @@ start_works-requires-clause-fresh g c = λ lifetimes inside i d lt.
 pub run_loop-requires-clause-rings : goal.run_loop-requires-clause-rings
 run_loop-requires-clause-rings g c = λ back whole len joined.
     let hs = c.start_posts.new.handles in let ports = c.args.ports.items in
-    let posts : (vec_len hs ≡ vec_len c.args.ports) × AllPosts hs.items ports c.args.lists.now (vec_len c.args.ports) = c.in_ok-start_posts.ensures in
+    let posts : (vec_len hs ≡ vec_len c.args.ports) × AllPosts hs.items ports c.args.lists.now (vec_len c.args.ports) = c.in_ok-start_posts.ensures.posts in
     let many : vec_len c.args.ports ≡ length ports = search rules in
     let started : vec_len hs ≡ length hs.items = search rules in
     let b : PostsBack ports back c.args.lists.now whole = posts_back hs.items ports back c.args.lists.now whole (omega (arith, posts.0, many, started)) (omega (arith, len, posts.0, many)) (omega (arith, c.requires.1, many)) (rw many at posts.1) (rw (posts.0, many) at joined) in
@@ -29,7 +29,7 @@ returns g c =
     let lists = c.args.lists.now in
     let was = c.requires.0 in
     let whole = is_quiet c.in_ok-ports.end in
-    let posts : (vec_len hs ≡ vec_len c.args.ports) × AllPosts hs.items ports lists (vec_len c.args.ports) = c.in_ok-start_posts.ensures in
+    let posts : (vec_len hs ≡ vec_len c.args.ports) × AllPosts hs.items ports lists (vec_len c.args.ports) = c.in_ok-start_posts.ensures.posts in
     let many : vec_len c.args.ports ≡ length ports = search rules in
     let started : vec_len hs ≡ length hs.items = search rules in
     let came = c.in_ok-ports.ensures.ports in
@@ -38,7 +38,7 @@ returns g c =
     let listed : length lists ≡ length ports = omega (arith, c.requires.1, many) in
     let b : PostsBack ports back lists whole = posts_back hs.items ports back lists whole (omega (arith, posts.0, many, started)) counts listed (rw many at posts.1) (rw (posts.0, many) at came.kept) in
     let l : ListsPosted lists ends whole = lists_posted ports back ends lists _ whole listed counts was.posted_are came.posted_are b in
-    let works : (vec_len ws ≡ vec_len c.args.units) × AllWorks ws.items units (vec_len c.args.units) = c.in_ok-start_works.ensures in
+    let works : (vec_len ws ≡ vec_len c.args.units) × AllWorks ws.items units (vec_len c.args.units) = c.in_ok-start_works.ensures.works in
     let joined' = c.join_works-units.ensures in
     let many' : vec_len c.args.units ≡ length units = search rules in
     let started' : vec_len ws ≡ length ws.items = search rules in
