@@ -78,6 +78,32 @@ fn opens_within_the_limits(rt: HostRuntime) -> Result<(), Fail> {
     Ok(())
 }
 
+// No clause says that memory is there: a session that opened at some sizes alone would be proved.
+#[test]
+fn opens_at_each_size(rt: HostRuntime) -> Result<(), Fail> {
+    let alloc = rt.alloc();
+    for size in 1..1025u32 {
+        let mut sized = options(alloc, &[(1, 1)])?;
+        sized.window = size;
+        sized.depth = 1025 - size;
+        let session = Session::open(alloc, sized)?;
+        assert_eq!(rt; session.live_len(), 0);
+    }
+    for units in 1..257u32 {
+        let mut sized = options(alloc, &[(1, 1)])?;
+        sized.units = units;
+        let session = Session::open(alloc, sized)?;
+        assert_eq!(rt; session.live_len(), 0);
+    }
+    let mut conns = Vec::new(alloc);
+    for cid in 0..64u16 {
+        conns.push((cid, 1))?;
+        let session = Session::open(alloc, options(alloc, &conns)?)?;
+        assert_eq!(rt; session.live_len(), 0);
+    }
+    Ok(())
+}
+
 #[test]
 fn refuses_options_outside_the_limits(rt: HostRuntime) -> Result<(), Fail> {
     let alloc = rt.alloc();
