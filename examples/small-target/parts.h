@@ -73,7 +73,7 @@ pthread_t begin_thread(void *(*body)(void *), void *argument);
 /* A port of 127.0.0.1, 0 for any that is free; and the next connection that comes there. */
 int listen_at(uint16_t port);
 int accept_next(int listener);
-/* These say whether all was sent, or came. A socket that takes nothing for PATIENCE isn't sent to any more. */
+/* These say whether all was sent, or came. A socket that doesn't take all within PATIENCE isn't sent to any more. */
 bool send_bytes(int to, const uint8_t *bytes, size_t length);
 bool receive(int from, uint8_t *bytes, size_t length);
 

@@ -1,8 +1,8 @@
 /* A small iSCSI target over the library, to be read beside docs/USING.md: what it does for its session. It serves one, with up to eight
    connections, and ends with it. It asks nobody who he is, and so it listens on 127.0.0.1 alone.
 
-   A connection has a thread that reads and one that writes, a command that was started has one, and so has the clock. The session has a lock, which each of them
-   takes for a call and for what that tells; none holds it while it reads, writes or works on the disk. */
+   A connection has a thread that reads and one that writes, a command that was started has one, and so has the clock. The session has a
+   lock, which each of them takes for a call and for what that tells; none holds it while it reads, writes or works on the disk. */
 #define _POSIX_C_SOURCE 200809L
 #include <stdio.h>
 #include <stdlib.h>

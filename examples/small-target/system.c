@@ -51,13 +51,7 @@ int accept_next(int listener) {
 }
 
 bool send_bytes(int to, const uint8_t *bytes, size_t length) {
-    while (length) {
-        ssize_t sent = send(to, bytes, length, MSG_NOSIGNAL);
-        if (sent <= 0)
-            return false;
-        bytes += sent, length -= (size_t)sent;
-    }
-    return true;
+    return !length || send(to, bytes, length, MSG_NOSIGNAL) == (ssize_t)length; /* fewer where PATIENCE is over */
 }
 
 bool receive(int from, uint8_t *bytes, size_t length) {

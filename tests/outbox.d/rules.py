@@ -3,7 +3,8 @@
 An outbox stands between a session and the connections. Words: a ticket has *left* once an abort, a Logout or the loss of
 its connection took it out of its task set; it is *running* if it left, was started, and its unit wasn't reported stopped.
 An answer to an abort or Logout has a *scope*: the tickets that left by what it is about, or before. Its initiator holds for
-over by it what completed, too (`over`); so one that found nothing is fenced. A PDU is *under way* on a connection from the moment it is handed out until it is known to have arrived (`acknowledged`), or was written.
+over by it what completed, too (`over`); so one that found nothing is fenced. A PDU is *under way* on a connection from the
+moment it is handed out until it is known to have arrived (`acknowledged`), or was written.
 
 `Outbox(options, wrong)` plays without the rule that `wrong` names.
 """
