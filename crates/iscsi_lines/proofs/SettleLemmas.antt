@@ -9,8 +9,8 @@ use Rattle.iscsi_lists.proofs.WithoutLemmas.{append_one, times_same}
 use Rattle.iscsi_lines.specs.declared.item.Owing.{Owing}
 use Rattle.iscsi_lines.specs.declared.item.Item.{Item}
 use Rattle.iscsi_lines.specs.declared.item.Item.TheVariants.{Command}
-use Rattle.iscsi_lines.specs.Lines.{BLANK, owes, items_of}
-use Rattle.iscsi_lines.specs.Settling.{AllAre, may_stand, is_ahead, is_none, comes_ahead, settles, IsLine, items_at, slots_at, ComesNext, IsSettling}
+use Rattle.iscsi_lines.specs.Lines.{owes, items_of}
+use Rattle.iscsi_lines.specs.Settling.{AllAre, may_stand, is_ahead, is_none, settles, IsLine, items_at, slots_at, ComesNext, IsSettling}
 use Rattle.iscsi_lines.proofs.ItemLemmas.{items_append, all_append}
 use Rattle.iscsi_lines.proofs.MoveLemmas.{moved_onto, moved_left, moved_others}
 
@@ -26,19 +26,7 @@ begun s (x ∷ xs) e = let same : x ≡ s = cc in record { rest = xs; at = ap (�
 pub items_by : (s t : Listed Item) (k : ℕ) (xs : List ℕ) → t.values ≡ s.values → slots_at t k ≡ xs → items_at t k ≡ items_of s.values xs
 items_by s t k xs v e = ap (λ w. items_of w (slots_at t k)) v ∙ ap (items_of s.values) e
 
--- ---- the first item behind
-
-pub none_settles : (s : Listed Item) (conn ahead behind : ℕ) → slots_at s behind ≡ [] → settles conn (items_at s ahead) (items_at s behind)
-none_settles s conn ahead behind none = subst (λ r. settles conn (items_at s ahead) (items_of s.values r)) (sym none) tt
-
-pub first_settles : (s : Listed Item) (conn ahead behind slot : ℕ) (x : Item) → first_of (slots_at s behind) ≡ Some slot → get_or s.values slot BLANK ≡ x → comes_ahead conn (items_at s ahead) x ≡ false
-    → settles conn (items_at s ahead) (items_at s behind)
-first_settles s conn ahead behind slot x first item stays =
-    let b = begun slot (slots_at s behind) first in
-    subst (λ r. settles conn (items_at s ahead) (items_of s.values r)) (sym b.at) (ap (comes_ahead conn (items_at s ahead)) item ∙ stays)
-
-pub none_items : (s : Listed Item) (k : ℕ) → slots_at s k ≡ [] → is_none (items_at s k) ≡ true
-none_items s k none = ap (λ r. is_none (items_of s.values r)) none
+-- ---- whether there are items
 
 some_items : (values : List Item) (xs : List ℕ) → (xs ≡ [] → ⊥) → is_none (items_of values xs) ≡ false
 some_items values [] some = absurd (some refl)
