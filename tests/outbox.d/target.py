@@ -33,7 +33,8 @@ class Trial:
         # Requests that are to be answered, with their connection; what an abort or Logout is about, and once it was carried out
         # what left by then and what completed by then of that; and the functions of several tasks.
         self.asked, self.scopes, self.closes, self.of_set = {}, {}, {}, set()
-        self.over = False
+        # The session is over, and the Logout that closed it.
+        self.over, self.last = False, None
         for cid in self.conns:
             if cid == 1 or chance.random() < 0.9:
                 self.join(cid)
@@ -152,7 +153,7 @@ class Trial:
             elif name == "close":
                 closing.append(self.conns[numbers[0]])
             elif name == "over":
-                closing, self.over = list(self.conns.values()), True
+                closing, self.over, self.last = list(self.conns.values()), True, request
         self.end_item(request, closing)
         for command in enabled:
             command.enabled = command.touches = command.live
@@ -168,6 +169,7 @@ class Trial:
         for conn in closing:
             if not conn.closed:
                 self.closes.setdefault(request, set()).add(conn.cid)
+                conn.cut = self.asked.get(request) != conn.cid
             conn.closed = True
 
     # ---- units
@@ -250,12 +252,13 @@ class Trial:
         return scope.left | scope.completed if covers_completed else scope.left
 
     def see_way(self, conn, pdu, scope):
-        """Nothing of what is over by a PDU is under way on another connection, but on one that it closes."""
-        closes = self.closes.get(pdu.tag, ()) if pdu.opcode == LOGOUT_RESPONSE else ()
+        """Nothing of what is over by a PDU is under way on another connection. A Logout waits for none: what lies on a connection that
+        is closed isn't read."""
         for other in self.open_conns():
-            if other is not conn and not other.shut and other.cid not in closes:
+            if other is not conn and not other.shut and not (other.closed and pdu.opcode == LOGOUT_RESPONSE):
                 way = [*other.handed, *(other.written if self.reader.acknowledged else ())]
-                promise(not any(one.is_of_command and one.tag in scope for one in way), "silent after: nothing is under way elsewhere")
+                over = [one for one in way if one.is_of_command and one.tag in scope and not other.gave_up(self.commands[one.tag])]
+                promise(not over, "silent after: nothing is under way elsewhere")
 
     def check_once(self, pdu):
         if pdu.tag != NO_TAG:
@@ -286,7 +289,8 @@ class Trial:
         if pdu.is_ping:
             conn.pings.append(pdu.transfer_tag)
         if pdu.opcode == LOGOUT_RESPONSE and pdu.bytes[2] == 0:
-            for cid in self.closes.get(pdu.tag, set()) - {conn.cid}:
+            closes = self.conns if pdu.tag == self.last else self.closes.get(pdu.tag, ())
+            for cid in set(closes) - {conn.cid}:
                 self.shut(self.conns[cid])
 
     def shut(self, conn):

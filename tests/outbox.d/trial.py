@@ -73,7 +73,7 @@ class Connection:
 
     def __init__(self, cid, stat_sn):
         self.cid, self.next_stat_sn, self.said = cid, stat_sn, stat_sn
-        self.joined = self.lost = self.closed = self.over = self.shut = False
+        self.joined = self.lost = self.closed = self.cut = self.over = self.shut = False
         self.handed, self.written = deque(), deque()
         self.shown = None
         self.pings = deque()
@@ -81,6 +81,11 @@ class Connection:
     @property
     def is_open(self):
         return self.joined and not self.lost
+
+    def gave_up(self, command):
+        """The initiator closes the connection by a Logout on another one, and the command completed: its response was dropped with
+        all that waited there, so that the fence knows no more of it; no new command comes there."""
+        return self.cut and command.completed
 
 
 class Command:
@@ -123,15 +128,15 @@ class Reader:
             promise(later(pdu.exp, conn.shown[0]) and later(pdu.max, conn.shown[1]), "numbers never back")
         conn.shown = pdu.exp, pdu.max
         if pdu.is_of_command:
-            self.reads_of_command(pdu, commands[pdu.tag])
+            self.reads_of_command(conn, pdu, commands[pdu.tag])
         if pdu.takes:
             self.reads_fenced(conn, pdu)
         for tag in scope:
             self.over.setdefault(tag, pdu.handed)
 
-    def reads_of_command(self, pdu, command):
+    def reads_of_command(self, conn, pdu, command):
         promise(command.cid == pdu.conn, "a PDU of a command comes on its connection")
-        promise(not self.is_behind(pdu), "silent after")
+        promise(not self.is_behind(pdu) or conn.gave_up(command), "silent after")
         promise(not command.responded, "nothing of a command behind its response")
         if pdu.opcode == SCSI_RESPONSE:
             command.responded = True

@@ -248,7 +248,7 @@ class World:
     def do_read(self, conn):
         entry, shown = self.box.handed[conn][self.read[conn]]
         self.read[conn] += 1
-        if self.options.acknowledged and conn not in self.shut:
+        if self.options.acknowledged and conn not in self.shut and not self.is_given_up(conn, entry):
             promise(entry.ticket not in self.silent, "silent after, as the initiator sees it")
         self.silent |= entry.over
         self.shut |= entry.closes
@@ -296,8 +296,14 @@ class World:
         for other in self.box.open_conns():
             if other != conn and other not in entry.closes:
                 unread = self.box.handed[other][self.read[other]:]
-                way = unread if self.options.acknowledged else self.box.unwritten(other)
-                promise(not any(pdu.entry.ticket in entry.over for pdu in way), "silent after: nothing is under way elsewhere")
+                way = [pdu.entry for pdu in (unread if self.options.acknowledged else self.box.unwritten(other))]
+                over = [one for one in way if one.ticket in entry.over and not self.is_given_up(other, one)]
+                promise(not over, "silent after: nothing is under way elsewhere")
+
+    def is_given_up(self, conn, entry):
+        """It is of a ticket that completed, on a connection that the initiator closes by a Logout on another one. Its response
+        was dropped with all that waited there, so that the fence knows no more of it; no new ticket comes there."""
+        return conn in self.box.cut and self.state.get(entry.ticket) == "done"
 
     def see_fence(self, conn, entry):
         for other in self.options.conns:
