@@ -165,6 +165,12 @@ class Session:
         if 0 <= offset < self.offset(function.request.cmd_sn):
             self.arrivals[offset] = min(self.arrivals.get(offset, NEVER), self.moment(function))
 
+    def void_unanswered(self):
+        """An ABORT TASK whose answer was dropped with its connection may have voided a number, too."""
+        for function in self.functions.values():
+            if function.request.function == ABORT_TASK and function.request.immediate:
+                self.void(function)
+
     def covered(self, function):
         """The commands that a complete function certainly covers: by its tag, or by lower numbers in its unit."""
         request = function.request
@@ -241,7 +247,8 @@ def matched(session, works):
 
 
 def in_order(session):
-    """A command is started once it came, and a numbered one once all lower numbers came."""
+    """A command is started once it came, and a numbered one once all lower numbers came, or may have been voided."""
+    session.void_unanswered()
     ready, complete = -NEVER, {}
     for offset in range(max(session.arrivals, default=-1) + 1):
         ready = max(ready, session.arrivals.get(offset, NEVER))

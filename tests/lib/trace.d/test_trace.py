@@ -186,6 +186,18 @@ class Checks(unittest.TestCase):
         run.answer(2, 0x11)
         self.found(run, r"was started while a lower CmdSN was missing")
 
+    def test_a_number_that_an_unanswered_abort_may_have_voided(self):
+        for refsn in (0, 7):
+            run = Run()
+            run.command(2, 1, 0x11)
+            run.function(1, 2, 0x20, ABORT_TASK, ref=0x10, refsn=refsn)
+            run.work(1, 0x11, 1)
+            run.answer(2, 0x11)
+            if refsn == 0:
+                self.assertEqual([], run.faults())
+            else:
+                self.found(run, r"was started while a lower CmdSN was missing")
+
     def test_a_missing_number_that_no_abort_voids(self):
         for response in (COMPLETE, NO_TASK):
             run = Run()
