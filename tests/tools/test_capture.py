@@ -24,7 +24,7 @@ from lib.pdu import HEADER_SIZE, NO_TAG  # noqa: E402
 from lib.repairs import repair  # noqa: E402
 from lib.sessions import find  # noqa: E402
 from lib.streams import Chunk, Splitter, Stream, is_plausible  # noqa: E402
-from lib.settling import in_taken_order, units_of  # noqa: E402
+from lib.settling import in_taken_order, record, units_of  # noqa: E402
 
 CAPTURES = os.path.join(TOP, "tests", "tools", "captures")
 HAS_TSHARK = shutil.which("tshark") is not None
@@ -398,6 +398,87 @@ class Finding(unittest.TestCase):
         (session,), _ = find(wire.segments)
         self.assertEqual([(True, 1), (False, 1), (True, 2), (False, 2)],
                          [(bool(item.request), item.tag) for item in in_taken_order(session.items)])
+
+
+def function(number, tag, cmd_sn, referenced=NO_TAG):
+    """An immediate task management request, of unit 0."""
+    return pdu(0x42, 0x80 | number, tag, (referenced, cmd_sn))
+
+
+def logout(tag, cmd_sn, reason=0, cid=1):
+    return pdu(0x46, 0x80 | reason, tag, (cid << 16, cmd_sn))
+
+
+class Holes(unittest.TestCase):
+    """Replies are lacking, and no request is; behind them something takes out what isn't answered by then."""
+
+    READS = range(1, 9)
+
+    def made(self, lost, asked, answered, behind=(), second=False):
+        """The session and the recording of READs whose answers are lacking, but the last one's, of what is asked then, and what is answered."""
+        wire = Wire()
+        wire.log_in(0)
+        for tag in self.READS:
+            wire.put(0, True, command(tag, tag))
+        for tag in self.READS:
+            (wire.lose if tag in lost else wire.put)(0, False, response(tag, tag, 9, 40))
+        if second:
+            wire.log_in(1, cid=2, asked=7)
+        for request in behind:
+            wire.put(0, True, request)
+        wire.put(second, True, asked)
+        wire.put(second, False, answered)
+        (session,), _ = find(wire.segments)
+        repair(session)
+        return session, record(session)
+
+    def taken_out(self, recording):
+        return sum(effect.kind == "leave" for event in recording.events if event.is_arrival for effect in event.effects)
+
+    def look(self, *words, **more):
+        """With a hole and without one the same commands are completed, none is taken out, and no request is made up."""
+        for lost in ((), range(2, 8), range(1, 8), (4,)):
+            session, recording = self.made(lost, *words, **more)
+            self.assertEqual([], [item.tag for item in session.items if item.made_up and item.request], lost)
+            self.assertEqual(sorted(lost), sorted(item.tag for item in session.items if item.made_up), lost)
+            self.assertEqual((len(self.READS), 0, 0), (recording.completions, recording.without_ticket, self.taken_out(recording)), lost)
+
+    def test_a_logout(self):
+        self.look(logout(20, 9), pdu(0x26, 0x80, 20, (0, 9, 9, 40)))
+
+    def test_an_abort_of_a_task(self):
+        self.look(function(1, 20, 9, referenced=4), pdu(0x22, 0x80, 20, (0, 9, 9, 40)))
+
+    def test_an_abort_of_a_task_and_a_logout(self):
+        self.look(logout(21, 9), pdu(0x26, 0x80, 21, (0, 10, 9, 40)), behind=[function(1, 20, 9, referenced=4)])
+
+    def test_functions_of_a_unit(self):
+        for number in (2, 4, 5):
+            with self.subTest(number):
+                self.look(function(number, 20, 9), pdu(0x22, 0x80, 20, (0, 9, 9, 40)))
+
+    def test_a_second_connection(self):
+        """It logs in and out; and then it has a function that would take out the commands of the first one."""
+        self.look(logout(20, 9, reason=1, cid=2), pdu(0x26, 0x80, 20, (0, 1, 9, 40)), second=True)
+        self.look(function(5, 20, 9), pdu(0x22, 0x80, 20, (0, 1, 9, 40)), second=True)
+
+    def test_an_answer_that_is_lacking_on_either_side_of_an_abort(self):
+        """Of a READ and its abort one answer is lacking: the abort's, for the READ was taken out. Where both are, it was answered before."""
+        for first, tags in ((8, [20]), (7, [8, 20])):
+            wire = Wire()
+            wire.log_in(0)
+            wire.put(0, True, command(7, 1) + command(8, 2))
+            wire.put(0, False, response(7, 1, 3, 34))
+            wire.put(0, True, function(1, 20, 3, referenced=8))
+            wire.lose(0, False, bytes(48))
+            wire.put(0, True, command(9, 3))
+            wire.put(0, False, response(9, 10 - first + 1, 4, 34))
+            (session,), _ = find(wire.segments)
+            repair(session)
+            self.assertEqual(0, sum(bool(item.request) for item in session.items if item.made_up))
+            self.assertEqual(tags, [one.tag for one in session.lost])
+            recording = record(session)
+            self.assertEqual((first == 8, 0), (self.taken_out(recording), recording.without_ticket))
 
 
 def frame_of(segment, addresses):
