@@ -159,6 +159,15 @@ class Streams(unittest.TestCase):
         self.assertEqual([], list(ending.take(segment(103, b"def"))))
         self.assertEqual([(3, b""), (0, b"def")], [(chunk.hole, chunk.payload) for chunk in ending.finish()])
 
+    def test_bytes_at_the_end_that_the_other_side_has_are_a_hole(self):
+        """A FIN counts as one byte, and is none."""
+        for acknowledged, holes in ((103, []), (104, []), (151, [48])):
+            stream = Stream()
+            stream.begin(100)
+            self.assertEqual([0], [chunk.hole for chunk in stream.take(segment(100, b"abc"))])
+            stream.acknowledge(acknowledged)
+            self.assertEqual(holes, [chunk.hole for chunk in stream.finish()])
+
     def test_bytes_that_were_cut_off_are_a_hole(self):
         stream = Stream()
         stream.begin(100)

@@ -197,12 +197,10 @@ class Repair:
         if reply.opcode == REJECT and len(reply.tail) >= 48:
             return bytearray(reply.tail[:48])
         kind = KINDS.get(reply.opcode, NOP_OUT)
-        header = self.header(kind, item.tag, 0)
         if kind == SCSI_COMMAND:
-            header[1] |= SIMPLE
-            header[8:16] = next((other.request.header[8:16] for other in self.items
-                                 if other.request and other.request.opcode == SCSI_COMMAND), bytes(8))
-        elif kind == TASK_MANAGEMENT:
+            return self.command(item.tag, 0)
+        header = self.header(kind, item.tag, 0)
+        if kind == TASK_MANAGEMENT:
             header[1] |= ABORT_TASK
             header[20:24] = self.new_tag().to_bytes(4, "big")
         elif kind == LOGOUT:
@@ -219,11 +217,11 @@ class Repair:
             ahead = near(item.reply.stat_sn, expected) - expected
             if 0 < ahead <= MOST_MISSING:
                 for stat_sn, one in enumerate(self.answered_between(since, place, cid, ahead), expected):
-                    self.make_reply(one, place, cid, stat_sn % MODULUS)
+                    self.make_reply(one, since, place, cid, stat_sn % MODULUS)
             if ahead >= 0:
                 expected, since = item.reply.stat_sn + 1, place
 
-    def make_reply(self, chosen, place, cid, stat_sn):
+    def make_reply(self, chosen, since, place, cid, stat_sn):
         """Makes up what was answered before a reply: a request that has no answer in the capture, or a ping where there is none."""
         item = self.items[place]
         if chosen:
@@ -231,23 +229,55 @@ class Repair:
             if chosen.item.request.opcode == SCSI_COMMAND:
                 self.insert(min(place, chosen.at_most), self.good(item, tag), cid, is_reply=True)
         else:
-            tag = self.new_tag()
-            value = self.take_missing(self.expected_before(place), self.expected[place])
-            header = self.header(NOP_OUT, tag, item.reply.exp_cmd_sn if value is None else value)
-            header[0] |= IMMEDIATE if value is None else 0
-            self.insert(place if value is None else self.before(value, cid, place), header, cid)
+            tag = self.make_asked(since, place, cid)
         self.replies += 1
         self.session.lost.append(Lost(item.frame, item.time, cid, tag, stat_sn))
 
+    def make_asked(self, since, place, cid):
+        """Makes up the request of an answer between two places of which nothing is known, and gives its tag. Where the target had just received
+        a number that is lacking, it is a ping; where it had one before, a command that is completed here; else an immediate ping."""
+        item, tag = self.items[place], self.new_tag()
+        value = self.take_missing(self.expected_before(place), self.expected[place])
+        if value is None and self.make_command(since, place, cid, tag):
+            return tag
+        header = self.header(NOP_OUT, tag, item.reply.exp_cmd_sn if value is None else value)
+        header[0] |= IMMEDIATE if value is None else 0
+        self.insert(place if value is None else self.before(value, cid, place), header, cid)
+        return tag
+
+    def make_command(self, since, place, cid, tag):
+        """Makes up a command with a number that is lacking, and its answer between two places. Whether there is a number with which nothing
+        takes it out before."""
+        for value in self.missing[:bisect_left(self.missing, self.expected[place])]:
+            header, begin = self.command(tag, value), self.before(value, cid, place)
+            made = Item(0, 0.0, cid, Request(bytes(header)))
+            end = next((other for other in range(begin, place) if self.items[other].request and takes_out(self.items[other], made)), place)
+            if end > since:
+                self.missing.remove(value)
+                self.insert(begin, header, cid)
+                self.insert(end, self.good(self.items[place], tag), cid, is_reply=True)
+                return True
+        return False
+
+    def command(self, tag, cmd_sn):
+        """The header of a command, of a unit that the session has one for."""
+        header = self.header(SCSI_COMMAND, tag, cmd_sn)
+        header[1] |= SIMPLE
+        header[8:16] = next((other.request.header[8:16] for other in self.items
+                             if other.request and other.request.opcode == SCSI_COMMAND), bytes(8))
+        return header
+
     def answered_between(self, since, place, cid, count):
         """Takes so many requests that were answered between two places, as those that nothing took out before the last of them, or else ones
-        that may have been answered before something took them out. None for each that there isn't."""
+        that may have been answered before something took them out. None for each that there isn't: it was one of those that are lacking. With
+        fewer of these the answers came later than they were sent, and were of requests that were taken out before."""
         received = self.expected[place]
         candidates = [one for one in self.unanswered
-                      if one.item.cid == cid and since < one.at_most and one.place < place
-                      and self.numbers.get(one.place, received - 1) < received]
-        candidates.sort(key=lambda one: one.taken_out_at is not None and one.taken_out_at < place)
-        chosen = candidates[:count]
+                      if one.item.cid == cid and one.place < place and self.numbers.get(one.place, received - 1) < received]
+        candidates.sort(key=lambda one: (one.at_most <= since, one.taken_out_at is not None and one.taken_out_at < place))
+        chosen = [one for one in candidates if one.at_most > since][:count]
+        rest = max(0, count - len(chosen) - bisect_left(self.missing, received))
+        chosen = candidates[:len(chosen) + rest]
         taken = {id(one) for one in chosen}
         self.unanswered = [one for one in self.unanswered if id(one) not in taken]
         return sorted(chosen, key=lambda one: min(place, one.at_most)) + [None] * (count - len(chosen))

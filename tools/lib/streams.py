@@ -78,7 +78,7 @@ class Stream:
     @property
     def is_acknowledged(self):
         """Whether the other side has the bytes that are lacking."""
-        return self.acknowledged is not None and self.acknowledged > self.next_place
+        return self.acknowledged is not None and self.next_place is not None and self.acknowledged > self.next_place
 
     def in_order(self):
         """What is in order."""
@@ -111,9 +111,12 @@ class Stream:
         yield from self.in_order()
 
     def finish(self):
-        """What still waits as the capture ends."""
+        """What still waits as the capture ends, and a hole where the other side has more bytes than came; a FIN counts as one."""
         while self.late:
             yield from self.behind_hole()
+        if self.is_acknowledged and self.acknowledged > self.next_place + 1:
+            yield Chunk(*self.last, hole=self.acknowledged - self.next_place)
+            self.next_place = self.acknowledged
 
 
 def is_plausible(header, from_initiator):
