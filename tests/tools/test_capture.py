@@ -3,6 +3,7 @@
 import gzip
 import hashlib
 import os
+import random
 import shutil
 import struct
 import subprocess
@@ -218,6 +219,31 @@ class Splitting(unittest.TestCase):
         found = self.take(splitter, command(1, 1) + command(2, 2)[:20], 28, command(3, 3)[1:], command(4, 4), command(5, 5))
         self.assertEqual([1, 4, 5], [one.header[19] for one in found])
 
+    def behind_a_hole(self, content, outstanding=range(1, 9)):
+        """The tags of the PDUs that are found in a segment behind a hole that has a header."""
+        splitter = Splitter(from_initiator=False)
+        splitter.outstanding = set(outstanding)
+        return [one.header[19] for one in self.take(splitter, response(1, 1, 2, 3)[:20], 100, content)]
+
+    def test_a_chain_of_replies_in_a_segment(self):
+        """Two in a row are found wherever they begin, with data between them, and all behind them."""
+        replies = response(5, 1, 9, 40), pdu(0x25, 0x80, 6, (NO_TAG, 0, 9, 40), b"d" * 37), response(6, 2, 9, 40), response(7, 3, 10, 40)
+        for rest in (1, 2, 3, 47, 48, 1000):
+            self.assertEqual([5, 6, 6, 7], self.behind_a_hole(b"d" * rest + b"".join(replies)), rest)
+            self.assertEqual([], self.behind_a_hole(b"d" * rest + replies[0]), rest)
+
+    def test_what_looks_like_replies(self):
+        """Headers whose tags aren't outstanding, that lead to none, or that expect a lower CmdSN than those in front of them; and any bytes."""
+        true = response(5, 1, 9, 40) + response(6, 2, 9, 40)
+        for false in (response(15, 1, 9, 40) + response(16, 2, 9, 40), response(5, 1, 9, 40) + bytes(4) + response(6, 2, 9, 40),
+                      response(5, 1, 9, 40) + response(6, 2, 8, 40), command(5, 1) + command(6, 2)):
+            self.assertEqual([], self.behind_a_hole(b"d" + false + b"d" * 96))
+            self.assertEqual([5, 6], self.behind_a_hole(b"d" + false + b"d" * 96 + true))
+        self.assertEqual([], self.behind_a_hole(b"d" + true, outstanding=()))
+        chance = random.Random(3)
+        for _ in range(50):
+            self.assertEqual([], self.behind_a_hole(chance.randbytes(4000)))
+
     def test_a_header_is_known_by_what_is_kept_free(self):
         for header, from_initiator in ((command(1, 1), True), (response(1, 1, 2, 3), False)):
             self.assertTrue(is_plausible(header, from_initiator))
@@ -225,6 +251,8 @@ class Splitting(unittest.TestCase):
             self.assertFalse(is_plausible(b"\x80" + header[1:], from_initiator))
         self.assertFalse(is_plausible(b"\1\x81\1" + command(1, 1)[3:], True))
         self.assertFalse(is_plausible(bytes(48), True))
+        self.assertTrue(is_plausible(login(1, 0, 1), True))
+        self.assertFalse(is_plausible(b"\x63" + bytes(47), False))
 
 
 class Finding(unittest.TestCase):
@@ -280,7 +308,8 @@ class Finding(unittest.TestCase):
         requests = [item for item in session.items if item.request]
         self.assertEqual([(5, 1, False), (6, 2, True), (7, 3, False)],
                          [(item.tag, item.request.cmd_sn, item.made_up) for item in requests])
-        self.assertEqual("made up: 1 requests and 0 replies that the capture lacks", session.notes[-1])
+        self.assertEqual("made up: 1 requests and 0 replies that the capture lacks, or that couldn't be found behind a hole",
+                         session.notes[-1])
 
     def test_a_lost_request_of_which_nothing_is_known_is_one_without_an_answer(self):
         wire = Wire()
@@ -292,6 +321,19 @@ class Finding(unittest.TestCase):
         repair(session)
         made = [item.request for item in session.items if item.made_up]
         self.assertEqual([(0, NO_TAG, 1)], [(request.opcode, request.tag, request.cmd_sn) for request in made])
+
+    def test_replies_that_stand_in_a_segment_behind_a_hole_are_not_lacking(self):
+        """A hole has the first of three replies and a part of the data of the second; the segment behind it begins in these."""
+        wire = Wire()
+        wire.log_in(0)
+        for tag in (5, 6, 7, 8):
+            wire.put(0, True, command(tag, tag - 4))
+        wire.lose(0, False, response(5, 1, 5, 36) + response(6, 2, 5, 36, data=b"d" * 64)[:80])
+        wire.put(0, False, b"d" * 32 + response(7, 3, 5, 36) + response(8, 4, 5, 36))
+        (session,), _ = find(wire.segments)
+        repair(session)
+        self.assertEqual([7, 8], [item.tag for item in session.items if item.reply and not item.made_up])
+        self.assertEqual([(5, 1), (6, 2)], [(one.tag, one.stat_sn) for one in session.lost])
 
     def test_a_lost_reply_is_made_up_for_a_command_without_an_answer(self):
         wire = Wire()

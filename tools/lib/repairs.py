@@ -358,4 +358,5 @@ def repair(session):
     if session.losses:
         session.notes.append(f"PDUs are lacking behind {len(session.losses)} frame(s): {behind}")
     if found.requests or found.replies:
-        session.notes.append(f"made up: {found.requests} requests and {found.replies} replies that the capture lacks")
+        unfound = ", or that couldn't be found behind a hole" if session.losses else ""
+        session.notes.append(f"made up: {found.requests} requests and {found.replies} replies that the capture lacks{unfound}")
