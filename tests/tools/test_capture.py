@@ -3,6 +3,7 @@
 import gzip
 import hashlib
 import os
+import random
 import shutil
 import struct
 import subprocess
@@ -24,7 +25,7 @@ from lib.pdu import HEADER_SIZE, NO_TAG  # noqa: E402
 from lib.repairs import repair  # noqa: E402
 from lib.sessions import find  # noqa: E402
 from lib.streams import Chunk, Splitter, Stream, is_plausible  # noqa: E402
-from lib.settling import in_taken_order, units_of  # noqa: E402
+from lib.settling import in_taken_order, record, units_of  # noqa: E402
 
 CAPTURES = os.path.join(TOP, "tests", "tools", "captures")
 HAS_TSHARK = shutil.which("tshark") is not None
@@ -159,6 +160,15 @@ class Streams(unittest.TestCase):
         self.assertEqual([], list(ending.take(segment(103, b"def"))))
         self.assertEqual([(3, b""), (0, b"def")], [(chunk.hole, chunk.payload) for chunk in ending.finish()])
 
+    def test_bytes_at_the_end_that_the_other_side_has_are_a_hole(self):
+        """A FIN counts as one byte, and is none."""
+        for acknowledged, holes in ((103, []), (104, []), (151, [48])):
+            stream = Stream()
+            stream.begin(100)
+            self.assertEqual([0], [chunk.hole for chunk in stream.take(segment(100, b"abc"))])
+            stream.acknowledge(acknowledged)
+            self.assertEqual(holes, [chunk.hole for chunk in stream.finish()])
+
     def test_bytes_that_were_cut_off_are_a_hole(self):
         stream = Stream()
         stream.begin(100)
@@ -209,6 +219,31 @@ class Splitting(unittest.TestCase):
         found = self.take(splitter, command(1, 1) + command(2, 2)[:20], 28, command(3, 3)[1:], command(4, 4), command(5, 5))
         self.assertEqual([1, 4, 5], [one.header[19] for one in found])
 
+    def behind_a_hole(self, content, outstanding=range(1, 9)):
+        """The tags of the PDUs that are found in a segment behind a hole that has a header."""
+        splitter = Splitter(from_initiator=False)
+        splitter.outstanding = set(outstanding)
+        return [one.header[19] for one in self.take(splitter, response(1, 1, 2, 3)[:20], 100, content)]
+
+    def test_a_chain_of_replies_in_a_segment(self):
+        """Two in a row are found wherever they begin, with data between them, and all behind them."""
+        replies = response(5, 1, 9, 40), pdu(0x25, 0x80, 6, (NO_TAG, 0, 9, 40), b"d" * 37), response(6, 2, 9, 40), response(7, 3, 10, 40)
+        for rest in (1, 2, 3, 47, 48, 1000):
+            self.assertEqual([5, 6, 6, 7], self.behind_a_hole(b"d" * rest + b"".join(replies)), rest)
+            self.assertEqual([], self.behind_a_hole(b"d" * rest + replies[0]), rest)
+
+    def test_what_looks_like_replies(self):
+        """Headers whose tags aren't outstanding, that lead to none, or that expect a lower CmdSN than those in front of them; and any bytes."""
+        true = response(5, 1, 9, 40) + response(6, 2, 9, 40)
+        for false in (response(15, 1, 9, 40) + response(16, 2, 9, 40), response(5, 1, 9, 40) + bytes(4) + response(6, 2, 9, 40),
+                      response(5, 1, 9, 40) + response(6, 2, 8, 40), command(5, 1) + command(6, 2)):
+            self.assertEqual([], self.behind_a_hole(b"d" + false + b"d" * 96))
+            self.assertEqual([5, 6], self.behind_a_hole(b"d" + false + b"d" * 96 + true))
+        self.assertEqual([], self.behind_a_hole(b"d" + true, outstanding=()))
+        chance = random.Random(3)
+        for _ in range(50):
+            self.assertEqual([], self.behind_a_hole(chance.randbytes(4000)))
+
     def test_a_header_is_known_by_what_is_kept_free(self):
         for header, from_initiator in ((command(1, 1), True), (response(1, 1, 2, 3), False)):
             self.assertTrue(is_plausible(header, from_initiator))
@@ -216,6 +251,8 @@ class Splitting(unittest.TestCase):
             self.assertFalse(is_plausible(b"\x80" + header[1:], from_initiator))
         self.assertFalse(is_plausible(b"\1\x81\1" + command(1, 1)[3:], True))
         self.assertFalse(is_plausible(bytes(48), True))
+        self.assertTrue(is_plausible(login(1, 0, 1), True))
+        self.assertFalse(is_plausible(b"\x63" + bytes(47), False))
 
 
 class Finding(unittest.TestCase):
@@ -271,7 +308,8 @@ class Finding(unittest.TestCase):
         requests = [item for item in session.items if item.request]
         self.assertEqual([(5, 1, False), (6, 2, True), (7, 3, False)],
                          [(item.tag, item.request.cmd_sn, item.made_up) for item in requests])
-        self.assertEqual("made up: 1 requests and 0 replies that the capture lacks", session.notes[-1])
+        self.assertEqual("made up: 1 requests and 0 replies that the capture lacks, or that couldn't be found behind a hole",
+                         session.notes[-1])
 
     def test_a_lost_request_of_which_nothing_is_known_is_one_without_an_answer(self):
         wire = Wire()
@@ -283,6 +321,19 @@ class Finding(unittest.TestCase):
         repair(session)
         made = [item.request for item in session.items if item.made_up]
         self.assertEqual([(0, NO_TAG, 1)], [(request.opcode, request.tag, request.cmd_sn) for request in made])
+
+    def test_replies_that_stand_in_a_segment_behind_a_hole_are_not_lacking(self):
+        """A hole has the first of three replies and a part of the data of the second; the segment behind it begins in these."""
+        wire = Wire()
+        wire.log_in(0)
+        for tag in (5, 6, 7, 8):
+            wire.put(0, True, command(tag, tag - 4))
+        wire.lose(0, False, response(5, 1, 5, 36) + response(6, 2, 5, 36, data=b"d" * 64)[:80])
+        wire.put(0, False, b"d" * 32 + response(7, 3, 5, 36) + response(8, 4, 5, 36))
+        (session,), _ = find(wire.segments)
+        repair(session)
+        self.assertEqual([7, 8], [item.tag for item in session.items if item.reply and not item.made_up])
+        self.assertEqual([(5, 1), (6, 2)], [(one.tag, one.stat_sn) for one in session.lost])
 
     def test_a_lost_reply_is_made_up_for_a_command_without_an_answer(self):
         wire = Wire()
@@ -398,6 +449,87 @@ class Finding(unittest.TestCase):
         (session,), _ = find(wire.segments)
         self.assertEqual([(True, 1), (False, 1), (True, 2), (False, 2)],
                          [(bool(item.request), item.tag) for item in in_taken_order(session.items)])
+
+
+def function(number, tag, cmd_sn, referenced=NO_TAG):
+    """An immediate task management request, of unit 0."""
+    return pdu(0x42, 0x80 | number, tag, (referenced, cmd_sn))
+
+
+def logout(tag, cmd_sn, reason=0, cid=1):
+    return pdu(0x46, 0x80 | reason, tag, (cid << 16, cmd_sn))
+
+
+class Holes(unittest.TestCase):
+    """Replies are lacking, and no request is; behind them something takes out what isn't answered by then."""
+
+    READS = range(1, 9)
+
+    def made(self, lost, asked, answered, behind=(), second=False):
+        """The session and the recording of READs whose answers are lacking, but the last one's, of what is asked then, and what is answered."""
+        wire = Wire()
+        wire.log_in(0)
+        for tag in self.READS:
+            wire.put(0, True, command(tag, tag))
+        for tag in self.READS:
+            (wire.lose if tag in lost else wire.put)(0, False, response(tag, tag, 9, 40))
+        if second:
+            wire.log_in(1, cid=2, asked=7)
+        for request in behind:
+            wire.put(0, True, request)
+        wire.put(second, True, asked)
+        wire.put(second, False, answered)
+        (session,), _ = find(wire.segments)
+        repair(session)
+        return session, record(session)
+
+    def taken_out(self, recording):
+        return sum(effect.kind == "leave" for event in recording.events if event.is_arrival for effect in event.effects)
+
+    def look(self, *words, **more):
+        """With a hole and without one the same commands are completed, none is taken out, and no request is made up."""
+        for lost in ((), range(2, 8), range(1, 8), (4,)):
+            session, recording = self.made(lost, *words, **more)
+            self.assertEqual([], [item.tag for item in session.items if item.made_up and item.request], lost)
+            self.assertEqual(sorted(lost), sorted(item.tag for item in session.items if item.made_up), lost)
+            self.assertEqual((len(self.READS), 0, 0), (recording.completions, recording.without_ticket, self.taken_out(recording)), lost)
+
+    def test_a_logout(self):
+        self.look(logout(20, 9), pdu(0x26, 0x80, 20, (0, 9, 9, 40)))
+
+    def test_an_abort_of_a_task(self):
+        self.look(function(1, 20, 9, referenced=4), pdu(0x22, 0x80, 20, (0, 9, 9, 40)))
+
+    def test_an_abort_of_a_task_and_a_logout(self):
+        self.look(logout(21, 9), pdu(0x26, 0x80, 21, (0, 10, 9, 40)), behind=[function(1, 20, 9, referenced=4)])
+
+    def test_functions_of_a_unit(self):
+        for number in (2, 4, 5):
+            with self.subTest(number):
+                self.look(function(number, 20, 9), pdu(0x22, 0x80, 20, (0, 9, 9, 40)))
+
+    def test_a_second_connection(self):
+        """It logs in and out; and then it has a function that would take out the commands of the first one."""
+        self.look(logout(20, 9, reason=1, cid=2), pdu(0x26, 0x80, 20, (0, 1, 9, 40)), second=True)
+        self.look(function(5, 20, 9), pdu(0x22, 0x80, 20, (0, 1, 9, 40)), second=True)
+
+    def test_an_answer_that_is_lacking_on_either_side_of_an_abort(self):
+        """Of a READ and its abort one answer is lacking: the abort's, for the READ was taken out. Where both are, it was answered before."""
+        for first, tags in ((8, [20]), (7, [8, 20])):
+            wire = Wire()
+            wire.log_in(0)
+            wire.put(0, True, command(7, 1) + command(8, 2))
+            wire.put(0, False, response(7, 1, 3, 34))
+            wire.put(0, True, function(1, 20, 3, referenced=8))
+            wire.lose(0, False, bytes(48))
+            wire.put(0, True, command(9, 3))
+            wire.put(0, False, response(9, 10 - first + 1, 4, 34))
+            (session,), _ = find(wire.segments)
+            repair(session)
+            self.assertEqual(0, sum(bool(item.request) for item in session.items if item.made_up))
+            self.assertEqual(tags, [one.tag for one in session.lost])
+            recording = record(session)
+            self.assertEqual((first == 8, 0), (self.taken_out(recording), recording.without_ticket))
 
 
 def frame_of(segment, addresses):

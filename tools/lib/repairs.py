@@ -13,11 +13,12 @@ from .pdu import ASYNC, DATA_IN, LOGOUT, LOGOUT_RESPONSE, NO_TAG, NOP_IN, NOP_OU
 from .sessions import Item
 
 MODULUS, HALF = 1 << 32, 1 << 31
+ENDLESS = 1 << 62
 MOST_MISSING = 1 << 16
 IMMEDIATE, FINAL, SIMPLE = 0x40, 0x80, 1
 ABORT_TASK, SETS = 1, (2, 4, 5)
 LEVEL_2 = (9, 10, 11, 12)
-CLOSE_CONNECTION = 1
+CLOSE_SESSION, CLOSE_CONNECTION = 0, 1
 MADE_UP_TAG = 0xfffe0000
 KINDS = {SCSI_RESPONSE: SCSI_COMMAND, DATA_IN: SCSI_COMMAND, NOP_IN: NOP_OUT, TASK_MANAGEMENT_RESPONSE: TASK_MANAGEMENT,
          LOGOUT_RESPONSE: LOGOUT, TEXT_RESPONSE: TEXT}
@@ -35,11 +36,16 @@ class Lost:
 
 @dataclass
 class Open:
-    """A request without an answer: where it stands, where its tag is used again, and whether something took it out."""
+    """A request without an answer: where it stands, where its tag is used again, and where something took it out first."""
     place: int
     item: Item
     again: int = None
-    is_taken_out: bool = False
+    taken_out_at: int = None
+
+    @property
+    def at_most(self):
+        """The place before which it was answered, if at all."""
+        return min(place for place in (self.again, self.taken_out_at, ENDLESS) if place is not None)
 
 
 def near(number_, reference):
@@ -57,6 +63,18 @@ def takes_stat_sn(item):
 def answers(item):
     """Whether a reply answers a request, which has no other one behind it."""
     return takes_stat_sn(item) and item.reply.opcode != ASYNC
+
+
+def takes_out(item, other):
+    """Whether a request, a function or a Logout, takes out one that came before it."""
+    request, before = item.request, other.request
+    if request.opcode == LOGOUT:
+        return request.function == CLOSE_SESSION or request.cid == other.cid
+    if request.opcode != TASK_MANAGEMENT:
+        return False
+    if request.function == ABORT_TASK:
+        return (other.cid, other.tag) == (item.cid, request.referenced_tag)
+    return request.function in SETS and before.opcode == SCSI_COMMAND and before.unit == request.unit
 
 
 class Repair:
@@ -112,7 +130,7 @@ class Repair:
                 if key in waiting:
                     waiting[key].again = place
                     self.unanswered.append(waiting[key])
-                self.note_abort(item, waiting)
+                self.note_abort(place, item, waiting)
                 waiting[key] = Open(place, item)
             elif item.reply and answers(item) and item.tag != NO_TAG:
                 if key in waiting:
@@ -123,18 +141,11 @@ class Repair:
         self.unanswered.sort(key=lambda one: (len(self.items) if one.again is None else one.again, one.place))
 
     @staticmethod
-    def note_abort(item, waiting):
-        """Notes the requests that a function or a Logout takes out."""
-        request = item.request
-        if request.opcode == LOGOUT:
-            for one in waiting.values():
-                one.is_taken_out = True
-        elif request.opcode == TASK_MANAGEMENT:
-            for (cid, tag), one in waiting.items():
-                other = one.item.request
-                if request.function == ABORT_TASK and (cid, tag) == (item.cid, request.referenced_tag) \
-                        or request.function in SETS and other.opcode == SCSI_COMMAND and other.unit == request.unit:
-                    one.is_taken_out = True
+    def note_abort(place, item, waiting):
+        """Notes the requests that a function or a Logout at this place takes out."""
+        for one in waiting.values():
+            if one.taken_out_at is None and takes_out(item, one.item):
+                one.taken_out_at = place
 
     # ---- what is made up
 
@@ -186,12 +197,10 @@ class Repair:
         if reply.opcode == REJECT and len(reply.tail) >= 48:
             return bytearray(reply.tail[:48])
         kind = KINDS.get(reply.opcode, NOP_OUT)
-        header = self.header(kind, item.tag, 0)
         if kind == SCSI_COMMAND:
-            header[1] |= SIMPLE
-            header[8:16] = next((other.request.header[8:16] for other in self.items
-                                 if other.request and other.request.opcode == SCSI_COMMAND), bytes(8))
-        elif kind == TASK_MANAGEMENT:
+            return self.command(item.tag, 0)
+        header = self.header(kind, item.tag, 0)
+        if kind == TASK_MANAGEMENT:
             header[1] |= ABORT_TASK
             header[20:24] = self.new_tag().to_bytes(4, "big")
         elif kind == LOGOUT:
@@ -201,37 +210,77 @@ class Repair:
 
     def make_replies(self, cid):
         """Makes up what was answered where StatSNs are lacking on a connection."""
-        expected = self.session.connections[cid]
+        expected, since = self.session.connections[cid], -1
         for place, item in enumerate(self.items):
             if not item.reply or item.cid != cid or not takes_stat_sn(item):
                 continue
             ahead = near(item.reply.stat_sn, expected) - expected
             if 0 < ahead <= MOST_MISSING:
-                for count in range(ahead):
-                    self.make_reply(place, cid, (expected + count) % MODULUS)
+                for stat_sn, one in enumerate(self.answered_between(since, place, cid, ahead), expected):
+                    self.make_reply(one, since, place, cid, stat_sn % MODULUS)
             if ahead >= 0:
-                expected = item.reply.stat_sn + 1
+                expected, since = item.reply.stat_sn + 1, place
 
-    def make_reply(self, place, cid, stat_sn):
-        """Makes up what was answered before a reply: a request that has no answer in the capture, or a ping."""
+    def make_reply(self, chosen, since, place, cid, stat_sn):
+        """Makes up what was answered before a reply: a request that has no answer in the capture, or a ping where there is none."""
         item = self.items[place]
+        if chosen:
+            tag = chosen.item.tag
+            if chosen.item.request.opcode == SCSI_COMMAND:
+                self.insert(min(place, chosen.at_most), self.good(item, tag), cid, is_reply=True)
+        else:
+            tag = self.make_asked(since, place, cid)
+        self.replies += 1
+        self.session.lost.append(Lost(item.frame, item.time, cid, tag, stat_sn))
+
+    def make_asked(self, since, place, cid):
+        """Makes up the request of an answer between two places of which nothing is known, and gives its tag. Where the target had just received
+        a number that is lacking, it is a ping; where it had one before, a command that is completed here; else an immediate ping."""
+        item, tag = self.items[place], self.new_tag()
+        value = self.take_missing(self.expected_before(place), self.expected[place])
+        if value is None and self.make_command(since, place, cid, tag):
+            return tag
+        header = self.header(NOP_OUT, tag, item.reply.exp_cmd_sn if value is None else value)
+        header[0] |= IMMEDIATE if value is None else 0
+        self.insert(place if value is None else self.before(value, cid, place), header, cid)
+        return tag
+
+    def make_command(self, since, place, cid, tag):
+        """Makes up a command with a number that is lacking, and its answer between two places. Whether there is a number with which nothing
+        takes it out before."""
+        for value in self.missing[:bisect_left(self.missing, self.expected[place])]:
+            header, begin = self.command(tag, value), self.before(value, cid, place)
+            made = Item(0, 0.0, cid, Request(bytes(header)))
+            end = next((other for other in range(begin, place) if self.items[other].request and takes_out(self.items[other], made)), place)
+            if end > since:
+                self.missing.remove(value)
+                self.insert(begin, header, cid)
+                self.insert(end, self.good(self.items[place], tag), cid, is_reply=True)
+                return True
+        return False
+
+    def command(self, tag, cmd_sn):
+        """The header of a command, of a unit that the session has one for."""
+        header = self.header(SCSI_COMMAND, tag, cmd_sn)
+        header[1] |= SIMPLE
+        header[8:16] = next((other.request.header[8:16] for other in self.items
+                             if other.request and other.request.opcode == SCSI_COMMAND), bytes(8))
+        return header
+
+    def answered_between(self, since, place, cid, count):
+        """Takes so many requests that were answered between two places, as those that nothing took out before the last of them, or else ones
+        that may have been answered before something took them out. None for each that there isn't: it was one of those that are lacking. With
+        fewer of these the answers came later than they were sent, and were of requests that were taken out before."""
         received = self.expected[place]
         candidates = [one for one in self.unanswered
                       if one.item.cid == cid and one.place < place and self.numbers.get(one.place, received - 1) < received]
-        chosen = next((one for one in candidates if not one.is_taken_out), None)
-        if chosen:
-            self.unanswered.remove(chosen)
-            tag = chosen.item.tag
-            if chosen.item.request.opcode == SCSI_COMMAND:
-                self.insert(place, self.good(item, tag), cid, is_reply=True)
-        else:
-            tag = self.new_tag()
-            value = self.take_missing(self.expected_before(place), received)
-            header = self.header(NOP_OUT, tag, item.reply.exp_cmd_sn if value is None else value)
-            header[0] |= IMMEDIATE if value is None else 0
-            self.insert(place if value is None else self.before(value, cid, place), header, cid)
-        self.replies += 1
-        self.session.lost.append(Lost(item.frame, item.time, cid, tag, stat_sn))
+        candidates.sort(key=lambda one: (one.at_most <= since, one.taken_out_at is not None and one.taken_out_at < place))
+        chosen = [one for one in candidates if one.at_most > since][:count]
+        rest = max(0, count - len(chosen) - bisect_left(self.missing, received))
+        chosen = candidates[:len(chosen) + rest]
+        taken = {id(one) for one in chosen}
+        self.unanswered = [one for one in self.unanswered if id(one) not in taken]
+        return sorted(chosen, key=lambda one: min(place, one.at_most)) + [None] * (count - len(chosen))
 
     @staticmethod
     def header(opcode, tag, cmd_sn):
@@ -309,4 +358,5 @@ def repair(session):
     if session.losses:
         session.notes.append(f"PDUs are lacking behind {len(session.losses)} frame(s): {behind}")
     if found.requests or found.replies:
-        session.notes.append(f"made up: {found.requests} requests and {found.replies} replies that the capture lacks")
+        unfound = ", or that couldn't be found behind a hole" if session.losses else ""
+        session.notes.append(f"made up: {found.requests} requests and {found.replies} replies that the capture lacks{unfound}")

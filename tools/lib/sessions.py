@@ -3,11 +3,13 @@
 from collections import Counter
 from dataclasses import dataclass, field
 
-from .pdu import LOGIN, LOGIN_RESPONSE, NO_TAG, NOP_IN, REJECT, SCSI_RESPONSE, Reply, Request, number
+from .pdu import DATA_IN, LOGIN, LOGIN_RESPONSE, NO_TAG, NOP_IN, R2T, REJECT, SCSI_RESPONSE, Reply, Request, number
 from .streams import HEADER_SIZE, Splitter, Stream, is_plausible
 
 KEPT_DATA = (SCSI_RESPONSE, REJECT)
 NAMES = ("InitiatorName", "TargetName")
+# Behind these another reply to the same request may come.
+WITH_MORE = (DATA_IN, R2T)
 # So many segments of a connection are looked at for the beginning of a PDU.
 PATIENCE = 1000
 # ExpCmdSN and the CmdSNs of a session are no farther apart.
@@ -97,6 +99,7 @@ class Connection:
         self.session = None
         self.late_cid = None
         self.lost_since, self.last_frames = {}, {}
+        self.outstanding = set()
 
     @property
     def cid(self):
@@ -120,11 +123,20 @@ class Connection:
         for splitter in self.splitters.values():
             splitter.is_lost = not self.begins_with_syn
             splitter.knows_digests = self.begins_with_syn
+            splitter.outstanding = self.outstanding
 
     def learn(self, data):
         """Takes the keys of a Login PDU. The last value that either side gives is the agreed one."""
         pairs = (pair.partition("=") for pair in data.decode("utf-8", "replace").split("\0"))
         self.keys.update((key, value) for key, separator, value in pairs if separator)
+
+    def note_outstanding(self, item):
+        """Notes which requests have no answer yet, for the splitter of the target's direction."""
+        outstanding = self.outstanding
+        if item.request:
+            outstanding.add(item.tag)
+        elif item.reply.ends_command or item.reply.opcode not in WITH_MORE:
+            outstanding.discard(item.tag)
 
     def use_digests(self):
         """From the end of the login on PDUs have the digests that were agreed on."""
@@ -242,7 +254,9 @@ class Sessions:
         opcode = pdu.header[0] & 0x3f
         request = Request(pdu.header) if from_initiator else None
         reply = None if request else Reply(pdu.header, pdu.data if opcode in KEPT_DATA else b"")
-        connection.session.add(Item(chunk.frame, chunk.time, connection.cid, request, reply))
+        item = Item(chunk.frame, chunk.time, connection.cid, request, reply)
+        connection.note_outstanding(item)
+        connection.session.add(item)
 
     def begin_late(self, connection, target):
         """A session of a connection whose login isn't in the capture. Its numbers are known later."""

@@ -1,7 +1,8 @@
 """Puts the bytes of a TCP connection together by sequence number, and splits them into PDUs.
 
 Bytes that the capture lacks, since a packet was lost or cut, are a hole: of a PDU whose data lie there the header is known all
-the same; where a header lies there, the next one is looked for where a segment begins.
+the same; where a header lies there, the next one is looked for where a segment begins, and of replies also within one: two headers in a
+row, with tags that are outstanding.
 """
 
 import heapq
@@ -11,12 +12,15 @@ from .pdu import DATA_IN, DATA_OUT, HEADER_SIZE, LOGIN, LOGIN_RESPONSE, NO_TAG, 
     SCSI_RESPONSE, TEXT, number
 
 DIGEST_SIZE = 4
+IMMEDIATE_LOGIN = 0x43
 OF_TARGET = 0x20
 # The data of these are read, and those of the others are passed over.
 WITH_DATA = (LOGIN, LOGIN_RESPONSE, SCSI_RESPONSE, REJECT)
 # So many segments behind bytes that were acknowledged, and so many where nobody says so, show that they don't come any more.
 ACKNOWLEDGED_PATIENCE, PATIENCE = 64, 1000
 LONGEST_DATA = 1 << 24
+# Of two replies one behind the other the second one expects a CmdSN no farther ahead.
+MOST_AHEAD = 1 << 12
 
 
 @dataclass(frozen=True)
@@ -78,7 +82,7 @@ class Stream:
     @property
     def is_acknowledged(self):
         """Whether the other side has the bytes that are lacking."""
-        return self.acknowledged is not None and self.acknowledged > self.next_place
+        return self.acknowledged is not None and self.next_place is not None and self.acknowledged > self.next_place
 
     def in_order(self):
         """What is in order."""
@@ -111,9 +115,12 @@ class Stream:
         yield from self.in_order()
 
     def finish(self):
-        """What still waits as the capture ends."""
+        """What still waits as the capture ends, and a hole where the other side has more bytes than came; a FIN counts as one."""
         while self.late:
             yield from self.behind_hole()
+        if self.is_acknowledged and self.acknowledged > self.next_place + 1:
+            yield Chunk(*self.last, hole=self.acknowledged - self.next_place)
+            self.next_place = self.acknowledged
 
 
 def is_plausible(header, from_initiator):
@@ -122,7 +129,7 @@ def is_plausible(header, from_initiator):
     if header[0] & 0x80 or opcode not in (REQUESTS if from_initiator else REPLIES) or header[4]:
         return False
     if opcode in (LOGIN, LOGIN_RESPONSE):
-        return header[2:4] == b"\0\0"
+        return header[0] == (IMMEDIATE_LOGIN if from_initiator else LOGIN_RESPONSE) and header[2:4] == b"\0\0"
     if opcode == DATA_OUT:
         return not any(header[1:4]) or header[1:4] == b"\x80\0\0"
     if from_initiator:
@@ -137,8 +144,8 @@ class Splitter:
     """Splits what one direction has into PDUs. Digests may be set while PDUs are taken from it.
 
     All opcodes of the target have a bit that those of the initiator lack. Where a PDU has the wrong one, or a hole has its header,
-    the place of the next one is lost: it is looked for where later segments begin. `keeps_all_data`: also those that a capture isn't
-    looked through for.
+    the place of the next one is lost: it is looked for in later segments. `outstanding`: the tags of the requests without an answer, for
+    the target's direction. `keeps_all_data`: also those that a capture isn't looked through for.
     """
 
     def __init__(self, from_initiator, keeps_all_data=False):
@@ -154,14 +161,40 @@ class Splitter:
         self.header_digest = False
         self.data_digest = False
         self.knows_digests = True
+        self.outstanding = set()
 
     def take(self, chunk):
         """Takes bytes or a hole, and gives the PDUs that are whole with them."""
-        if self.is_lost:
-            self.is_lost = not self.begins_in(chunk.payload, chunk.cut)
+        begin = self.begin_in(chunk) if self.is_lost else 0
+        self.is_lost = begin is None
         if not self.is_lost:
-            yield from self.take_bytes(chunk.payload)
+            yield from self.take_bytes(chunk.payload[begin:])
             yield from self.take_hole(chunk.hole)
+
+    def begin_in(self, chunk):
+        """Where a PDU begins in a segment: with it, or at a chain of headers in it. None where none is found."""
+        payload = chunk.payload
+        if self.begins_in(payload, chunk.cut):
+            return 0
+        if self.from_initiator or not self.knows_digests or not self.outstanding:
+            return None
+        places = range(1, len(payload) - 2 * HEADER_SIZE + 1)
+        return next((place for place in places if payload[place] in REPLIES and self.is_chain_at(payload, place)), None)
+
+    def is_chain_at(self, payload, place):
+        """Whether headers of two replies stand here, the second one where the first one's PDU ends: plausible ones, with tags of requests that
+        are outstanding, of which the second doesn't expect a lower CmdSN."""
+        if not self.is_reply_at(payload, place):
+            return False
+        first = payload[place:place + HEADER_SIZE]
+        behind = place + self.extent(first)[2]
+        if not self.is_reply_at(payload, behind):
+            return False
+        return (number(payload, behind + 28, behind + 31) - number(first, 28, 31)) % 2**32 < MOST_AHEAD
+
+    def is_reply_at(self, payload, place):
+        """Whether the header of a reply to a request that is outstanding stands here."""
+        return self.is_header_at(payload, place) and number(payload, place + 16, place + 19) in self.outstanding
 
     def take_bytes(self, payload):
         """Takes bytes."""
