@@ -20,10 +20,11 @@ def example(name, *words):
 
 
 def explained(report):
+    """What is said of the events. What has no answer stands behind an empty line."""
     done = run_tool("explain", text=report)
     if done.returncode:
         raise AssertionError(done.stderr)
-    return done.stdout.splitlines()
+    return done.stdout.partition("\n\n")[0].splitlines()
 
 
 class Words(unittest.TestCase):
@@ -153,7 +154,7 @@ class Words(unittest.TestCase):
         for path in reports:
             with open(path, encoding="ascii") as file:
                 counts = [len(part.split("\n  ")) - 1 for part in file.read().rstrip("\n").split("\n> ")]
-            lines = run_tool("explain", path).stdout.splitlines()
+            lines = run_tool("explain", path).stdout.partition("\n\n")[0].splitlines()
             self.assertEqual(sum(1 + (count if count > 1 else 0) for count in counts), len(lines), path)
 
 

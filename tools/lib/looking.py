@@ -11,6 +11,7 @@ from .page import END, Page, begin
 from .picture import connections, paint
 from .places import events_with_places
 from .statistics import Figures
+from .unanswered import MOST_TOLD, End
 
 MOST_DIFFERENCES = 30
 INDEX = "index.html"
@@ -25,9 +26,10 @@ class Looked:
         self.write_report()
         self.figures = self.write_timeline()
         self.write_differences()
+        self.open = self.figures.outstanding.all()
         self.row, self.section = self.row_words(), "".join(self.section_words())
         made.session.items.clear()
-        self.made = self.figures = None
+        self.made = self.figures = self.open = None
 
     def write_report(self):
         write(f"{self.made.base}.report", self.made.recording.report)
@@ -38,7 +40,9 @@ class Looked:
         places = [place for _, place in events_with_places(made.recording.lines)]
         frames = [place.frame for place in places]
         page = Page(1, None)
-        figures = paint(zip(made.recording.events, places), page, Beside(list(read(made.answers)), frames, made.comparison), Figures)
+        answers = list(read(made.answers))
+        figures = paint(zip(made.recording.events, places), page, Beside(answers, frames, made.comparison),
+                        lambda first: Figures(first, answers, End(line for line in made.lines if line[:1] == "#")))
         with writing(f"{made.base}.html") as file:
             page.write(file, f"{self.name}: events 1 to {page.events}", list(connections(made.recording.lines)))
         return figures
@@ -57,8 +61,12 @@ class Looked:
         statuses = ", ".join(f"{count} × {what.removeprefix('SCSI Response ')}" for what, count in figures.replies.items()
                              if what.startswith("SCSI Response ") and not what.endswith(" GOOD"))
         cells = (f'<a href="#{self.name}">{escape(self.name)}</a>', escape(session.names[0] or "not known"), session.port, span_of(session),
-                 figures.commands, figures.aborted, escape(statuses), f'<span class="sick">{escape(sick)}</span>')
+                 figures.commands, self.count_words(), figures.aborted, escape(statuses), f'<span class="sick">{escape(sick)}</span>')
         return "<tr>" + "".join(f"<td>{cell}</td>" for cell in cells) + "</tr>"
+
+    def count_words(self):
+        """How many requests have no answer."""
+        return f'<span class="sick">{len(self.open)}</span>' if self.open else 0
 
     def section_words(self):
         """What the index says of the session."""
@@ -67,10 +75,20 @@ class Looked:
         yield " · ".join(f'<a href="{base}.{ending}">{words}</a>' for ending, words in (
             ("html", "timeline"), ("differences.txt", "differences"), ("recording", "recording"), ("report", "report"),
             ("target", "what the target answered"))) + "</p>\n"
+        yield from self.unanswered()
         yield from self.times()
         yield from self.commands("Slowest commands", self.figures.longest.all)
         yield from self.commands("What waited longest", self.figures.waited.all)
         yield from self.differences()
+
+    def unanswered(self):
+        if self.open:
+            yield '<h3 class="sick">Without an answer</h3>\n<ol>\n'
+            yield from (f'<li>{one.age} old at the capture\'s end: {escape(one.words)}, <a href="{escape(self.name)}.html#{one.event}">frame '
+                        f'{one.frame}</a>; {escape(one.where)}</li>\n' for one in self.open[:MOST_TOLD])
+            yield "</ol>\n"
+        if len(self.open) > MOST_TOLD:
+            yield f'<p class="quiet">and {len(self.open) - MOST_TOLD} more</p>\n'
 
     def times(self):
         rows = self.figures.response_times()
@@ -112,7 +130,7 @@ class Looked:
 def write_index(folder, capture, looked, left_out):
     """Writes the index. Its path."""
     path = os.path.join(folder, INDEX)
-    heads = ("session", "initiator", "port", "seconds", "commands", "taken out", "statuses other than GOOD", "differences")
+    heads = ("session", "initiator", "port", "seconds", "commands", "unanswered", "taken out", "statuses other than GOOD", "differences")
     with writing(path) as file:
         title = os.fsencode(os.path.basename(capture)).decode("utf-8", "backslashreplace")
         file.write(f"{begin(title, 'index.css')}<h1>{escape(title)}</h1>\n")

@@ -26,6 +26,7 @@ def comments(session, recording, capture):
     yield f"# from {os.path.basename(capture)}: ISID {session.isid.hex()}, TSIH {session.tsih:04x}"
     yield from (f"# {side} {name}" for side, name in zip(("initiator", "target"), session.names))
     yield f"# the target's widest window: {advertised_window(session)}"
+    yield f"# the capture ends at {session.capture_end:.6f} s"
     yield from (f"# {note}" for note in session.notes)
 
 

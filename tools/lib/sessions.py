@@ -59,6 +59,7 @@ class Session:
     losses: list = field(default_factory=list)
     lost: list = field(default_factory=list)
     end: int = None
+    capture_end: float = None
 
     def cut(self, frame, why):
         """Leaves out what comes after this frame, since a recording can't have it."""
@@ -153,6 +154,7 @@ class Sessions:
         self.between = {}
         self.connections = []
         self.sessions = []
+        self.latest = 0.0
 
     def connection(self, segment):
         """The connection of a segment. A SYN of a client's begins another one, if that isn't its first one again."""
@@ -170,6 +172,7 @@ class Sessions:
         """Takes the next segment of the capture."""
         if self.port and self.port not in (segment.source[1], segment.target[1]) or segment.source == segment.target:
             return
+        self.latest = max(self.latest, segment.time)
         connection = self.connection(segment)
         stream = connection.streams[segment.source]
         if segment.begins:
@@ -306,6 +309,7 @@ class Sessions:
                     connection.session.losses.append(Loss(frame, connection.cid))
         for session in self.sessions:
             session.items.sort(key=lambda item: item.frame)
+            session.capture_end = self.latest
         kept = [session for session in self.sessions if not session.is_late or has_numbers(session)]
         for connection in self.connections:
             if connection.session not in kept:

@@ -6,6 +6,7 @@ from collections import Counter, defaultdict
 from dataclasses import asdict, dataclass
 
 from .places import first_of
+from .unanswered import Outstanding, lines
 from .waits import Courses
 
 SLOWEST = 10
@@ -50,10 +51,12 @@ class Most:
 
 
 class Figures:
-    """The figures of a report, by its events and their places in the capture, where they are known."""
+    """The figures of a report, by its events and their places in the capture, where they are known. `answers`: those of a real
+    target, where they are told; `end`: that of the capture."""
 
-    def __init__(self, first):
+    def __init__(self, first, answers=None, end=None):
         self.courses = Courses(first)
+        self.outstanding = Outstanding(self.courses, answers, end)
         self.requests, self.replies, self.ignored = Counter(), Counter(), Counter()
         self.events = self.most_live = self.aborted = self.commands = 0
         self.begin = self.end = None
@@ -64,6 +67,7 @@ class Figures:
         """Takes an event."""
         self.events += 1
         self.courses.follow(event, place)
+        self.outstanding.take(event, place)
         self.most_live = max(self.most_live, len(self.courses.live))
         if place:
             self.begin = place.seconds if self.begin is None else min(self.begin, place.seconds)
@@ -113,6 +117,7 @@ class Figures:
     def as_dict(self):
         """All of it, as JSON has it."""
         return {
+            "unanswered": [asdict(one) for one in self.outstanding.all()],
             "events": self.events, "seconds": self.seconds, "commands": self.commands, "most_live": self.most_live,
             "taken_out": self.aborted,
             "requests": dict(self.requests), "replies": dict(self.replies), "ignored": dict(self.ignored),
@@ -122,6 +127,7 @@ class Figures:
 
     def lines(self):
         """All of it, as text."""
+        yield from lines(self.outstanding)
         span = "" if self.seconds is None else f" in {self.seconds:.3f} s"
         yield f"{self.events} events{span}; at most {self.most_live} commands live; {self.aborted} taken out"
         yield from counted("requests", self.requests)
@@ -137,10 +143,10 @@ class Figures:
         yield from told("waited longest", self.waited.all)
 
 
-def figures_of(events):
+def figures_of(events, end=None):
     """The figures of events with their places."""
     first, events = first_of(events)
-    figures = Figures(first)
+    figures = Figures(first, end=end)
     for event, place in events:
         figures.take(event, place)
     return figures

@@ -35,8 +35,8 @@ def first_moment(path):
 
 
 def command_line(path, port):
-    """The words that start tshark. An ICMP error repeats the header of a segment; it is none."""
-    wanted = "tcp && (tcp.len > 0 || tcp.flags.syn == 1) && !icmp && !icmpv6" + (f" && tcp.port == {port}" if port else "")
+    """The words that start tshark. An ICMP error repeats the header of a segment; it is none. One without bytes may be the last."""
+    wanted = "tcp && !icmp && !icmpv6" + (f" && tcp.port == {port}" if port else "")
     words = ["tshark", "-n", "-r", path, "-o", "tcp.desegment_tcp_streams:FALSE", "-Y", wanted, "-T", "fields",
              "-E", "separator=/t", "-E", "occurrence=f"]
     return words + [word for field in FIELDS for word in ("-e", field)]

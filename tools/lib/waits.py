@@ -29,14 +29,14 @@ def bars(other, command):
 
 
 class Courses:
-    """Follows a session, with the course of each live command. `left` has those that left by the last event, and `was_held` the
-    places of the arrivals that were held until then; a place is whatever tells where an event stands, or None."""
+    """Follows a session, with the course of each live command. `left` has those that left by the last event, `steps` what it did,
+    and `was_held` the places of the arrivals that were held until then; a place is whatever tells where an event stands, or None."""
 
     def __init__(self, first=None):
         self.session = Session(first)
         self.live = {}
         self.held, self.was_held = {}, {}
-        self.left = []
+        self.left, self.steps = [], []
 
     def take(self, event, place=None):
         """Follows an event. Gives it in words, the words of its effects, and its steps."""
@@ -49,7 +49,7 @@ class Courses:
         self.note(self.session.take(event), place)
 
     def note(self, steps, place):
-        self.left, self.was_held = [], {}
+        self.left, self.was_held, self.steps = [], {}, steps
         for step in steps:
             kind = step.effect.kind if step.effect else "hold"
             if kind == "hold":
