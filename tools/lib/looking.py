@@ -6,7 +6,7 @@ from html import escape
 from .beside import Beside
 from .answers import read
 from .files import write, writing
-from .findings import span_of
+from .findings import milliseconds_of
 from .page import END, Page, begin
 from .picture import connections, paint
 from .places import events_with_places
@@ -56,7 +56,7 @@ class Looked:
         session, figures = self.made.session, self.figures
         statuses = ", ".join(f"{count} × {what.removeprefix('SCSI Response ')}" for what, count in figures.replies.items()
                              if what.startswith("SCSI Response ") and not what.endswith(" GOOD"))
-        cells = (f'<a href="#{self.name}">{escape(self.name)}</a>', escape(session.names[0] or "not known"), session.port, span_of(session),
+        cells = (f'<a href="#{self.name}">{escape(self.name)}</a>', escape(session.names[0] or "not known"), session.port, milliseconds_of(session),
                  figures.commands, figures.aborted, escape(statuses), self.difference_cell())
         return "<tr>" + "".join(f"<td>{cell}</td>" for cell in cells) + "</tr>"
 
@@ -119,7 +119,7 @@ class Looked:
 def write_index(folder, capture, looked, left_out):
     """Writes the index. Its path."""
     path = os.path.join(folder, INDEX)
-    heads = ("session", "initiator", "port", "seconds", "commands", "taken out", "statuses other than GOOD", "differences")
+    heads = ("session", "initiator", "port", "milliseconds", "commands", "taken out", "statuses other than GOOD", "differences")
     with writing(path) as file:
         title = os.fsencode(os.path.basename(capture)).decode("utf-8", "backslashreplace")
         file.write(f"{begin(title, 'index.css')}<h1>{escape(title)}</h1>\n")
