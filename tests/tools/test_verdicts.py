@@ -33,6 +33,7 @@ EXAMPLES = (
     {"stat_sn": "back"},
     {"stat_sn": "early"},
     {"moment": False, "exp": "not sent"},
+    {"moment": False, "exp": "of its moment"},
     {"moment": False, "exp": "lower"},
     {"moment": False, "window": "shut twice"},
     {"moment": False},
@@ -106,6 +107,14 @@ class Made(Session):
         for expected, verdict in (("00000001", NOT_ALLOWED), ("00000003", NOT_JUDGED)):
             self.write([ANSWERS["two"].replace("00000004 00000023", f"{expected} 00000023")], (COMMANDS[1],))
             self.assertEqual([("missing reply", verdict)], self.verdicts())
+
+    def test_a_number_that_counts_an_immediate_request(self):
+        """It is one that wasn't sent, or that of a command which came before the reply went out."""
+        ping = (f"C 1 {header(0x40, 0x80, 7, 3)}", 25)
+        reply = "35 0.350000 1 nop-in 00000007 00000001 00000004 00000021 --"
+        for events, verdict in (((*COMMANDS, ping), NOT_ALLOWED), ((*COMMANDS, ping, NOP), "a choice of this target")):
+            self.write([reply], events)
+            self.assertIn(("ExpCmdSN", verdict), self.verdicts())
 
     def test_a_window_that_is_less_than_shut(self):
         for most, verdict in (("00000003", "a choice of this target"), ("00000002", NOT_ALLOWED)):

@@ -7,7 +7,7 @@ sure to break the RFC or SAM-5 is never told as not allowed: so nothing is where
 from dataclasses import dataclass, field
 
 from .answers import outcome_of
-from .moments import above
+from .moments import MODULUS, above
 from .pdu import FUNCTIONS, LOGOUT, NOP_OUT, SCSI_COMMAND, TASK_MANAGEMENT
 
 ALLOWED, CHOICE, NOT_ALLOWED, NOT_JUDGED = "allowed", "a choice of this target", "not allowed", "not judged"
@@ -78,6 +78,8 @@ TABLE = (
         "StatSN goes up by one with each status on a connection, and a lower one is sent behind this"),
     Row("ExpCmdSN", {"moment": False, "exp": "not sent"}, NOT_ALLOWED, NUMBERS,
         "an immediate request takes no CmdSN, and this counts one that wasn't sent"),
+    Row("ExpCmdSN", {"moment": False, "exp": "of its moment"}, CHOICE, "",
+        "the target shows the number of the moment at which the reply goes out, the program that of the request's"),
     Row("ExpCmdSN", {"moment": False, "exp": "lower"}, CHOICE, "", "the target acknowledges a CmdSN later than it received it"),
     Row("MaxCmdSN", {"moment": False, "window": "shut twice"}, NOT_ALLOWED, NUMBERS, "MaxCmdSN may not be below ExpCmdSN - 1"),
     Row("MaxCmdSN", {"moment": False}, CHOICE, "", "how far MaxCmdSN is above ExpCmdSN is the target's"),
@@ -140,10 +142,17 @@ class Known:
         ahead = above(answer.exp_cmd_sn, sent.reply.exp_cmd_sn)
         if ahead < 0:
             yield "exp", "lower"
+        elif ahead > 0 and self.came((answer.exp_cmd_sn - 1) % MODULUS, answer.frame):
+            yield "exp", "of its moment"
         elif ahead == 1 and request.immediate and request.cmd_sn == sent.reply.exp_cmd_sn:
             yield "exp", "not sent"
         if above(answer.max_cmd_sn, answer.exp_cmd_sn) < -1:
             yield "window", "shut twice"
+
+    def came(self, cmd_sn, frame):
+        """Whether a request of this number came before a frame."""
+        return any(event.is_arrival and event.request.is_numbered and event.request.cmd_sn == cmd_sn and place.frame <= frame
+                   for event, place in zip(self.replay.events, self.replay.places))
 
     def taken_out(self, place, answer):
         """Why the program doesn't answer: by which function a command was taken out, and where that was answered; or that it waits."""
