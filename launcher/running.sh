@@ -40,6 +40,7 @@ The script iscsi-replay adds to the program:
       --version        print the commit, the kit and where the program was proved, and end
       --cpu x86-64-v3  as the first word: the program for these processors
       --built          never answer by `rt try`, which proves nothing, where no program is built
+      --where          print where the built program stands, and end
       --prove          prove and build the program, and end
 END
 }

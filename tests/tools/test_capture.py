@@ -798,6 +798,23 @@ class Missing(unittest.TestCase):
                 settling.run_program("", [])
         self.assertEqual("iscsi-replay: none; --prove builds it", str(refusal.exception))
 
+    def test_the_script_is_asked_once_and_the_program_begun_then(self):
+        with tempfile.TemporaryDirectory() as folder:
+            script, program = os.path.join(folder, "iscsi-replay"), os.path.join(folder, "program")
+            for path, text in ((script, f"echo asked >> {folder}/asked\necho {program}\n"), (program, "cat\necho \"$@\"\n")):
+                with open(path, "w", encoding="ascii") as file:
+                    file.write("#!/bin/sh\n" + text)
+                os.chmod(path, 0o755)
+            with unittest.mock.patch.object(settling, "TOP", folder):
+                told = [settling.run_program(text, ["--window", "3"]) for text in ("one\n", "two\n")]
+                os.remove(program)
+                with self.assertRaises(settling.BadReplay) as refusal:
+                    settling.run_program("", [])
+            with open(os.path.join(folder, "asked"), encoding="ascii") as file:
+                self.assertEqual("asked\n", file.read())
+        self.assertEqual(["one\n--window 3\n", "two\n--window 3\n"], told)
+        self.assertEqual(f"{program}: No such file or directory", str(refusal.exception))
+
 
 if __name__ == "__main__":
     unittest.main()

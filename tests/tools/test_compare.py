@@ -109,11 +109,13 @@ class Kinds(Session):
 
     def test_exp_cmd_sn(self):
         told = self.changed(("one", "00000004 00000022", "00000003 00000022"))
-        self.assertIn("the target says ExpCmdSN 00000003, the program 00000004\nDifferences: 1 x ExpCmdSN.\n", told)
+        self.assertIn("the target says ExpCmdSN 00000003, the program 00000004\n  a choice of this target: ", told)
+        self.assertIn("\nDifferences: 1 x ExpCmdSN.\n", told)
 
     def test_max_cmd_sn(self):
         told = self.changed(("one", "00000022", "00000028"))
-        self.assertIn("the target says MaxCmdSN 00000028, the program 00000022\nDifferences: 1 x MaxCmdSN.\n", told)
+        self.assertIn("the target says MaxCmdSN 00000028, the program 00000022\n  a choice of this target: ", told)
+        self.assertIn("\nDifferences: 1 x MaxCmdSN.\n", told)
 
     def test_a_fixed_window(self):
         told = self.changed(("nop", "00000021", "00000023"), ("one", "00000022", "00000023"))
@@ -153,7 +155,7 @@ class Kinds(Session):
         told = self.changed(("two", "00000003 00000004", "00000009 00000004"),
                             ("abort", "00000004 00000004", "0000000a 00000004"))
         self.assertIn("the target says StatSN 00000009, the program 00000003 at this place\n"
-                      "Differences: 1 x StatSN.\n", told)
+                      "  not judged: no rule covers this difference\nDifferences: 1 x StatSN.\n", told)
 
     def test_stat_sn_of_two_replies_that_changed_places(self):
         """The replies behind them, whose StatSNs are the program's again, are no difference."""
@@ -161,7 +163,8 @@ class Kinds(Session):
                             ("one", "00000002 00000004", "00000001 00000004"))
         self.assertIn("the target says StatSN 00000002, the program 00000001 at this place\n", told)
         self.assertIn("the target says StatSN 00000001, the program 00000002 at this place\n"
-                      "Differences: 2 x StatSN.\n", told)
+                      "  not allowed (RFC 7143 section 4.2.2.2): ", told)
+        self.assertIn("\nDifferences: 2 x StatSN.\n", told)
 
     def test_missing_reply_of_a_command_that_was_aborted(self):
         abort = (f"C 1 {header(0x42, 0x81, 6, 4, referenced=1)}", 45)

@@ -3,11 +3,18 @@
 import json
 import os
 import re
+import sys
 import tempfile
 import unittest
+import unittest.mock
 
 from helpers import TOP, replay, run_tool
 from test_explain import command
+
+sys.path.insert(0, os.path.join(TOP, "tools"))
+from lib import making  # noqa: E402
+from lib.captures import sessions_of  # noqa: E402
+from lib.settling import BadReplay  # noqa: E402
 
 CAPTURES = os.path.join(TOP, "tests", "tools", "captures")
 
@@ -94,10 +101,32 @@ class Look(unittest.TestCase):
 
     def test_faults(self):
         with tempfile.TemporaryDirectory() as folder:
-            for path, why in ((os.path.join(folder, "none"), "No such file or directory"), (folder, "Is a directory")):
-                done = run_tool("look", path, "-o", folder)
-                self.assertEqual(1, done.returncode)
-                self.assertRegex(done.stderr, rf"\Alook: .*{why}\n\Z")
+            none, pages, taken = (os.path.join(folder, name) for name in ("none", "pages", "taken"))
+            with open(taken, "w", encoding="ascii"):
+                pass
+            capture = os.path.join(CAPTURES, "libiscsi.pcapng")
+            for path, output, why in ((none, pages, f"{none}: No such file or directory"), (folder, pages, f"{folder}: Is a directory"),
+                                      (taken, pages, f"{taken}: an empty file"), (capture, taken, f"{taken}: File exists")):
+                done = run_tool("look", path, "-o", output)
+                self.assertEqual((1, f"look: {why}\n"), (done.returncode, done.stderr))
+            self.assertEqual(["taken"], os.listdir(folder))
+
+    def test_no_folder_is_left_where_no_session_can_be_replayed(self):
+        sessions, unread = sessions_of(os.path.join(CAPTURES, "libiscsi.pcapng"))
+        with tempfile.TemporaryDirectory() as folder:
+            with unittest.mock.patch.object(making, "record", side_effect=BadReplay("no program is built")), self.assertRaises(BadReplay):
+                list(making.all_made(sessions, unread, "libiscsi.pcapng", os.path.join(folder, "pages"), None))
+            self.assertEqual([], os.listdir(folder))
+
+    def test_the_index_has_the_length_of_a_session_in_milliseconds(self):
+        with tempfile.TemporaryDirectory() as folder:
+            told = run_tool("look", os.path.join(CAPTURES, "abort-live.pcapng"), "-o", folder).stdout
+            with open(os.path.join(folder, "index.html"), encoding="utf-8") as file:
+                index = file.read()
+        self.assertIn("<th>milliseconds</th><th>commands</th>", index)
+        seconds, milliseconds = (float(re.search(form, text)[1]) for form, text in
+                                 ((r"; (\d+\.\d{3}) s;", told), (r"<td>(\d+\.\d{3})</td>", index)))
+        self.assertAlmostEqual(seconds * 1000, milliseconds, delta=0.501)
 
 
 if __name__ == "__main__":

@@ -8,6 +8,7 @@ from dataclasses import dataclass
 from .answers import LOST, NAMES, kind_of, outcome_of
 from .moments import Moments, early, may_wait
 from .pdu import DATA_OUT, REJECT, SNACK, TEXT, number
+from .verdicts import NOT_ALLOWED, UNKNOWN, Known, Verdict, judge
 
 PLACE = re.compile(r"# time (\d+\.\d+) frame (\d+)")
 MISSING, ADDITIONAL, KIND, STATUS, RESPONSE = "missing reply", "additional reply", "another kind", "status", "response"
@@ -21,6 +22,7 @@ class Place:
     """Where an event stands in the capture."""
     frame: int
     time: float
+    made_up: bool = False
 
 
 @dataclass(frozen=True)
@@ -41,7 +43,7 @@ class Sent:
 @dataclass(frozen=True)
 class Difference:
     """One difference: its kind, where it stands in the capture, the tag of the request, and in words what differs. `event`: that of a
-    reply of the program's alone, counted from 1."""
+    reply of the program's alone, counted from 1. `verdict`: what it is to the RFC."""
     kind: str
     frame: int
     time: float
@@ -49,6 +51,7 @@ class Difference:
     tag: int
     words: str
     event: int = None
+    verdict: Verdict = UNKNOWN
 
 
 def places_of(lines):
@@ -57,7 +60,7 @@ def places_of(lines):
     for line in lines:
         found = PLACE.match(line)
         if found:
-            place = Place(int(found[2]), float(found[1]))
+            place = Place(int(found[2]), float(found[1]), ": made up, " in line)
         elif line.startswith(("C ", "D ")):
             places.append(place)
     return places
@@ -72,6 +75,7 @@ class Replay:
         self.requests = {}
         self.sent = []
         self.left = {}
+        self.entered, self.taken = {}, {}
         for order, event in enumerate(self.events):
             self.note(order, event)
 
@@ -79,16 +83,20 @@ class Replay:
         """Notes the request of an event, its replies, and the commands that leave by it."""
         if event.is_arrival and event.request.opcode not in (DATA_OUT, SNACK):
             self.requests.setdefault((event.cid, event.request.tag), []).append(place)
-        by = ""
+        by, request = "", None
         for effect in event.effects:
             if effect.kind in ("deliver", "immediate"):
-                by = f", by {self.name(self.requests[effect.cid, effect.tag][-1])}"
+                request = self.requests[effect.cid, effect.tag][-1]
+                by = f", by {self.name(request)}"
+            elif effect.kind == "enter":
+                self.entered[effect.ticket] = request
             elif effect.kind == "send":
                 tag = answered_tag(effect.reply)
-                request = self.requests[effect.cid, tag][-1]
-                self.sent.append(Sent(len(self.sent), place, effect.cid, tag, request, effect.reply))
+                self.sent.append(Sent(len(self.sent), place, effect.cid, tag, self.requests[effect.cid, tag][-1], effect.reply))
             elif effect.kind == "leave":
                 self.left[effect.ticket] = place, by
+                if by:
+                    self.taken[self.entered[effect.ticket]] = request
 
     def request_before(self, answer):
         """The last event before an answer's frame in which its request came, or None."""
@@ -220,11 +228,13 @@ class Comparison:
         self.rejected_texts = self.leave_out_texts(answers)
         self.lost = self.leave_out_lost([answer for answer in answers if answer.kind == LOST])
         self.window = fixed_window(self.answers)
+        self.known = Known(replay, self.answers, moment is not None, not self.lost)
         self.pairs = sorted(pair(replay, self.answers), key=self.frame)
         self.elsewhere = out_of_order(self.pairs, self.waits) if moment else out_of_order(self.pairs)
         self.differences = [found for answer, sent in self.pairs for found in self.compare(answer, sent)]
         self.differences += (Difference(STAT_SN, answer.frame, answer.time, answer.cid, answer.tag,
-                                        numbers_differ(STAT_SN, answer.stat_sn, stat_sn) + " at this place")
+                                        numbers_differ(STAT_SN, answer.stat_sn, stat_sn) + " at this place",
+                                        verdict=judge(STAT_SN, self.known.of_stat_sn(answer)))
                              for answer, stat_sn in stat_sn_shifts(self.answers, replay.sent))
         self.by_fixed_window = sum(difference.kind == FIXED_WINDOW for difference in self.differences)
         self.differences = sorted((difference for difference in self.differences if difference.kind != FIXED_WINDOW),
@@ -270,13 +280,15 @@ class Comparison:
         request = self.replay.name(place) if place is not None else f"tag {answer.tag:08x}"
         return Difference(MISSING, answer.frame, answer.time, answer.cid, answer.tag,
                           f"{request}: the target answers {told(answer.kind, answer.outcome, answer.words)}, "
-                          f"the program nothing: {self.replay.why_silent(answer, place)}")
+                          f"the program nothing: {self.replay.why_silent(answer, place)}",
+                          verdict=judge(MISSING, self.known.of(answer, None)))
 
     def additional(self, sent):
         place = self.replay.places[sent.event]
         return Difference(ADDITIONAL, place.frame, place.time, sent.cid, sent.tag,
                           f"{self.replay.name(sent.request)}: the program answers "
-                          f"{told(sent.kind, outcome_of(sent.reply), sent.reply.outcome)}, the target nothing", sent.event + 1)
+                          f"{told(sent.kind, outcome_of(sent.reply), sent.reply.outcome)}, the target nothing", sent.event + 1,
+                          judge(ADDITIONAL, self.known.of(None, sent)))
 
     def outcome(self, answer, sent):
         """Gives the difference in what came of a request."""
@@ -310,7 +322,8 @@ class Comparison:
                               numbers_differ(MAX_CMD_SN, answer.max_cmd_sn, reply.max_cmd_sn))
 
     def differ(self, kind, answer, sent, words):
-        return Difference(kind, answer.frame, answer.time, answer.cid, answer.tag, f"{self.replay.name(sent.request)}: {words}")
+        return Difference(kind, answer.frame, answer.time, answer.cid, answer.tag, f"{self.replay.name(sent.request)}: {words}",
+                          verdict=judge(kind, self.known.of(answer, sent)))
 
     @property
     def first(self):
@@ -320,6 +333,10 @@ class Comparison:
     @property
     def counts(self):
         return Counter(difference.kind for difference in self.differences)
+
+    def counts_of(self, is_allowed):
+        """How many differences of each kind are not allowed, or are another thing."""
+        return Counter(one.kind for one in self.differences if (one.verdict.verdict != NOT_ALLOWED) == is_allowed)
 
 
 def numbers_differ(name, target, program):

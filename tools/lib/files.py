@@ -61,8 +61,11 @@ def run(name, main):
         # What is left in the buffer goes nowhere, so that the end of Python has nothing to complain about.
         os.dup2(os.open(os.devnull, os.O_WRONLY), sys.stdout.fileno())
         sys.exit(fault(name, "the output was closed"))
-    except (Fault, OSError) as error:
-        sys.exit(fault(name, reason(error) if isinstance(error, OSError) else error))
+    except OSError as error:
+        of = f"{os.fsencode(error.filename).decode('utf-8', 'backslashreplace')}: " if error.filename else ""
+        sys.exit(fault(name, of + reason(error)))
+    except Fault as error:
+        sys.exit(fault(name, error))
 
 
 def fault(name, text):

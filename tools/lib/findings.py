@@ -19,6 +19,11 @@ def span_of(session):
     return f"{session.items[-1].time - session.items[0].time:.3f}" if session.items else ""
 
 
+def milliseconds_of(session):
+    """The milliseconds from the first request or reply of a session to the last one, or nothing where it has none."""
+    return f"{(session.items[-1].time - session.items[0].time) * 1000:.3f}" if session.items else ""
+
+
 def findings(session, comparison):
     """Gives the parts of a session's line that say what happened in it."""
     items = session.items

@@ -6,12 +6,13 @@ from html import escape
 from .beside import Beside
 from .answers import read
 from .files import write, writing
-from .findings import span_of
+from .findings import milliseconds_of
 from .page import END, Page, begin
 from .picture import connections, paint
 from .places import events_with_places
 from .statistics import Figures
 from .unanswered import MOST_TOLD, End
+from .verdicts import NOT_ALLOWED
 
 MOST_DIFFERENCES = 30
 INDEX = "index.html"
@@ -48,7 +49,7 @@ class Looked:
         return figures
 
     def write_differences(self):
-        lines = [f"frame {one.frame} ({one.time:.6f} s), connection {one.cid}, {one.kind}:\n  {one.words}\n"
+        lines = [f"frame {one.frame} ({one.time:.6f} s), connection {one.cid}, {one.kind}:\n  {one.words}\n  {one.verdict.words}\n"
                  for one in self.made.comparison.differences]
         write(f"{self.made.base}.differences.txt", "".join(lines) or "no difference\n")
 
@@ -56,17 +57,22 @@ class Looked:
 
     def row_words(self):
         """The row of the session in the first table."""
-        session, figures, counts = self.made.session, self.figures, self.made.comparison.counts
-        sick = ", ".join(f"{count} × {kind}" for kind, count in sorted(counts.items()))
+        session, figures = self.made.session, self.figures
         statuses = ", ".join(f"{count} × {what.removeprefix('SCSI Response ')}" for what, count in figures.replies.items()
                              if what.startswith("SCSI Response ") and not what.endswith(" GOOD"))
-        cells = (f'<a href="#{self.name}">{escape(self.name)}</a>', escape(session.names[0] or "not known"), session.port, span_of(session),
-                 figures.commands, self.count_words(), figures.aborted, escape(statuses), f'<span class="sick">{escape(sick)}</span>')
+        cells = (f'<a href="#{self.name}">{escape(self.name)}</a>', escape(session.names[0] or "not known"), session.port, milliseconds_of(session),
+                 figures.commands, self.count_words(), figures.aborted, escape(statuses), self.difference_cell())
         return "<tr>" + "".join(f"<td>{cell}</td>" for cell in cells) + "</tr>"
 
     def count_words(self):
         """How many requests have no answer."""
         return f'<span class="sick">{len(self.open)}</span>' if self.open else 0
+
+    def difference_cell(self):
+        """The differences that are not allowed, and the others quietly behind them."""
+        counted = ((name, self.made.comparison.counts_of(is_allowed)) for name, is_allowed in (("sick", False), ("quiet", True)))
+        return "<br>".join(f'<span class="{name}">' + escape(", ".join(f"{count} × {kind}" for kind, count in sorted(counts.items())))
+                           + (" not allowed" if name == "sick" else "") + "</span>" for name, counts in counted if counts)
 
     def section_words(self):
         """What the index says of the session."""
@@ -121,7 +127,8 @@ class Looked:
             return
         yield "<h3>Where the target and the rules part</h3>\n<ul>\n"
         for one in found[:MOST_DIFFERENCES]:
-            yield f'<li>frame {one.frame} ({one.time:.6f} s), connection {one.cid}, <b>{escape(one.kind)}</b>: {escape(one.words)}</li>\n'
+            yield f'<li>frame {one.frame} ({one.time:.6f} s), connection {one.cid}, <b>{escape(one.kind)}</b>: {escape(one.words)}'
+            yield f'<br><span class="{"sick" if one.verdict.verdict == NOT_ALLOWED else "quiet"}">{escape(one.verdict.words)}</span></li>\n'
         yield "</ul>\n"
         if len(found) > MOST_DIFFERENCES:
             yield f'<p class="quiet">and {len(found) - MOST_DIFFERENCES} more, in <a href="{escape(self.name)}.differences.txt">the list</a></p>\n'
@@ -130,7 +137,7 @@ class Looked:
 def write_index(folder, capture, looked, left_out):
     """Writes the index. Its path."""
     path = os.path.join(folder, INDEX)
-    heads = ("session", "initiator", "port", "seconds", "commands", "unanswered", "taken out", "statuses other than GOOD", "differences")
+    heads = ("session", "initiator", "port", "milliseconds", "commands", "unanswered", "taken out", "statuses other than GOOD", "differences")
     with writing(path) as file:
         title = os.fsencode(os.path.basename(capture)).decode("utf-8", "backslashreplace")
         file.write(f"{begin(title, 'index.css')}<h1>{escape(title)}</h1>\n")

@@ -36,6 +36,8 @@ class Made:
     def __init__(self, session, capture, base):
         self.session, self.base = session, base
         self.recording = record(session)
+        # Not before, so that no empty folder is left where the first session has no recording.
+        os.makedirs(os.path.dirname(base), exist_ok=True)
         self.answers = target_lines(session)
         self.lines = [*comments(session, self.recording, capture), *self.recording.lines]
         write(f"{base}.recording", self.lines)
@@ -72,7 +74,6 @@ def all_made(sessions, unread, capture, folder, port):
     if not sessions:
         found = "; ".join(left_out(unread)) or "no TCP connection"
         raise BadCapture(f"{capture}: no session{where(port)}: {found}")
-    os.makedirs(folder, exist_ok=True)
     name = os.path.splitext(os.path.basename(capture))[0]
     for place, session in enumerate(sessions, 1):
         yield Made(session, capture, os.path.join(folder, f"{name}-{place}"))

@@ -8,6 +8,7 @@ import os
 import subprocess
 from collections import deque
 from dataclasses import dataclass, replace
+from functools import cache
 
 from . import report
 from .pdu import DATA_OUT, NO_TAG, SCSI_COMMAND, SNACK, TASK_MANAGEMENT
@@ -51,13 +52,26 @@ class Recording:
     events: list
 
 
-def run_program(recording, words):
-    """The report of a recording, as text, by the built program alone: without it each replay would take a minute."""
-    script = [os.path.join(TOP, "iscsi-replay"), "--built"]
-    done = subprocess.run([*script, *words], input=recording, capture_output=True, text=True)
+def output_of(words, text=""):
+    """What a program prints. `BadReplay` with its last words where it fails."""
+    try:
+        done = subprocess.run(words, input=text, capture_output=True, text=True)
+    except OSError as fault:
+        raise BadReplay(f"{words[0]}: {fault.strerror}") from None
     if done.returncode:
         raise BadReplay((done.stderr.strip().splitlines() or ["iscsi-replay: it ended without a word"])[-1])
     return done.stdout
+
+
+@cache
+def built_program(script):
+    """Where the built program stands. The script looks each time whether it is that of the sources, so it is asked once a run."""
+    return output_of([script, "--built", "--where"]).removesuffix("\n")
+
+
+def run_program(recording, words):
+    """The report of a recording, as text, by the built program alone: without it each replay would take a minute."""
+    return output_of([built_program(os.path.join(TOP, "iscsi-replay")), *words], recording)
 
 
 def arrival_limit(queue, reply):
