@@ -166,7 +166,7 @@ class Session:
             self.arrivals[offset] = min(self.arrivals.get(offset, NEVER), self.moment(function))
 
     def void_unanswered(self):
-        """An ABORT TASK whose answer was dropped with its connection may have voided a number, too."""
+        """An ABORT TASK without an answer may have voided a number, too: the answer may have been dropped with its connection."""
         for function in self.functions.values():
             if function.request.function == ABORT_TASK and function.request.immediate:
                 self.void(function)
